@@ -1,0 +1,1 @@
+// One array: a block of 1,024 words.

@@ -1,0 +1,10 @@
+pub mod Cases
+pub mod Sorted
+pub mod Collect
+pub mod Longest
+pub mod Room
+pub mod Heads
+pub mod Cells
+pub mod Hidden
+pub mod Turns
+pub mod Encoded

@@ -1,0 +1,9 @@
+pub mod Route
+pub mod Match
+pub mod Room
+pub mod Cells
+pub mod Answers
+pub mod Bytes
+pub mod Runs
+pub mod Seen
+pub mod Small
