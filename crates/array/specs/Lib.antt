@@ -1,1 +1,3 @@
 pub mod Block
+pub mod Check
+pub mod Put

@@ -8,3 +8,4 @@ pub mod Cells
 pub mod Hidden
 pub mod Turns
 pub mod Encoded
+pub mod Tells
