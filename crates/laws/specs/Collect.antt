@@ -108,13 +108,13 @@ key-ge m e d u v p h = omega (arith, pow-split m e d p u, mul-le-mul-right (2 ^ 
 key-lt : (m e d u v l : ℕ) → m + e ≡ d → v < u * 2 ^ m → l < 256 → v * 2 ^ e * 256 + l < u * 2 ^ d * 256
 key-lt m e d u v l p h s = omega (arith, pow-split m e d p u, mul-le-mul-right (2 ^ e) h, pow-pos e)
 
+pub within-le : (lo hi : ℕ) (rs : List Route) → Within lo hi rs → lo ≤ hi
+within-le lo hi [] w = w
+within-le lo hi (r ∷ rs) w = omega (arith, within-le (suc (key r)) hi rs (w .1))
+
 pub hop-above : (lo hi k : ℕ) (rs : List Route) → Within lo hi rs → hi ≤ k → hopAt rs k ≡ 0
 hop-above lo hi k [] w h = refl
 hop-above lo hi k (r ∷ rs) w h = hop-skip r rs k (omega (arith, within-le (suc (key r)) hi rs (w .1))) ∙ hop-above (suc (key r)) hi k rs (w .1) h
-  where
-    within-le : (lo hi : ℕ) (rs : List Route) → Within lo hi rs → lo ≤ hi
-    within-le lo hi [] w = w
-    within-le lo hi (r ∷ rs) w = omega (arith, within-le (suc (key r)) hi rs (w .1))
 
 orElse-zero : (a : ℕ) → orElse a 0 ≡ a
 orElse-zero zero = refl

@@ -11,7 +11,7 @@ use lib.Seq.{getD-append-add}
 use lib.Dec.{ltb, leb, eqb}
 use Rattle.routes.specs.Route.{Route}
 use Rattle.routes.specs.Answers.{Update, announce, withdraw, Record, update, lookup, Reply, done, found, none, refused, reply, replies, next, leaves, isDone, isRefused}
-use Rattle.routes.specs.Bytes.{one, two, four, twoAt, fourAt, recordBytes, recordsBytes, replyBytes, repliesBytes}
+use Rattle.routes.specs.Bytes.{one, two, four, twoAt, fourAt, recordBytes, recordsBytes, replyBytes, repliesBytes, replyAt}
 use Rattle.routes.specs.Runs.{State, size, recordAt, take, tally, finish, halts, Ran, taken, runs, fresh, run}
 use Rattle.laws.specs.Turns.{Clear, clear-halts, halts-0, runs-on, runs-stop, runs-end}
 
@@ -52,7 +52,8 @@ module _ (pre : List ℕ) (i : ℕ) (e : i ≡ length pre) where
   one-back : (k a l : ℕ) (ys : List ℕ) → l < 256 → getD (pre ++ (k ∷ (four a ++ (one l ++ ys)))) (i + 5) 0 ≡ l
   one-back k a l ys b = byte pre (k ∷ (four a ++ (one l ++ ys))) (i + 5) 5 (omega arith) ∙ omega arith
 
-  record-back : (x : Record) (ys : List ℕ) → Fits x → recordAt (pre ++ (recordBytes x ++ ys)) i (kind x) ≡ x
+  -- each record decodes to itself, wherever it stands
+  pub record-back : (x : Record) (ys : List ℕ) → Fits x → recordAt (pre ++ (recordBytes x ++ ys)) i (kind x) ≡ x
   record-back (update (announce a l h)) ys f =
       λ j. update (announce (four-back 1 a (one l ++ (two h ++ ys)) (f .0) j) (one-back 1 a l (two h ++ ys) (f .1) j) (two-back 1 a l h ys (f .2) j))
   record-back (update (withdraw a l)) ys f = λ j. update (withdraw (four-back 2 a (one l ++ ys) (f .0) j) (one-back 2 a l ys (f .1) j))
@@ -62,6 +63,33 @@ module _ (pre : List ℕ) (i : ℕ) (e : i ≡ length pre) where
   kind-back (update (announce a l h)) ys = byte pre _ i 0 (omega arith)
   kind-back (update (withdraw a l)) ys = byte pre _ i 0 (omega arith)
   kind-back (lookup a) ys = byte pre _ i 0 (omega arith)
+
+-- a reply's numbers fit their bytes
+abbrev pub Holds : Reply → Type 0
+Holds (done h c) = (h < 65536) × (c < 65536)
+Holds (found h l) = (h < 65536) × (l < 256)
+Holds none = Unit {0}
+Holds (refused n) = n < 256
+
+pair : (n : ℕ) → n < 65536 → n / 256 % 256 * 256 + n % 256 ≡ n
+pair n h = omega arith
+
+-- each reply decodes to itself, wherever it stands
+pub reply-back : (pre : List ℕ) (y : Reply) (ys : List ℕ) → Holds y → replyAt (pre ++ (replyBytes y ++ ys)) (length pre) ≡ y
+reply-back pre (done h c) ys f =
+    let F : List ℕ = replyBytes (done h c) ++ ys in
+    let i : ℕ = length pre in
+    rw (byte pre F i 0 (omega arith), byte pre F (i + 1) 1 (omega arith), byte pre F (i + 1 + 1) 2 (omega arith), byte pre F (i + 3) 3 (omega arith), byte pre F (i + 3 + 1) 4 (omega arith))
+    (ap₂ done (pair h (f .0)) (pair c (f .1)))
+reply-back pre (found h l) ys f =
+    let F : List ℕ = replyBytes (found h l) ++ ys in
+    let i : ℕ = length pre in
+    rw (byte pre F i 0 (omega arith), byte pre F (i + 1) 1 (omega arith), byte pre F (i + 1 + 1) 2 (omega arith), byte pre F (i + 3) 3 (omega arith))
+    (ap₂ found (pair h (f .0)) (omega (arith, f .1)))
+reply-back pre none ys f = let F : List ℕ = replyBytes none ++ ys in rw (byte pre F (length pre) 0 (omega arith))
+reply-back pre (refused n) ys f =
+    let F : List ℕ = replyBytes (refused n) ++ ys in
+    rw (byte pre F (length pre) 0 (omega arith), byte pre F (length pre + 1) 1 (omega arith)) (ap refused (omega arith))
 
 size-back : (x : Record) → size (kind x) ≡ length (recordBytes x)
 size-back (update (announce a l h)) = refl

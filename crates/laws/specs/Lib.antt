@@ -9,3 +9,4 @@ pub mod Hidden
 pub mod Turns
 pub mod Encoded
 pub mod Tells
+pub mod Round

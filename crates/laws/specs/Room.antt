@@ -119,3 +119,17 @@ pub need-insert : (W j : ℕ) (r : Route) (rs : List Route) → Good r → All G
 unfolding needTo
 need-insert W zero r rs g p = omega arith
 need-insert W (suc j) r rs g p = omega (arith, need-insert W j r rs g p, distinct-insert W (8 * suc j) r rs g p)
+
+-- ---- need hangs on the set of heads alone, and grows with it
+
+-- each head of rs is one of ss
+abbrev pub Under : ℕ → List Route → List Route → Type 0
+Under W ss rs = (n z : ℕ) → mem z (heads W n rs) ≡ true → mem z (heads W n ss) ≡ true
+
+pub need-le : (W : ℕ) (ss rs : List Route) → Under W ss rs → (j : ℕ) → needTo W j rs ≤ needTo W j ss
+unfolding needTo
+need-le W ss rs u zero = omega arith
+need-le W ss rs u (suc j) = omega (arith, need-le W ss rs u j, distinct-le (heads W (8 * suc j) rs) (heads W (8 * suc j) ss) (u (8 * suc j)))
+
+pub need-same : (W : ℕ) (ss rs : List Route) → Under W ss rs → Under W rs ss → (j : ℕ) → needTo W j rs ≡ needTo W j ss
+need-same W ss rs u v j = le-antisymm (need-le W ss rs u j) (need-le W rs ss v j)

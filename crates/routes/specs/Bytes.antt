@@ -1,8 +1,10 @@
 -- The bytes of records and replies, and of a route list written out. One byte of kind, then a body; numbers have the high byte
 -- first, and an address has four. Assumes nothing.
+use mathlib.Core.Bool.{cond}
 use mathlib.Core.List.{List, [], _∷_, _++_}
 use Prim.Native.Nat.{ℕ, _+_, _*_, _/_, _%_}
 use lib.ListN.{getD}
+use lib.Dec.{eqb}
 use Rattle.routes.specs.Route.{Route}
 use Rattle.routes.specs.Answers.{Update, announce, withdraw, Record, update, lookup, Reply, done, found, none, refused}
 
@@ -35,6 +37,14 @@ replyBytes (done h c) = 16 ∷ (two h ++ two c)
 replyBytes (found h l) = 17 ∷ (two h ++ one l)
 replyBytes none = 18 ∷ []
 replyBytes (refused n) = 19 ∷ one n
+
+-- the reply that begins at i
+abbrev pub replyAt : List ℕ → ℕ → Reply
+replyAt bs i =
+    cond (eqb (getD bs i 0) 16) (done (twoAt bs (i + 1)) (twoAt bs (i + 3)))
+    (cond (eqb (getD bs i 0) 17) (found (twoAt bs (i + 1)) (getD bs (i + 3) 0))
+    (cond (eqb (getD bs i 0) 18) none
+    (refused (getD bs (i + 1) 0))))
 
 abbrev pub recordsBytes : List Record → List ℕ
 recordsBytes [] = []
