@@ -2,7 +2,7 @@
 use mathlib.Core.Path.{_≡_, refl, sym, ap, _∙_}
 use mathlib.Core.Logic.{_≢_}
 use mathlib.Core.Bool.{Bool, true, false, cond, not, _&&_, _||_, true≢false, false≢true}
-use mathlib.Core.List.{List, [], _∷_}
+use mathlib.Core.List.{List, [], _∷_, _++_}
 use Prim.Native.Nat.{ℕ, zero, suc, _+_, _-_, _*_, _/_, _≤_, _<_}
 use native.Mathlib.Omega.{arith}
 use lib.Dec.{ltb, eqb}
@@ -13,7 +13,7 @@ use Rattle.routes.specs.Answers.{Update, announce, withdraw, Reply, done, found
 use Rattle.laws.specs.Cases.{bool, same}
 use Rattle.laws.specs.Sorted.{Good, insert-from, remove-from, all-insert, all-remove, insert-same, insert-other, remove-same, remove-other}
 use Rattle.laws.specs.Room.{distinct-le, hit, mem-heads, heads-insert, or-left, or-right}
-use Rattle.order.specs.Feeds.{prefix, proper, plain}
+use Rattle.order.specs.Feeds.{prefix, proper, Each, named, plain}
 
 -- the key of the prefix that an update names
 abbrev pub at : Update → ℕ
@@ -23,6 +23,10 @@ at u = key (prefix u)
 abbrev pub newHop : Update → ℕ
 newHop (announce a l h) = h
 newHop (withdraw a l) = 0
+
+pub each-map : {P Q : Update → Type 0} → ((u : Update) → P u → Q u) → (us : List Update) → Each P us → Each Q us
+each-map f [] p = tt
+each-map f (u ∷ us) p = (f u (p .0), each-map f us (p .1))
 
 -- ---- tests
 
@@ -98,6 +102,20 @@ module _ (W : ℕ) where
   abbrev pub Under : List Route → List Route → Type 0
   Under N rs = (n z : ℕ) → mem z (heads W n rs) ≡ true → mem z (heads W n N) ≡ true
 
+  mem-skip : (n z : ℕ) (s : Route) (rs : List Route) → mem z (heads W n rs) ≡ true → mem z (heads W n (s ∷ rs)) ≡ true
+  mem-skip n z s rs e = mem-heads W n z s rs ∙ or-right (hit W n z s) (mem z (heads W n rs)) e
+
+  under-first : (xs ys : List Route) → Under (xs ++ ys) xs
+  under-first [] ys n z e = absurd (false≢true e)
+  under-first (x ∷ xs) ys n z e =
+      or-case (hit W n z x) (mem z (heads W n xs)) (sym (mem-heads W n z x xs) ∙ e)
+      (λ h. mem-heads W n z x (xs ++ ys) ∙ or-left (hit W n z x) (mem z (heads W n (xs ++ ys))) h)
+      (λ h. mem-skip n z x (xs ++ ys) (under-first xs ys n z h))
+
+  under-second : (xs ys : List Route) → Under (xs ++ ys) ys
+  under-second [] ys n z e = e
+  under-second (x ∷ xs) ys n z e = mem-skip n z x (xs ++ ys) (under-second xs ys n z e)
+
   pub need-le : (N rs : List Route) → Under N rs → (j : ℕ) → needTo W j rs ≤ needTo W j N
   unfolding needTo
   need-le N rs u zero = omega arith
@@ -107,12 +125,25 @@ module _ (W : ℕ) where
   abbrev pub Names : List Route → Update → Type 0
   Names N u = proper W (prefix u) ≡ true → (n z : ℕ) → hit W n z (prefix u) ≡ true → mem z (heads W n N) ≡ true
 
+  own-names : (us : List Update) → Each (Names (named W us)) us
+  own-names [] = tt
+  own-names (u ∷ us) = (
+    (λ e n z h. rw e (mem-heads W n z (prefix u) (named W us) ∙ or-left (hit W n z (prefix u)) _ h)),
+    each-map {P = Names (named W us)} {Q = Names (named W (u ∷ us))} (λ x m p n z h. bool (proper W (prefix u)) (λ e. rw e (mem-skip n z (prefix u) (named W us) (m p n z h))) (λ e. rw e (m p n z h))) us (own-names us),
+  )
+
+  -- what a feed names stands in what two feeds name
+  pub names-first : (xs ys : List Update) → Each (Names (named W xs ++ named W ys)) xs
+  names-first xs ys =
+      each-map {P = Names (named W xs)} {Q = Names (named W xs ++ named W ys)} (λ u m p n z h. under-first (named W xs) (named W ys) n z (m p n z h)) xs (own-names xs)
+
+  pub names-second : (xs ys : List Update) → Each (Names (named W xs ++ named W ys)) ys
+  names-second xs ys =
+      each-map {P = Names (named W ys)} {Q = Names (named W xs ++ named W ys)} (λ u m p n z h. under-second (named W xs) (named W ys) n z (m p n z h)) ys (own-names ys)
+
   hit-hop : (n z a l h : ℕ) → hit W n z (route a l h) ≡ hit W n z (route a l 0)
   unfolding hit
   hit-hop n z a l h = refl
-
-  mem-skip : (n z : ℕ) (s : Route) (rs : List Route) → mem z (heads W n rs) ≡ true → mem z (heads W n (s ∷ rs)) ≡ true
-  mem-skip n z s rs e = mem-heads W n z s rs ∙ or-right (hit W n z s) (mem z (heads W n rs)) e
 
   under-insert : (N rs : List Route) (a l h : ℕ) → Good (route a l h) → All Good rs → Names N (announce a l h) → proper W (route a l 0) ≡ true → Under N rs → Under N (insert (route a l h) rs)
   under-insert N rs a l h g p m o u n z q =
