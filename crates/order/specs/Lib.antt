@@ -1,3 +1,5 @@
 pub mod Feeds
 pub mod Steps
 pub mod Joined
+pub mod Enough
+pub mod Fed
