@@ -101,15 +101,19 @@ said W A us = replies W A [] (records us)
 abbrev pub kept : ℕ → ℕ → List Update → List Route
 kept W A us = leaves W A [] (records us)
 
+-- the lists that two feeds leave alone, joined
+abbrev pub keptBoth : ℕ → ℕ → List Update → List Update → List Route
+keptBoth W A xs ys = join (kept W A xs) (kept W A ys)
+
 -- what the joint feed comes to, by what its two feeds come to alone
 pub record Independent (W A : ℕ) {xs ys zs : List Update} (w : Weave xs ys zs) : Type 0 where
   pub first-heard : plains (heard w (said W A zs)) ≡ plains (said W A xs)
   pub second-heard : plains (heard (flip w) (said W A zs)) ≡ plains (said W A ys)
-  pub joined : kept W A zs ≡ join (kept W A xs) (kept W A ys)
-  pub union : Union (kept W A xs) (kept W A ys) (join (kept W A xs) (kept W A ys))
+  pub joined : kept W A zs ≡ keptBoth W A xs ys
+  pub union : Union (kept W A xs) (kept W A ys) (keptBoth W A xs ys)
   -- so it answers and writes itself out accordingly
-  pub lookups : (a : ℕ) → longest W a (kept W A zs) ≡ longest W a (join (kept W A xs) (kept W A ys))
-  pub out : written (kept W A zs) ≡ written (join (kept W A xs) (kept W A ys))
+  pub lookups : (a : ℕ) → longest W a (kept W A zs) ≡ longest W a (keptBoth W A xs ys)
+  pub out : written (kept W A zs) ≡ written (keptBoth W A xs ys)
 
 -- in every interleaving, if no prefix is named by both and all of them together need no more than A arrays
 abbrev pub Demand3 : ℕ → Type 0

@@ -3,3 +3,4 @@ pub mod Steps
 pub mod Joined
 pub mod Enough
 pub mod Fed
+pub mod Calls
