@@ -1,26 +1,22 @@
 -- Demand 3 of three calls of the run: the joint feed and each of its two feeds alone, each on lent words of a cleared table of A arrays.
 -- It follows from what the run promises of any words and any feed, and from nothing else of it. Assumes nothing.
-use mathlib.Core.Path.{_≡_, refl, sym, ap, ap₂, _∙_}
+use mathlib.Core.Path.{_≡_, ap, _∙_}
 use mathlib.Core.Logic.{_≢_}
-use mathlib.Core.Bool.{cond}
-use mathlib.Core.List.{List, [], _∷_, _++_}
+use mathlib.Core.List.{List, [], _++_}
 use Prim.Native.Nat.{ℕ, _+_, _*_, _≤_}
-use native.Mathlib.Omega.{arith}
 use lib.ListN.{length, drop}
-use lib.Dec.{ltb}
 use borrow.Author.Tests.{le-ltb}
 use Rattle.routes.specs.Route.{Route}
 use Rattle.routes.specs.Match.{longest}
-use Rattle.routes.specs.Room.{need}
 use Rattle.routes.specs.Answers.{Update, Reply, matched}
 use Rattle.routes.specs.Bytes.{repliesBytes, written}
 use Rattle.routes.specs.Runs.{Ran, run}
 use Rattle.routes.specs.Seen.{Seen, table, gives, lookupOn, checkOn, countOn, frontOn, runOn, ranOn, repliedOn}
 use Rattle.laws.specs.Encoded.{AllFit}
 use Rattle.arrays.specs.Table.{seen}
-use Rattle.order.specs.Feeds.{records, Weave, Apart, named, said, kept, keptBoth, Independent}
+use Rattle.order.specs.Feeds.{records, Weave, said, kept, keptBoth, Meets, Independent}
 use Rattle.order.specs.Enough.{Closes}
-use Rattle.order.specs.Fed.{bytes, Fed, outcome, Answered, answered, Together, demand-3-fed}
+use Rattle.order.specs.Fed.{bytes, Fed, Answered, answered, Together, demand-3-fed}
 
 -- what the run promises of the words ws, a feed and the reply bytes b, where it leaves vs and c and has the outcome o
 pub record Promise (ws feed b vs c : List ℕ) (o : Ran) : Type 0 where
@@ -95,9 +91,8 @@ pub record Called {A : ℕ} {xs ys zs : List Update} (w : Weave xs ys zs) (j : C
   pub front : (room : ℕ) → frontOn (seen 4 (j .words′)) room ≡ frontOn (table A (keptBoth 32 A xs ys)) room
   pub out : (room : ℕ) → 8 * length (keptBoth 32 A xs ys) + 1 ≤ room → frontOn (seen 4 (j .words′)) room ≡ written (keptBoth 32 A xs ys)
 
-pub demand-3-called : {A : ℕ} {xs ys zs : List Update} (w : Weave xs ys zs) → Apart 32 xs ys → need 32 (named 32 xs ++ named 32 ys) ≤ A
-    → (j : Call A zs) (f : Call A xs) (s : Call A ys) → Called w j f s
-demand-3-called {A} {xs} {ys} {zs} w d n j f s =
+pub demand-3-called : {A : ℕ} {xs ys zs : List Update} (w : Weave xs ys zs) → Meets 32 A xs ys → (j : Call A zs) (f : Call A xs) (s : Call A ys) → Called w j f s
+demand-3-called {A} {xs} {ys} {zs} w m j f s =
     record {
       joint = left j;
       first = left f;
@@ -114,7 +109,7 @@ demand-3-called {A} {xs} {ys} {zs} w d n j f s =
     }
   where
     t : Together w (fed j) (fed f) (fed s)
-    t = demand-3-fed w d n (fed j) (fed f) (fed s)
+    t = demand-3-fed w m (fed j) (fed f) (fed s)
 
     l : seen 4 (j .words′) ≡ table A (keptBoth 32 A xs ys)
     l = left j .list ∙ ap (table A) (t .independent .joined)

@@ -2,18 +2,17 @@
 -- enough. Assumes nothing.
 use mathlib.Core.Path.{_≡_, refl, sym, ap, ap₂, _∙_}
 use mathlib.Core.Logic.{_≢_}
-use mathlib.Core.Bool.{Bool, true, false, cond}
+use mathlib.Core.Bool.{Bool, cond}
 use mathlib.Core.List.{List, [], _∷_, _++_}
 use Prim.Native.Nat.{ℕ, _+_, _*_, _≤_}
 use native.Mathlib.Omega.{arith}
 use lib.ListN.{length}
 use Rattle.routes.specs.Route.{Route}
-use Rattle.routes.specs.Room.{need}
 use Rattle.routes.specs.Answers.{Update, update, Reply, done, found, none, refused, isDone, isRefused, next, replies}
 use Rattle.routes.specs.Bytes.{recordsBytes, repliesBytes}
-use Rattle.routes.specs.Runs.{State, Ran, fresh, run}
+use Rattle.routes.specs.Runs.{Ran, fresh, run}
 use Rattle.laws.specs.Encoded.{AllFit, count, ended}
-use Rattle.order.specs.Feeds.{records, Weave, nothing, left, right, flip, heard, Apart, named, plain, plains, join, said, kept, Independent}
+use Rattle.order.specs.Feeds.{records, Weave, nothing, left, right, flip, heard, plain, plains, join, said, kept, Meets, Independent}
 use Rattle.order.specs.Steps.{plain-done}
 use Rattle.order.specs.Joined.{demand-3-ipv4}
 use Rattle.order.specs.Enough.{Closes, closed, run-enough, enough}
@@ -31,6 +30,10 @@ pub record Fed (A : ℕ) (us : List Update) : Type 0 where
   pub closes : Closes rest
   pub room : ℕ
   pub enough : run A [] (bytes us rest) room .stop ≢ 4
+
+-- five reply bytes for each record are enough
+abbrev pub roomy : {A : ℕ} {us : List Update} → AllFit (records us) → (rest : List ℕ) → Closes rest → (room : ℕ) → 5 * length (records us) ≤ room → Fed A us
+roomy {A} {us} f rest c room h = record { fits = f; rest = rest; closes = c; room = room; enough = enough A [] (records us) f rest c room h }
 
 abbrev pub outcome : {A : ℕ} {us : List Update} → Fed A us → Ran
 outcome {A} {us} f = run A [] (bytes us (f .rest)) (f .room)
@@ -102,9 +105,8 @@ pub record Together {A : ℕ} {xs ys zs : List Update} (w : Weave xs ys zs) (j :
   pub accepted : outcome j .end .accepted ≡ outcome f .end .accepted + outcome s .end .accepted
   pub refused : outcome j .end .refused ≡ outcome f .end .refused + outcome s .end .refused
 
-pub demand-3-fed : {A : ℕ} {xs ys zs : List Update} (w : Weave xs ys zs) → Apart 32 xs ys → need 32 (named 32 xs ++ named 32 ys) ≤ A
-    → (j : Fed A zs) (f : Fed A xs) (s : Fed A ys) → Together w j f s
-demand-3-fed {A} {xs} {ys} {zs} w d n j f s =
+pub demand-3-fed : {A : ℕ} {xs ys zs : List Update} (w : Weave xs ys zs) → Meets 32 A xs ys → (j : Fed A zs) (f : Fed A xs) (s : Fed A ys) → Together w j f s
+demand-3-fed {A} {xs} {ys} {zs} w m j f s =
     record {
       joint = answered j;
       first = answered f;
@@ -116,4 +118,4 @@ demand-3-fed {A} {xs} {ys} {zs} w d n j f s =
     }
   where
     i : Independent 32 A w
-    i = demand-3-ipv4 A xs ys zs w d n
+    i = demand-3-ipv4 A xs ys zs w m

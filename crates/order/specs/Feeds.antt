@@ -5,7 +5,7 @@
 --     both          x₁ y₁ x₂ x₃ y₂          each feed's own                           and the two lists joined
 use mathlib.Core.Path.{_≡_}
 use mathlib.Core.Logic.{_≢_, _⊎_}
-use mathlib.Core.Bool.{Bool, true, false, cond, not, _&&_}
+use mathlib.Core.Bool.{Bool, true, cond, not, _&&_}
 use mathlib.Core.List.{List, [], _∷_, _++_}
 use Prim.Native.Nat.{ℕ, _≤_}
 use lib.Dec.{eqb}
@@ -115,8 +115,11 @@ pub record Independent (W A : ℕ) {xs ys zs : List Update} (w : Weave xs ys zs)
   pub lookups : (a : ℕ) → longest W a (kept W A zs) ≡ longest W a (keptBoth W A xs ys)
   pub out : written (kept W A zs) ≡ written (keptBoth W A xs ys)
 
--- in every interleaving, if no prefix is named by both and all of them together need no more than A arrays
+-- what is asked of the two feeds: no prefix is named by both, and all that are named need, together, no more arrays than there are
+pub record Meets (W A : ℕ) (xs ys : List Update) : Type 0 where
+  pub apart : Apart W xs ys
+  pub room : need W (named W xs ++ named W ys) ≤ A
+
+-- in every interleaving
 abbrev pub Demand3 : ℕ → Type 0
-Demand3 W =
-    (A : ℕ) (xs ys zs : List Update) (w : Weave xs ys zs)
-    → Apart W xs ys → need W (named W xs ++ named W ys) ≤ A → Independent W A w
+Demand3 W = (A : ℕ) (xs ys zs : List Update) (w : Weave xs ys zs) → Meets W A xs ys → Independent W A w

@@ -2,20 +2,20 @@
 -- and at no other does the feed's own list hold any. The other feed is the same, called the other way round. Assumes nothing.
 use mathlib.Core.Path.{_≡_, refl, sym, ap, ap₂, _∙_}
 use mathlib.Core.Logic.{_≢_, _⊎_, inl, inr, ⊎-elim}
-use mathlib.Core.Bool.{Bool, true, false, cond, not, _||_, true≢false}
+use mathlib.Core.Bool.{Bool, true, false, cond, not, true≢false}
 use mathlib.Core.List.{List, [], _∷_, _++_}
-use Prim.Native.Nat.{ℕ, suc, _+_, _*_, _≤_, _<_}
+use Prim.Native.Nat.{ℕ, _+_, _≤_, _<_}
 use native.Mathlib.Omega.{arith}
 use lib.Dec.{eqb, lit<}
 use borrow.Author.Tests.{eq-eqb, ne-eqb}
-use Rattle.routes.specs.Route.{Route, key, From, All, hopAt, insert}
+use Rattle.routes.specs.Route.{Route, key, From, All, hopAt}
 use Rattle.routes.specs.Match.{longest}
-use Rattle.routes.specs.Room.{mem, heads, need}
-use Rattle.routes.specs.Answers.{Update, announce, withdraw, Reply, answer, isDone, after, replies, leaves}
+use Rattle.routes.specs.Room.{mem, need}
+use Rattle.routes.specs.Answers.{Update, announce, withdraw, answer, isDone, after, replies, leaves}
 use Rattle.routes.specs.Bytes.{written}
 use Rattle.laws.specs.Cases.{bool, same}
 use Rattle.laws.specs.Sorted.{Good, ext, insert-from, all-insert, insert-same, insert-other}
-use Rattle.laws.specs.Room.{hit, mem-heads, or-left, or-right}
+use Rattle.laws.specs.Room.{or-left, or-right}
 use Rattle.order.specs.Feeds.{records, Weave, nothing, left, right, flip, heard, prefix, proper, Each, Apart, named, plain, plains, join, Union, kept, Independent, Demand3}
 use Rattle.order.specs.Steps.{at, newHop, each-map, proper-short, after-other, after-same, improper-after, Names, names-first, names-second, Fair, fair-empty, after-fair, plainly, plain-done, answer-plain, improper-plain}
 
@@ -101,6 +101,13 @@ module _ (W : ℕ) (w : W < 256) (A : ℕ) (N : List Route) (roomy : need W N �
 
 -- ---- joined lists
 
+pub join-hop : (xs ys : List Route) (k : ℕ) → All Good xs → hopAt (join xs ys) k ≡ cond (eqb (hopAt xs k) 0) (hopAt ys k) (hopAt xs k)
+join-hop [] ys k p = refl
+join-hop (x ∷ xs) ys k p =
+    same (key x) k
+    (λ e d. rw (d, ne-eqb (x .hop) 0 (λ z. (let q = p .0 .pos in omega arith))) (rw (← e) (insert-same x (join xs ys))))
+    (λ n d. rw d (insert-other x (join xs ys) k n ∙ join-hop xs ys k (p .1)))
+
 pub join-from : (xs ys : List Route) → From 0 ys → From 0 (join xs ys)
 join-from [] ys f = f
 join-from (x ∷ xs) ys f = insert-from 0 x (join xs ys) (omega arith) (join-from xs ys f)
@@ -108,13 +115,6 @@ join-from (x ∷ xs) ys f = insert-from 0 x (join xs ys) (omega arith) (join-fro
 pub join-good : (xs ys : List Route) → All Good xs → All Good ys → All Good (join xs ys)
 join-good [] ys p q = q
 join-good (x ∷ xs) ys p q = all-insert Good x (join xs ys) (p .0) (join-good xs ys (p .1) q)
-
-pub join-hop : (xs ys : List Route) (k : ℕ) → All Good xs → hopAt (join xs ys) k ≡ cond (eqb (hopAt xs k) 0) (hopAt ys k) (hopAt xs k)
-join-hop [] ys k p = refl
-join-hop (x ∷ xs) ys k p =
-    same (key x) k
-    (λ e d. rw (d, ne-eqb (x .hop) 0 (λ z. (let q = p .0 .pos in omega arith))) (rw (← e) (insert-same x (join xs ys))))
-    (λ n d. rw d (insert-other x (join xs ys) k n ∙ join-hop xs ys k (p .1)))
 
 -- of two lists that hold no prefix in common
 pub join-union : (xs ys : List Route) → From 0 ys → All Good xs → ((k : ℕ) → (hopAt xs k ≡ 0) ⊎ (hopAt ys k ≡ 0)) → Union xs ys (join xs ys)
@@ -228,7 +228,7 @@ module _ (W : ℕ) (w : W < 256) (A : ℕ) (xs ys zs : List Update) (v : Weave x
       }
 
 pub demand-3 : (W : ℕ) → W < 256 → Demand3 W
-demand-3 W w A xs ys zs v d r = independent W w A xs ys zs v d r
+demand-3 W w A xs ys zs v m = independent W w A xs ys zs v (m .apart) (omega arith)
 
 pub demand-3-ipv4 : Demand3 32
 demand-3-ipv4 = demand-3 32 (lit< tt)
