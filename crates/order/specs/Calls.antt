@@ -1,5 +1,9 @@
 -- Demand 3 of three calls of the run: the joint feed and each of its two feeds alone, each on lent words of a cleared table of A arrays.
 -- It follows from what the run promises of any words and any feed, and from nothing else of it. Assumes nothing.
+--
+--     cleared words ── both ──▶ words of the join          lookups, check and writing out go by what the words are seen to be,
+--     cleared words ── first ─▶ words of its list          so they answer by the join
+--     cleared words ── second ▶ words of its list
 use mathlib.Core.Path.{_≡_, ap, _∙_}
 use mathlib.Core.Logic.{_≢_}
 use mathlib.Core.List.{List, [], _++_}
@@ -15,7 +19,7 @@ use Rattle.routes.specs.Seen.{Seen, table, gives, lookupOn, checkOn, countOn, f
 use Rattle.laws.specs.Encoded.{AllFit}
 use Rattle.arrays.specs.Table.{seen}
 use Rattle.order.specs.Feeds.{records, Weave, said, kept, keptBoth, Meets, Independent}
-use Rattle.order.specs.Enough.{Closes}
+use Rattle.order.specs.Enough.{Closes, enough}
 use Rattle.order.specs.Fed.{bytes, Fed, Answered, answered, Together, demand-3-fed}
 
 -- what the run promises of the words ws, a feed and the reply bytes b, where it leaves vs and c and has the outcome o
@@ -42,6 +46,24 @@ pub record Call (A : ℕ) (us : List Update) : Type 0 where
   pub closes : Closes rest
   pub runs : Promise words (bytes us rest) reply words′ reply′ ran
   pub enough : ran .stop ≢ 4
+
+-- one with five reply bytes for each record, which are enough
+abbrev pub call : {A : ℕ} {us : List Update} (ws rest b vs c : List ℕ) → seen 4 ws ≡ table A [] → AllFit (records us) → Closes rest → 5 * length (records us) ≤ length b
+    → seen 4 vs ≡ ranOn (seen 4 ws) (bytes us rest) b → c ≡ repliedOn (seen 4 ws) (bytes us rest) b → Call A us
+call {A} {us} ws rest b vs c t f e h l r =
+    record {
+      words = ws;
+      rest = rest;
+      reply = b;
+      words′ = vs;
+      reply′ = c;
+      ran = run A [] (bytes us rest) (length b);
+      cleared = t;
+      fits = f;
+      closes = e;
+      runs = promise t l r;
+      enough = enough A [] (records us) f rest e (length b) h;
+    }
 
 -- ---- one call
 

@@ -31,10 +31,6 @@ pub record Fed (A : ℕ) (us : List Update) : Type 0 where
   pub room : ℕ
   pub enough : run A [] (bytes us rest) room .stop ≢ 4
 
--- five reply bytes for each record are enough
-abbrev pub roomy : {A : ℕ} {us : List Update} → AllFit (records us) → (rest : List ℕ) → Closes rest → (room : ℕ) → 5 * length (records us) ≤ room → Fed A us
-roomy {A} {us} f rest c room h = record { fits = f; rest = rest; closes = c; room = room; enough = enough A [] (records us) f rest c room h }
-
 abbrev pub outcome : {A : ℕ} {us : List Update} → Fed A us → Ran
 outcome {A} {us} f = run A [] (bytes us (f .rest)) (f .room)
 
@@ -63,6 +59,10 @@ answered {A} {us} f = rw (run-enough A [] (records us) (f .fits) (f .rest) (f .c
     of [] = record { stop = refl; consumed = omega arith; replies = refl; accepted = omega arith; refused = omega arith; list = refl }
     of (k ∷ t) = record { stop = refl; consumed = omega arith; replies = refl; accepted = omega arith; refused = omega arith; list = refl }
 
+-- five reply bytes for each record are enough
+abbrev pub roomy : {A : ℕ} {us : List Update} → AllFit (records us) → (rest : List ℕ) → Closes rest → (room : ℕ) → 5 * length (records us) ≤ room → Fed A us
+roomy {A} {us} f rest c room h = record { fits = f; rest = rest; closes = c; room = room; enough = enough A [] (records us) f rest c room h }
+
 -- ---- the counts
 
 -- counts do not see cells
@@ -87,10 +87,10 @@ counted : (A : ℕ) {xs ys zs : List Update} (w : Weave xs ys zs) → Independen
     → count p (said 32 A zs) ≡ count p (said 32 A xs) + count p (said 32 A ys)
 counted A {xs} {ys} {zs} w i p q =
     heard-count p A [] w
-    ∙ ap₂ _+_ (seen (heard w (said 32 A zs)) (said 32 A xs) (i .first-heard)) (seen (heard (flip w) (said 32 A zs)) (said 32 A ys) (i .second-heard))
+    ∙ ap₂ _+_ (alike (heard w (said 32 A zs)) (said 32 A xs) (i .first-heard)) (alike (heard (flip w) (said 32 A zs)) (said 32 A ys) (i .second-heard))
   where
-    seen : (a b : List Reply) → plains a ≡ plains b → count p a ≡ count p b
-    seen a b e = sym (plain-count p q a) ∙ ap (count p) e ∙ plain-count p q b
+    alike : (a b : List Reply) → plains a ≡ plains b → count p a ≡ count p b
+    alike a b e = sym (plain-count p q a) ∙ ap (count p) e ∙ plain-count p q b
 
 -- ---- demand 3
 

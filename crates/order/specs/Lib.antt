@@ -1,4 +1,5 @@
 pub mod Feeds
+pub mod Weaves
 pub mod Steps
 pub mod Joined
 pub mod Enough

@@ -9,7 +9,7 @@ use lib.Dec.{eqb}
 use borrow.Author.Tests.{ltb-false, eqb-false, le-ltb}
 use Rattle.routes.specs.Route.{Route, route, tooLong, stray, badHop, key, From, All, hopAt, insert, remove}
 use Rattle.routes.specs.Room.{mem, heads, needTo, need}
-use Rattle.routes.specs.Answers.{Update, announce, withdraw, Reply, done, found, none, refused, refuse, answer, isDone, after}
+use Rattle.routes.specs.Answers.{Update, announce, withdraw, Reply, done, found, none, refused, refuse, faulty, answer, isDone, after}
 use Rattle.laws.specs.Cases.{bool, same}
 use Rattle.laws.specs.Sorted.{Good, insert-from, remove-from, all-insert, all-remove, insert-same, insert-other, remove-same, remove-other}
 use Rattle.laws.specs.Room.{distinct-le, hit, mem-heads, heads-insert, or-left, or-right}
@@ -49,7 +49,26 @@ plain-done (found h l) = refl
 plain-done none = refl
 plain-done (refused n) = refl
 
+-- what the hop x held says to an update that is not faulty, cells and room excepted
+abbrev by : ℕ → Update → Reply
+by x (announce a l h) = refuse 6 (not (eqb x 0)) (done h 0)
+by x (withdraw a l) = refuse 7 (eqb x 0) (done x 0)
+
 module _ (W : ℕ) where
+  -- ---- the hops after an update
+
+  pub after-other : (A : ℕ) (rs : List Route) (u : Update) (k : ℕ) → at u ≢ k → hopAt (after W A rs u) k ≡ hopAt rs k
+  after-other A rs (announce a l h) k n =
+      bool (isDone (answer W A rs (announce a l h))) (λ e. rw e (insert-other (route a l h) rs k n)) (λ e. rw e)
+  after-other A rs (withdraw a l) k n =
+      bool (isDone (answer W A rs (withdraw a l))) (λ e. rw e (remove-other (a * 256 + l) k rs (omega arith))) (λ e. rw e)
+
+  pub after-same : (A : ℕ) (rs : List Route) (u : Update) → From 0 rs → hopAt (after W A rs u) (at u) ≡ cond (isDone (answer W A rs u)) (newHop u) (hopAt rs (at u))
+  after-same A rs (announce a l h) f =
+      bool (isDone (answer W A rs (announce a l h))) (λ e. rw e (insert-same (route a l h) rs)) (λ e. rw e)
+  after-same A rs (withdraw a l) f =
+      bool (isDone (answer W A rs (withdraw a l))) (λ e. rw e (remove-same 0 (a * 256 + l) rs f)) (λ e. rw e)
+
   -- ---- an accepted update names a proper prefix
 
   pub done-proper : (A : ℕ) (rs : List Route) (u : Update) → isDone (answer W A rs u) ≡ true → proper W (prefix u) ≡ true
@@ -66,20 +85,6 @@ module _ (W : ℕ) where
   pub proper-short : (u : Update) → proper W (prefix u) ≡ true → prefix u .len ≤ W
   proper-short u e = bool (tooLong W (prefix u .len)) (λ d. absurd (false≢true (rw d at e))) (λ d. ltb-false W (prefix u .len) d)
 
-  -- ---- the hops after an update
-
-  pub after-other : (A : ℕ) (rs : List Route) (u : Update) (k : ℕ) → at u ≢ k → hopAt (after W A rs u) k ≡ hopAt rs k
-  after-other A rs (announce a l h) k n =
-      bool (isDone (answer W A rs (announce a l h))) (λ e. rw e (insert-other (route a l h) rs k n)) (λ e. rw e)
-  after-other A rs (withdraw a l) k n =
-      bool (isDone (answer W A rs (withdraw a l))) (λ e. rw e (remove-other (a * 256 + l) k rs (omega arith))) (λ e. rw e)
-
-  pub after-same : (A : ℕ) (rs : List Route) (u : Update) → From 0 rs → hopAt (after W A rs u) (at u) ≡ cond (isDone (answer W A rs u)) (newHop u) (hopAt rs (at u))
-  after-same A rs (announce a l h) f =
-      bool (isDone (answer W A rs (announce a l h))) (λ e. rw e (insert-same (route a l h) rs)) (λ e. rw e)
-  after-same A rs (withdraw a l) f =
-      bool (isDone (answer W A rs (withdraw a l))) (λ e. rw e (remove-same 0 (a * 256 + l) rs f)) (λ e. rw e)
-
   -- an improper prefix changes nothing
   pub improper-after : (A : ℕ) (rs : List Route) (u : Update) → proper W (prefix u) ≡ false → after W A rs u ≡ rs
   improper-after A rs u n =
@@ -88,8 +93,7 @@ module _ (W : ℕ) where
   -- ---- the answer, cells and room excepted, hangs on the hop held alone
 
   abbrev pub plainly : ℕ → Update → Reply
-  plainly x (announce a l h) = refuse 3 (tooLong W l) (refuse 4 (stray W a l) (refuse 5 (badHop h) (refuse 6 (not (eqb x 0)) (done h 0))))
-  plainly x (withdraw a l) = refuse 3 (tooLong W l) (refuse 4 (stray W a l) (refuse 7 (eqb x 0) (done x 0)))
+  plainly x u = faulty W u (by x u)
 
   pub improper-plain : (x y : ℕ) (u : Update) → proper W (prefix u) ≡ false → plainly x u ≡ plainly y u
   improper-plain x y (announce a l h) n =
@@ -141,15 +145,12 @@ module _ (W : ℕ) where
   names-second xs ys =
       each-map {P = Names (named W ys)} {Q = Names (named W xs ++ named W ys)} (λ u m p n z h. under-second (named W xs) (named W ys) n z (m p n z h)) ys (own-names ys)
 
-  hit-hop : (n z a l h : ℕ) → hit W n z (route a l h) ≡ hit W n z (route a l 0)
-  unfolding hit
-  hit-hop n z a l h = refl
-
   under-insert : (N rs : List Route) (a l h : ℕ) → Good (route a l h) → All Good rs → Names N (announce a l h) → proper W (route a l 0) ≡ true → Under N rs → Under N (insert (route a l h) rs)
+  unfolding hit
   under-insert N rs a l h g p m o u n z q =
       or-case (hit W n z (route a l h)) (mem z (heads W n rs))
       (sym (mem-heads W n z (route a l h) rs) ∙ sym (heads-insert W n z (route a l h) rs g p) ∙ q)
-      (λ e. m o n z (sym (hit-hop n z a l h) ∙ e))
+      (λ e. m o n z e)
       (λ e. u n z e)
 
   under-remove : (N : List Route) (k : ℕ) (rs : List Route) → Under N rs → Under N (remove k rs)
