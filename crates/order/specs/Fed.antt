@@ -1,0 +1,121 @@
+-- Demand 3 of bytes: the two feeds and an interleaving of them, each as bytes, each run on a cleared table of A arrays with reply room
+-- enough. Assumes nothing.
+use mathlib.Core.Path.{_≡_, refl, sym, ap, ap₂, _∙_}
+use mathlib.Core.Logic.{_≢_}
+use mathlib.Core.Bool.{Bool, cond}
+use mathlib.Core.List.{List, [], _∷_, _++_}
+use Prim.Native.Nat.{ℕ, _+_, _*_, _≤_}
+use native.Mathlib.Omega.{arith}
+use lib.ListN.{length}
+use Rattle.routes.specs.Route.{Route}
+use Rattle.routes.specs.Answers.{Update, update, Reply, done, found, none, refused, isDone, isRefused, next, replies}
+use Rattle.routes.specs.Bytes.{recordsBytes, repliesBytes}
+use Rattle.routes.specs.Runs.{Ran, fresh, run}
+use Rattle.laws.specs.Encoded.{AllFit, count, ended}
+use Rattle.order.specs.Feeds.{records, Weave, nothing, left, right, flip, heard, plain, plains, join, said, kept, Meets, Independent}
+use Rattle.order.specs.Steps.{plain-done}
+use Rattle.order.specs.Joined.{demand-3-ipv4}
+use Rattle.order.specs.Enough.{Closes, closed, run-enough, enough}
+
+-- ---- a feed of updates, run
+
+abbrev pub bytes : List Update → List ℕ → List ℕ
+bytes us rest = recordsBytes (records us) ++ rest
+
+-- its numbers fit their bytes; after its records comes nothing, or an end and whatever follows; and the run does not stop for want of
+-- reply room
+pub record Fed (A : ℕ) (us : List Update) : Type 0 where
+  pub fits : AllFit (records us)
+  pub rest : List ℕ
+  pub closes : Closes rest
+  pub room : ℕ
+  pub enough : run A [] (bytes us rest) room .stop ≢ 4
+
+abbrev pub outcome : {A : ℕ} {us : List Update} → Fed A us → Ran
+outcome {A} {us} f = run A [] (bytes us (f .rest)) (f .room)
+
+-- stop 0 at an end, which is consumed too
+abbrev pub stopOf : List ℕ → ℕ
+stopOf [] = 1
+stopOf (k ∷ t) = 0
+
+abbrev pub endOf : List ℕ → ℕ
+endOf [] = 0
+endOf (k ∷ t) = 1
+
+-- each record was answered, in order, as the list answers it
+pub record Answered (A : ℕ) (us : List Update) (rest : List ℕ) (o : Ran) : Type 0 where
+  pub stop : o .stop ≡ stopOf rest
+  pub consumed : o .end .consumed ≡ length (recordsBytes (records us)) + endOf rest
+  pub replies : o .end .replies ≡ repliesBytes (said 32 A us)
+  pub accepted : o .end .accepted ≡ count isDone (said 32 A us)
+  pub refused : o .end .refused ≡ count isRefused (said 32 A us)
+  pub list : o .end .list ≡ kept 32 A us
+
+pub answered : {A : ℕ} {us : List Update} (f : Fed A us) → Answered A us (f .rest) (outcome f)
+answered {A} {us} f = rw (run-enough A [] (records us) (f .fits) (f .rest) (f .closes) (f .room) (f .enough)) (of (f .rest))
+  where
+    of : (t : List ℕ) → Answered A us t (closed t (ended A (fresh []) (records us)))
+    of [] = record { stop = refl; consumed = omega arith; replies = refl; accepted = omega arith; refused = omega arith; list = refl }
+    of (k ∷ t) = record { stop = refl; consumed = omega arith; replies = refl; accepted = omega arith; refused = omega arith; list = refl }
+
+-- five reply bytes for each record are enough
+abbrev pub roomy : {A : ℕ} {us : List Update} → AllFit (records us) → (rest : List ℕ) → Closes rest → (room : ℕ) → 5 * length (records us) ≤ room → Fed A us
+roomy {A} {us} f rest c room h = record { fits = f; rest = rest; closes = c; room = room; enough = enough A [] (records us) f rest c room h }
+
+-- ---- the counts
+
+-- counts do not see cells
+plain-count : (p : Reply → Bool) → ((y : Reply) → p (plain y) ≡ p y) → (ys : List Reply) → count p (plains ys) ≡ count p ys
+plain-count p h [] = refl
+plain-count p h (y ∷ ys) = ap₂ (λ (b : Bool) (n : ℕ). cond b 1 0 + n) (h y) (plain-count p h ys)
+
+plain-refused : (y : Reply) → isRefused (plain y) ≡ isRefused y
+plain-refused (done h c) = refl
+plain-refused (found h l) = refl
+plain-refused none = refl
+plain-refused (refused n) = refl
+
+-- each reply is to a record of one of the feeds
+heard-count : (p : Reply → Bool) (A : ℕ) (rs : List Route) {xs ys zs : List Update} (w : Weave xs ys zs)
+    → count p (replies 32 A rs (records zs)) ≡ count p (heard w (replies 32 A rs (records zs))) + count p (heard (flip w) (replies 32 A rs (records zs)))
+heard-count p A rs nothing = refl
+heard-count p A rs (left x w) = omega (arith, heard-count p A (next 32 A rs (update x)) w)
+heard-count p A rs (right y w) = omega (arith, heard-count p A (next 32 A rs (update y)) w)
+
+counted : (A : ℕ) {xs ys zs : List Update} (w : Weave xs ys zs) → Independent 32 A w → (p : Reply → Bool) → ((y : Reply) → p (plain y) ≡ p y)
+    → count p (said 32 A zs) ≡ count p (said 32 A xs) + count p (said 32 A ys)
+counted A {xs} {ys} {zs} w i p q =
+    heard-count p A [] w
+    ∙ ap₂ _+_ (alike (heard w (said 32 A zs)) (said 32 A xs) (i .first-heard)) (alike (heard (flip w) (said 32 A zs)) (said 32 A ys) (i .second-heard))
+  where
+    alike : (a b : List Reply) → plains a ≡ plains b → count p a ≡ count p b
+    alike a b e = sym (plain-count p q a) ∙ ap (count p) e ∙ plain-count p q b
+
+-- ---- demand 3
+
+-- the joint run j beside the runs f and s of its two feeds alone
+pub record Together {A : ℕ} {xs ys zs : List Update} (w : Weave xs ys zs) (j : Fed A zs) (f : Fed A xs) (s : Fed A ys) : Type 0 where
+  pub joint : Answered A zs (j .rest) (outcome j)
+  pub first : Answered A xs (f .rest) (outcome f)
+  pub second : Answered A ys (s .rest) (outcome s)
+  -- these answers are alike, and the list is the join
+  pub independent : Independent 32 A w
+  pub list : outcome j .end .list ≡ join (outcome f .end .list) (outcome s .end .list)
+  pub accepted : outcome j .end .accepted ≡ outcome f .end .accepted + outcome s .end .accepted
+  pub refused : outcome j .end .refused ≡ outcome f .end .refused + outcome s .end .refused
+
+pub demand-3-fed : {A : ℕ} {xs ys zs : List Update} (w : Weave xs ys zs) → Meets 32 A xs ys → (j : Fed A zs) (f : Fed A xs) (s : Fed A ys) → Together w j f s
+demand-3-fed {A} {xs} {ys} {zs} w m j f s =
+    record {
+      joint = answered j;
+      first = answered f;
+      second = answered s;
+      independent = i;
+      list = answered j .list ∙ i .joined ∙ sym (ap₂ join (answered f .list) (answered s .list));
+      accepted = answered j .accepted ∙ counted A w i isDone plain-done ∙ sym (ap₂ _+_ (answered f .accepted) (answered s .accepted));
+      refused = answered j .refused ∙ counted A w i isRefused plain-refused ∙ sym (ap₂ _+_ (answered f .refused) (answered s .refused));
+    }
+  where
+    i : Independent 32 A w
+    i = demand-3-ipv4 A xs ys zs w m
