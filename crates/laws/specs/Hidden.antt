@@ -10,6 +10,7 @@ use lib.Dec.{ltb, leb, eqb}
 use lib.Pow.{pow-pos}
 use borrow.Author.Tests.{eq-eqb, ne-eqb, eqb-true, lt-ltb, le-ltb, le-leb, lt-leb}
 use Rattle.laws.specs.Cases.{bool, less, most, same}
+use Rattle.laws.specs.Bools.{or-assoc, or-swap}
 use Rattle.routes.specs.Route.{Route, key, hopAt, Wf}
 use Rattle.laws.specs.Longest.{Wfs, whole}
 use Rattle.routes.specs.Room.{level}
@@ -23,15 +24,6 @@ cellKey W k c l = c / 2 ^ (8 * k + 8 - l) * 2 ^ (W - l) * 256 + l
 unfoldable pub heldPast : ℕ → List Route → ℕ → ℕ → ℕ → ℕ → Bool
 heldPast W rs k c l zero = false
 heldPast W rs k c l (suc n) = not (eqb (hopAt rs (cellKey W k c (l + suc n))) 0) || heldPast W rs k c l n
-
-or-assoc : (a b c : Bool) → ((a || b) || c) ≡ (a || (b || c))
-or-assoc true b c = refl
-or-assoc false b c = refl
-
-or-swap : (a b c : Bool) → (a || (b || c)) ≡ (b || (a || c))
-or-swap true true c = refl
-or-swap true false c = refl
-or-swap false b c = refl
 
 hop-or : (r : Route) (rs : List Route) (m : ℕ) → 0 < r .hop → not (eqb (hopAt (r ∷ rs) m) 0) ≡ (eqb (key r) m || not (eqb (hopAt rs m) 0))
 hop-or r rs m p = bool (eqb (key r) m) (λ e. rw (e, ne-eqb (r .hop) 0 (λ z. omega arith))) (λ e. rw e)

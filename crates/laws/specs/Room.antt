@@ -9,6 +9,8 @@ use native.Mathlib.Omega.{arith}
 use lib.Dec.{ltb, eqb}
 use borrow.Author.Tests.{eq-eqb, ne-eqb}
 use Rattle.laws.specs.Cases.{bool, same, tri}
+pub use Rattle.laws.specs.Bools.{or-left, or-right}
+use Rattle.laws.specs.Bools.{or-case, or-swap, or-twice}
 use Rattle.routes.specs.Route.{Route, key, All, insert, remove}
 use Rattle.routes.specs.Room.{mem, distinct, heads, needTo}
 use Rattle.laws.specs.Sorted.{Good}
@@ -51,24 +53,6 @@ distinct-del z (x ∷ xs) h =
     pull : (d : Bool) (m : ℕ) → cond d (suc m) (suc (suc m)) ≡ suc (cond d m (suc m))
     pull true m = refl
     pull false m = refl
-
-pub or-right : (a b : Bool) → b ≡ true → (a || b) ≡ true
-or-right true b e = refl
-or-right false b e = e
-
-pub or-left : (a b : Bool) → a ≡ true → (a || b) ≡ true
-or-left true b e = refl
-or-left false true e = refl
-or-left false false e = e
-
-or-swap : (a b c : Bool) → (a || (b || c)) ≡ (b || (a || c))
-or-swap true true c = refl
-or-swap true false c = refl
-or-swap false b c = refl
-
-or-twice : (a c : Bool) → (a || (a || c)) ≡ (a || c)
-or-twice true c = refl
-or-twice false c = refl
 
 pub distinct-le : (xs ys : List ℕ) → ((z : ℕ) → mem z xs ≡ true → mem z ys ≡ true) → distinct xs ≤ distinct ys
 distinct-le [] ys h = omega arith
@@ -133,3 +117,18 @@ need-le W ss rs u (suc j) = omega (arith, need-le W ss rs u j, distinct-le (head
 
 pub need-same : (W : ℕ) (ss rs : List Route) → Under W ss rs → Under W rs ss → (j : ℕ) → needTo W j rs ≡ needTo W j ss
 need-same W ss rs u v j = le-antisymm (need-le W ss rs u j) (need-le W rs ss v j)
+
+-- of two lists in one, each is under it
+pub mem-skip : (W n z : ℕ) (s : Route) (rs : List Route) → mem z (heads W n rs) ≡ true → mem z (heads W n (s ∷ rs)) ≡ true
+mem-skip W n z s rs e = mem-heads W n z s rs ∙ or-right (hit W n z s) (mem z (heads W n rs)) e
+
+pub under-first : (W : ℕ) (xs ys : List Route) → Under W (xs ++ ys) xs
+under-first W [] ys n z e = absurd (false≢true e)
+under-first W (x ∷ xs) ys n z e =
+    or-case (hit W n z x) (mem z (heads W n xs)) (sym (mem-heads W n z x xs) ∙ e)
+    (λ h. mem-heads W n z x (xs ++ ys) ∙ or-left (hit W n z x) (mem z (heads W n (xs ++ ys))) h)
+    (λ h. mem-skip W n z x (xs ++ ys) (under-first W xs ys n z h))
+
+pub under-second : (W : ℕ) (xs ys : List Route) → Under W (xs ++ ys) ys
+under-second W [] ys n z e = e
+under-second W (x ∷ xs) ys n z e = mem-skip W n z x (xs ++ ys) (under-second W xs ys n z e)

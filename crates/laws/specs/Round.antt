@@ -1,20 +1,20 @@
 -- A list written out and fed to a cleared table of the same room gives that list again: the list's side of it. Assumes nothing.
 use mathlib.Core.Path.{_≡_, refl, sym, ap, ap₂, _∙_}
-use mathlib.Core.Bool.{Bool, true, false, cond, not, _||_}
+use mathlib.Core.Bool.{Bool, true, false, cond, not}
 use mathlib.Core.List.{List, [], _∷_, _++_, append-assoc, append-nil}
 use Prim.Native.Nat.{ℕ, zero, suc, _+_, _-_, _*_, _/_, _%_, _^_, _≤_, _<_}
 use native.Mathlib.Omega.{arith}
 use lib.ListN.{length}
 use borrow.Author.Tests.{le-ltb, ne-eqb}
 use Rattle.routes.specs.Route.{Route, route, key, From, All, hopAt, insert, IsRoute, IsList}
-use Rattle.routes.specs.Room.{mem, heads, need, needTo}
+use Rattle.routes.specs.Room.{need, needTo}
 use Rattle.routes.specs.Cells.{cells}
 use Rattle.routes.specs.Answers.{announce, Reply, done, isDone, isRefused, answer, after, replies, leaves}
 use Rattle.routes.specs.Bytes.{announced, written, recordsBytes, repliesBytes}
 use Rattle.routes.specs.Runs.{State, run}
 use Rattle.laws.specs.Sorted.{Good, hop-skip}
 use Rattle.laws.specs.Collect.{Within, within-le, hop-above}
-use Rattle.laws.specs.Room.{hit, mem-heads, Under, need-le}
+use Rattle.laws.specs.Room.{under-first, need-le}
 use Rattle.laws.specs.Encoded.{AllFit, count, ended, run-ended}
 
 -- ---- a last route added
@@ -33,22 +33,6 @@ within-more : (lo hi k : ℕ) (xs : List Route) → Within lo hi xs → hi ≤ k
 within-more lo hi k [] w h = omega arith
 within-more lo hi k (x ∷ xs) w h = (w .0, within-more (suc (key x)) hi k xs (w .1) h)
 
--- ---- its heads are among those of the whole
-
-heads-append : (W n z : ℕ) (xs ys : List Route) → mem z (heads W n (xs ++ ys)) ≡ (mem z (heads W n xs) || mem z (heads W n ys))
-heads-append W n z [] ys = refl
-heads-append W n z (x ∷ xs) ys =
-    mem-heads W n z x (xs ++ ys) ∙ ap (λ (b : Bool). hit W n z x || b) (heads-append W n z xs ys)
-    ∙ sym (or-assoc (hit W n z x) (mem z (heads W n xs)) (mem z (heads W n ys)))
-    ∙ ap (λ (b : Bool). b || mem z (heads W n ys)) (sym (mem-heads W n z x xs))
-  where
-    or-assoc : (a b c : Bool) → ((a || b) || c) ≡ (a || (b || c))
-    or-assoc true b c = refl
-    or-assoc false b c = refl
-
-front-under : (W : ℕ) (xs ys : List Route) → Under W (xs ++ ys) xs
-front-under W xs ys n z e = heads-append W n z xs ys ∙ rw e
-
 -- ---- a route past all others is taken where there is room for the whole
 
 module _ (W A : ℕ) where
@@ -56,7 +40,7 @@ module _ (W A : ℕ) where
       → answer W A xs (announce (y .addr) (y .len) (y .hop)) ≡ done (y .hop) (cells W y xs)
   unfolding answer
   take-last y xs ys w p h =
-      let g : need W (insert y xs) ≤ A = rw (insert-last 0 y xs w) (omega (arith, h, rw (append-assoc xs (y ∷ []) ys) at (need-le W ((xs ++ (y ∷ [])) ++ ys) (xs ++ (y ∷ [])) (front-under W (xs ++ (y ∷ [])) ys) (W / 8 - 1)))) in
+      let g : need W (insert y xs) ≤ A = rw (insert-last 0 y xs w) (omega (arith, h, rw (append-assoc xs (y ∷ []) ys) at (need-le W ((xs ++ (y ∷ [])) ++ ys) (xs ++ (y ∷ [])) (under-first W (xs ++ (y ∷ [])) ys) (W / 8 - 1)))) in
       rw (
         le-ltb W (y .len) (p .wf .fits),
         p .wf .clean,

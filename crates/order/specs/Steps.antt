@@ -12,7 +12,8 @@ use Rattle.routes.specs.Room.{mem, heads, needTo, need}
 use Rattle.routes.specs.Answers.{Update, announce, withdraw, Reply, done, found, none, refused, refuse, faulty, answer, isDone, after}
 use Rattle.laws.specs.Cases.{bool, same}
 use Rattle.laws.specs.Sorted.{Good, insert-from, remove-from, all-insert, all-remove, insert-same, insert-other, remove-same, remove-other}
-use Rattle.laws.specs.Room.{distinct-le, hit, mem-heads, heads-insert, or-left, or-right}
+use Rattle.laws.specs.Bools.{or-left, or-case, or-false}
+use Rattle.laws.specs.Room.{hit, mem-heads, heads-insert, Under, need-le, mem-skip, under-first, under-second}
 use Rattle.order.specs.Feeds.{prefix, proper, Each, named, plain}
 
 -- the key of the prefix that an update names
@@ -34,14 +35,6 @@ each-map f (u ∷ us) p = (f u (p .0), each-map f us (p .1))
 passed : (n : ℕ) (b : Bool) (r : Reply) → isDone (refuse n b r) ≡ true → (b ≡ false) × (isDone r ≡ true)
 passed n true r e = absurd (false≢true e)
 passed n false r e = (refl, e)
-
-or-false : (a b : Bool) → (a || b) ≡ false → a ≡ false
-or-false true b e = absurd (true≢false e)
-or-false false b e = refl
-
-or-case : {P : Type 0} (a b : Bool) → (a || b) ≡ true → (a ≡ true → P) → (b ≡ true → P) → P
-or-case true b e x y = x refl
-or-case false b e x y = y e
 
 pub plain-done : (r : Reply) → isDone (plain r) ≡ isDone r
 plain-done (done h c) = refl
@@ -101,29 +94,7 @@ module _ (W : ℕ) where
   improper-plain x y (withdraw a l) n =
       bool (tooLong W l) (λ e. rw e) (λ e. bool (stray W a l) (λ d. rw (e, d)) (λ d. absurd (true≢false (rw (e, d) at n))))
 
-  -- ---- room: each head of rs is one of N
-
-  abbrev pub Under : List Route → List Route → Type 0
-  Under N rs = (n z : ℕ) → mem z (heads W n rs) ≡ true → mem z (heads W n N) ≡ true
-
-  mem-skip : (n z : ℕ) (s : Route) (rs : List Route) → mem z (heads W n rs) ≡ true → mem z (heads W n (s ∷ rs)) ≡ true
-  mem-skip n z s rs e = mem-heads W n z s rs ∙ or-right (hit W n z s) (mem z (heads W n rs)) e
-
-  under-first : (xs ys : List Route) → Under (xs ++ ys) xs
-  under-first [] ys n z e = absurd (false≢true e)
-  under-first (x ∷ xs) ys n z e =
-      or-case (hit W n z x) (mem z (heads W n xs)) (sym (mem-heads W n z x xs) ∙ e)
-      (λ h. mem-heads W n z x (xs ++ ys) ∙ or-left (hit W n z x) (mem z (heads W n (xs ++ ys))) h)
-      (λ h. mem-skip n z x (xs ++ ys) (under-first xs ys n z h))
-
-  under-second : (xs ys : List Route) → Under (xs ++ ys) ys
-  under-second [] ys n z e = e
-  under-second (x ∷ xs) ys n z e = mem-skip n z x (xs ++ ys) (under-second xs ys n z e)
-
-  pub need-le : (N rs : List Route) → Under N rs → (j : ℕ) → needTo W j rs ≤ needTo W j N
-  unfolding needTo
-  need-le N rs u zero = omega arith
-  need-le N rs u (suc j) = omega (arith, need-le N rs u j, distinct-le (heads W (8 * suc j) rs) (heads W (8 * suc j) N) (u (8 * suc j)))
+  -- ---- room
 
   -- the update's prefix, if it is proper, has its heads in N
   abbrev pub Names : List Route → Update → Type 0
@@ -133,19 +104,19 @@ module _ (W : ℕ) where
   own-names [] = tt
   own-names (u ∷ us) = (
     (λ e n z h. rw e (mem-heads W n z (prefix u) (named W us) ∙ or-left (hit W n z (prefix u)) _ h)),
-    each-map {P = Names (named W us)} {Q = Names (named W (u ∷ us))} (λ x m p n z h. bool (proper W (prefix u)) (λ e. rw e (mem-skip n z (prefix u) (named W us) (m p n z h))) (λ e. rw e (m p n z h))) us (own-names us),
+    each-map {P = Names (named W us)} {Q = Names (named W (u ∷ us))} (λ x m p n z h. bool (proper W (prefix u)) (λ e. rw e (mem-skip W n z (prefix u) (named W us) (m p n z h))) (λ e. rw e (m p n z h))) us (own-names us),
   )
 
   -- what a feed names stands in what two feeds name
   pub names-first : (xs ys : List Update) → Each (Names (named W xs ++ named W ys)) xs
   names-first xs ys =
-      each-map {P = Names (named W xs)} {Q = Names (named W xs ++ named W ys)} (λ u m p n z h. under-first (named W xs) (named W ys) n z (m p n z h)) xs (own-names xs)
+      each-map {P = Names (named W xs)} {Q = Names (named W xs ++ named W ys)} (λ u m p n z h. under-first W (named W xs) (named W ys) n z (m p n z h)) xs (own-names xs)
 
   pub names-second : (xs ys : List Update) → Each (Names (named W xs ++ named W ys)) ys
   names-second xs ys =
-      each-map {P = Names (named W ys)} {Q = Names (named W xs ++ named W ys)} (λ u m p n z h. under-second (named W xs) (named W ys) n z (m p n z h)) ys (own-names ys)
+      each-map {P = Names (named W ys)} {Q = Names (named W xs ++ named W ys)} (λ u m p n z h. under-second W (named W xs) (named W ys) n z (m p n z h)) ys (own-names ys)
 
-  under-insert : (N rs : List Route) (a l h : ℕ) → Good (route a l h) → All Good rs → Names N (announce a l h) → proper W (route a l 0) ≡ true → Under N rs → Under N (insert (route a l h) rs)
+  under-insert : (N rs : List Route) (a l h : ℕ) → Good (route a l h) → All Good rs → Names N (announce a l h) → proper W (route a l 0) ≡ true → Under W N rs → Under W N (insert (route a l h) rs)
   unfolding hit
   under-insert N rs a l h g p m o u n z q =
       or-case (hit W n z (route a l h)) (mem z (heads W n rs))
@@ -153,24 +124,24 @@ module _ (W : ℕ) where
       (λ e. m o n z e)
       (λ e. u n z e)
 
-  under-remove : (N : List Route) (k : ℕ) (rs : List Route) → Under N rs → Under N (remove k rs)
+  under-remove : (N : List Route) (k : ℕ) (rs : List Route) → Under W N rs → Under W N (remove k rs)
   under-remove N k rs u n z e = u n z (go rs e)
     where
       go : (rs : List Route) → mem z (heads W n (remove k rs)) ≡ true → mem z (heads W n rs) ≡ true
       go [] e = e
       go (s ∷ rs) e =
           same (key s) k
-          (λ q d. mem-skip n z s rs (rw d at e))
+          (λ q d. mem-skip W n z s rs (rw d at e))
           (λ m d. or-case (hit W n z s) (mem z (heads W n (remove k rs))) (sym (mem-heads W n z s (remove k rs)) ∙ rw d at e)
           (λ h. mem-heads W n z s rs ∙ or-left (hit W n z s) (mem z (heads W n rs)) h)
-          (λ h. mem-skip n z s rs (go rs h)))
+          (λ h. mem-skip W n z s rs (go rs h)))
 
   -- ---- a list that updates may have left, all of whose prefixes are of N
 
   pub record Fair (N rs : List Route) : Type 0 where
     pub from : From 0 rs
     pub good : All Good rs
-    pub under : Under N rs
+    pub under : Under W N rs
 
   pub fair-empty : (N : List Route) → Fair N []
   fair-empty N = record { from = tt; good = tt; under = λ n z e. absurd (false≢true e) }
@@ -215,7 +186,7 @@ module _ (W : ℕ) where
         bool (stray W a l) (λ d. rw (e, d)) (λ d.
         bool (badHop h) (λ c. rw (e, d, c)) (λ c.
         let g : Good (route a l h) = good-hop a l h e c in
-        let i : need W (insert (route a l h) rs) ≤ need W N = need-le N (insert (route a l h) rs) (under-insert N rs a l h g (f .good) m (rw (e, d)) (f .under)) (W / 8 - 1) in
+        let i : need W (insert (route a l h) rs) ≤ need W N = need-le W N (insert (route a l h) rs) (under-insert N rs a l h g (f .good) m (rw (e, d)) (f .under)) (W / 8 - 1) in
         rw (e, d, c, le-ltb A (need W (insert (route a l h) rs)) (omega arith))
         (bool (not (eqb (hopAt rs (a * 256 + l)) 0)) (λ b. rw b) (λ b. rw b)))))
     answer-plain A N rs (withdraw a l) r m f =
