@@ -1,3 +1,11 @@
 pub mod Block
 pub mod Check
 pub mod Put
+pub mod Cover
+pub mod Best
+pub mod Rewrite
+pub mod Change
+pub mod Place
+pub mod Reslot
+pub mod Frame
+pub mod Decides

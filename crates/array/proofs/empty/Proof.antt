@@ -1,0 +1,21 @@
+-- `array::empty` meets its contract. The two parts of `emptyB` in order. Assumes nothing.
+use mathlib.Core.Path.{_≡_, sym, _∙_}
+use borrow.Author.Needs.{needs}
+use Rattle.array.proofs.Laws.{empty-slot, empty-link}
+use Rattle.array.proofs.empty.Statement.{statement}
+use Rattle.array.proofs.empty.Tie as tie
+
+zeros-requires : tie.Need-zeros-requires
+zeros-requires c κs = search needs
+
+zeros-requires-2 : tie.Need-zeros-requires-2
+zeros-requires-2 c κs = search needs
+
+returns : tie.Need-returns
+returns c = c .zeros2 .ensures ∙ empty-link (c .before .before .before .before .args .block .now) (sym (c .before .before .zeros .ensures) ∙ c .before .if1 .taken)
+
+returns-2 : tie.Need-returns-2
+returns-2 c = c .if1 .left ∙ empty-slot (c .before .before .before .args .block .now) (sym (c .before .zeros .ensures) ∙ c .if1 .left)
+
+pub empty-spec : {M : Type 1} → statement M
+empty-spec = tie.close (tie.spec zeros-requires zeros-requires-2 returns returns-2)

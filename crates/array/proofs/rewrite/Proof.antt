@@ -1,0 +1,107 @@
+-- `array::rewrite` meets its contract. The block is the one at the start with the cells passed rewritten, and the number is that of those that gave way. Assumes nothing.
+use mathlib.Core.Path.{_≡_, refl, sym, ap, _∙_}
+use mathlib.Core.Logic.{⊎-elim}
+use Prim.Native.Nat.{ℕ, _+_, _*_, _-_, _≤_, _<_}
+use native.Mathlib.Omega.{arith}
+use borrow.Author.Needs.{needs}
+use lib.ListN.{length, length-set}
+use Rattle.array.specs.Rewrite.{over, mapCells, yielding, map-none, map-given, map-kept, count-none, count-given, count-kept}
+use Rattle.array.proofs.rewrite.Statement.{statement}
+use Rattle.array.proofs.rewrite.Tie as tie
+
+abbrev Inv-loop : tie.InvT-loop
+Inv-loop block₀ from to len best n₀ i₀ block n i = (length block ≡ 1024) × (from ≤ i) × (i ≤ to) × (n ≤ i) × (block ≡ mapCells (over len best) block₀ from (i - from)) × (n ≡ yielding block₀ len from (i - from))
+
+abbrev μ-loop : tie.MeasureT-loop
+μ-loop block₀ from to len best n₀ i₀ block n i = to - i
+
+loop-holds : tie.Need-loop-holds Inv-loop μ-loop
+loop-holds c = (omega arith, omega arith, omega arith, omega arith, map-none _ _ _ _, count-none _ _ _)
+
+mul-cell : tie.Need-mul-cell Inv-loop μ-loop
+mul-cell c = omega arith
+
+add-cell : tie.Need-add-cell Inv-loop μ-loop
+add-cell c = omega arith
+
+mul-yields : tie.Need-mul-yields Inv-loop μ-loop
+mul-yields c = omega arith
+
+slice-read-yields : tie.Need-slice-read-yields Inv-loop μ-loop
+slice-read-yields c = omega arith
+
+yields-requires : tie.Need-yields-requires Inv-loop μ-loop
+yields-requires c κs = search needs
+
+mul-block : tie.Need-mul-block Inv-loop μ-loop
+mul-block c = omega arith
+
+slice-write-block : tie.Need-slice-write-block Inv-loop μ-loop
+slice-write-block c = omega arith
+
+add-n : tie.Need-add-n Inv-loop μ-loop
+add-n c = omega arith
+
+add-i : tie.Need-add-i Inv-loop μ-loop
+add-i c = omega arith
+
+loop-less : tie.Need-loop-less Inv-loop μ-loop
+loop-less c = omega arith
+
+loop-again : tie.Need-loop-again Inv-loop μ-loop
+loop-again c =
+    let a = c .before .before .before .before .before .before .args in
+    let l = c .before .before .before .before .loop in
+    ⊎-elim
+    (λ w.
+    let h = sym (c .before .yields .ensures) ∙ w .0 .taken in
+    rw (w .1, w .2) (
+      simp length-set (omega arith),
+      omega arith,
+      omega arith,
+      omega arith,
+      map-given (a .len) (a .best) (a .block .now) (l .block) (a .from) (l .i) (omega arith) (l .inv .4) h,
+      omega (arith, count-given (a .len) (a .best) (a .block .now) (l .block) (a .from) (l .i) (omega arith) (l .inv .4) h, l .inv .5),
+    ))
+    (λ w.
+    let h = sym (c .before .yields .ensures) ∙ w .0 .left in
+    rw (w .1, w .2) (
+      omega arith,
+      omega arith,
+      omega arith,
+      omega arith,
+      map-kept (a .len) (a .best) (a .block .now) (l .block) (a .from) (l .i) (omega arith) (l .inv .4) h,
+      omega (arith, count-kept (a .len) (a .best) (a .block .now) (l .block) (a .from) (l .i) (omega arith) (l .inv .4) h, l .inv .5),
+    ))
+    (c .if1 .came)
+
+same-length : tie.Need-same-length Inv-loop μ-loop
+same-length c = omega arith
+
+returns : tie.Need-returns Inv-loop μ-loop
+returns c =
+    let a = c .before .before .before .args in
+    let l = c .before .loop in
+    let e : l .i ≡ a .to = omega arith in
+    (rw e at (l .inv .4), rw e at (l .inv .5))
+
+pub rewrite-spec : {M : Type 1} → statement M
+rewrite-spec =
+    tie.close
+    (tie.spec
+    Inv-loop
+    μ-loop
+    loop-holds
+    mul-cell
+    add-cell
+    mul-yields
+    slice-read-yields
+    yields-requires
+    mul-block
+    slice-write-block
+    add-n
+    add-i
+    loop-less
+    loop-again
+    same-length
+    returns)
