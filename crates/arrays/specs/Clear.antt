@@ -19,6 +19,11 @@ use Rattle.arrays.specs.Need.{at-some}
 use Rattle.arrays.specs.Slot.{at-none}
 use Rattle.arrays.specs.Words.{arraysOf, arrayCount, usedIn, Header, Almost, slotsOf, bestsOf}
 use Rattle.arrays.specs.Rehang.{Local}
+use Rattle.routes.specs.Seen.{Seen, table, misfits, arrays}
+use Rattle.arrays.specs.Best.{best-local}
+use Rattle.arrays.specs.Table.{Table, listOf, seen}
+use Rattle.arrays.specs.Decides.{Fits}
+use Rattle.arrays.specs.View.{no-misfit-fits, seen-table}
 
 unfoldable pub cleared : ℕ → List ℕ
 cleared n = set (set (set (replicate n 0) 0 1) 1 1) 1024 1
@@ -117,3 +122,21 @@ collect-none f h (suc d) v l = rw (h v l, collect-none f h d (2 * v) (suc l), co
 pub cleared-routes : (n W : ℕ) → 2048 ≤ n → routes W (held (arraysOf (cleared n))) ≡ []
 unfolding routes
 cleared-routes n W low = collect-none (held (arraysOf (cleared n))) (cleared-held n low) W 0 0
+
+-- ---- words of a right size, cleared
+
+module _ (L n : ℕ) (some : 1 ≤ L) (levels : L < 32) (fits : misfits n ≡ false) where
+  abbrev size : Fits n
+  size = no-misfit-fits n fits
+
+  pub cleared-is-table : Table L (cleared n)
+  cleared-is-table = cleared-table n (size .low) Rattle.array.specs.Block.Right best-local L some levels (size .whole) (size .high)
+
+  -- the empty list
+  pub cleared-list : listOf L (cleared n) ≡ []
+  cleared-list = cleared-routes n (8 * L) (size .low)
+
+  pub cleared-seen : seen L (cleared n) ≡ table (arrays n) []
+  cleared-seen =
+      seen-table L (cleared n) cleared-is-table
+      ∙ ap₂ table (ap (λ (k : ℕ). k / 1024 - 1) (cleared-length n (size .low))) cleared-list

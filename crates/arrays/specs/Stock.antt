@@ -10,10 +10,12 @@ use lib.Dec.{eqb}
 use lib.ListN.{length, getD}
 use Rattle.laws.specs.Cases.{same}
 use Rattle.laws.specs.Collect.{routes}
-use Rattle.routes.specs.Room.{needTo}
+use Rattle.routes.specs.Room.{needTo, need}
+use Rattle.array.specs.Block.{Right}
 use Rattle.arrays.specs.Arrays.{Arrays, held}
 use Rattle.arrays.specs.Need.{usedTo, used-need}
 use Rattle.arrays.specs.Words.{arraysOf, arrayCount, usedIn, firstFree, Almost}
+use Rattle.arrays.specs.Table.{Table, listOf}
 
 pub used-all : (t : Arrays) (n : ℕ) → usedIn t 0 n ≡ usedTo t n
 used-all t zero = refl
@@ -23,6 +25,11 @@ pub count-need : (Right : ℕ → (ℕ → ℕ) → (ℕ → ℕ) → Type 0) (J
     → getD ws 0 0 ≡ needTo (8 * suc J) J (routes (8 * suc J) (held (arraysOf ws)))
 count-need Right J ws ok =
     ok .header .count ∙ used-all (arraysOf ws) (arrayCount ws) ∙ used-need (arrayCount ws) (suc J) (arraysOf ws) (ok .shape) (ok .filled) J refl
+
+-- the arrays used are the need of the list
+pub table-need : (L : ℕ) (ws : List ℕ) → Table L ws → getD ws 0 0 ≡ need (8 * L) (listOf L ws)
+table-need zero ws ok = absurd (omega (arith, ok .shape .some-level))
+table-need (suc J) ws ok = let e : 8 * suc J / 8 - 1 ≡ J = omega arith in rw e (count-need Right J ws ok)
 
 -- ---- the first free array
 

@@ -1,0 +1,221 @@
+-- The check's tests tell whether the words are a table. Assumes nothing.
+use mathlib.Core.Path.{_≡_, refl, sym, ap, _∙_}
+use mathlib.Core.Logic.{_⊎_, _≢_, inl, inr, ⊎-elim}
+use mathlib.Core.Bool.{Bool, true, false, cond, not, _&&_, _||_, true≢false, false≢true}
+use mathlib.Core.List.{List}
+use Prim.Native.Nat.{ℕ, zero, suc, _+_, _-_, _*_, _/_, _%_, _≤_, _<_}
+use native.Mathlib.Omega.{arith}
+use lib.Dec.{ltb, eqb}
+use lib.ListN.{length, getD}
+use borrow.Author.Tests.{eqb-true, eqb-false, eq-eqb, ne-eqb, not-true}
+use Rattle.laws.specs.Cases.{bool, same, less}
+use Rattle.laws.specs.Tells.{Tells, allB, tells-eq, tells-lt, tells-and, tells-or, tells-all, tells-as, all-from, all-to, and-to, and-from}
+use Rattle.array.specs.Block.{bestOf, Right}
+use Rattle.array.specs.Check.{rightB, emptyB}
+use Rattle.arrays.specs.Arrays.{Arrays, lev, Child, Hung, Shape, HasSlot, HasLink, Filled}
+use Rattle.arrays.specs.Words.{arraysOf, arrayCount, usedIn, slotsOf, bestsOf, Header, Almost}
+use Rattle.arrays.specs.Check.{linksB, hungB, links-tells, hung-tells}
+use Rattle.arrays.specs.Table.{zeroAt, arrayB, groupB, headerB, tableB, Table}
+
+pub right-tells : (k : ℕ) (f g : ℕ → ℕ) → Tells (rightB k f g) (Right k f g)
+unfolding rightB
+right-tells k f g =
+    tells-as
+    (λ z. record {
+      hops = λ s l b. let e : s - 1 + 1 ≡ s = omega arith in rw e at (z .0 (s - 1) (omega arith));
+      first = λ h. ⊎-elim (λ (x : k < 2). absurd (omega arith)) (λ (x : f 1 ≡ 0). x) (z .1 .0);
+      best = z .1 .1;
+    })
+    (λ z. ((λ s b. z .hops (s + 1) (omega arith) (omega arith)), (less k 2 (λ h _. inl h) (λ h _. inr (z .first h)), z .best)))
+    (tells-and (tells-all (λ s. ltb (f (s + 1)) 65536) (λ s. f (s + 1) < 65536) 511 (λ s h. tells-lt (f (s + 1)) 65536))
+    (tells-and (tells-or (tells-lt k 2) (tells-eq (f 1) 0))
+    (tells-all (λ i. eqb (g i) (bestOf f (8 * (k - 1)) (256 + i) 8)) (λ i. g i ≡ bestOf f (8 * (k - 1)) (256 + i) 8) 256
+    (λ i h. tells-eq (g i) (bestOf f (8 * (k - 1)) (256 + i) 8)))))
+
+-- ---- something in an array
+
+-- a false among them
+record Fails (p : ℕ → Bool) (n : ℕ) : Type 0 where
+  pub i : ℕ
+  pub high : i < n
+  pub bad : p i ≡ false
+
+and-false : (b c : Bool) → (b && c) ≡ false → (b ≡ false) ⊎ (c ≡ false)
+and-false true c e = inr e
+and-false false c e = inl refl
+
+fails : (p : ℕ → Bool) (n : ℕ) → allB p n ≡ false → Fails p n
+unfolding allB
+fails p zero e = absurd (true≢false e)
+fails p (suc n) e = ⊎-elim
+    (λ (z : allB p n ≡ false). (let f = fails p n z in record { i = f .i; high = omega (arith, f .high); bad = f .bad }))
+    (λ (z : p n ≡ false). record { i = n; high = omega arith; bad = z })
+    (and-false (allB p n) (p n) e)
+
+fails-from : (p : ℕ → Bool) (n i : ℕ) → i < n → p i ≡ false → allB p n ≡ false
+fails-from p n i h e = bool (allB p n) (λ q. absurd (true≢false (sym (all-to p n q i h) ∙ e))) (λ q. q)
+
+module _ (t : Arrays) (a : ℕ) where
+  abbrev noSlot : ℕ → Bool
+  noSlot s = eqb (t .slot a (s + 2)) 0
+
+  abbrev noLink : ℕ → Bool
+  noLink i = eqb (t .link a i) 0
+
+  pub some-tells : Tells (not (emptyB (t .slot a) (t .link a))) (HasSlot t a ⊎ HasLink t a)
+  unfolding emptyB
+  some-tells = record {
+    to = λ e. ⊎-elim
+        (λ (z : allB noSlot 510 ≡ false). (let f = fails noSlot 510 z in
+        let b = eqb-false (t .slot a (f .i + 2)) 0 (f .bad) in
+        inl (record { s = f .i + 2; low = omega arith; high = omega (arith, f .high); some = omega arith })))
+        (λ (z : allB noLink 256 ≡ false). (let f = fails noLink 256 z in
+        let b = eqb-false (t .link a (f .i)) 0 (f .bad) in
+        inr (record { i = f .i; high = f .high; some = omega arith })))
+        (and-false (allB noSlot 510) (allB noLink 256) (not-true (allB noSlot 510 && allB noLink 256) e));
+    from = λ z. ⊎-elim
+        (λ (x : HasSlot t a).
+        let g : x .s - 2 + 2 ≡ x .s = omega (arith, x .low) in
+        rw (fails-from noSlot 510 (x .s - 2) (omega (arith, x .low, x .high)) (ne-eqb (t .slot a (x .s - 2 + 2)) 0 (λ q. omega (arith, x .some, rw g at q)))))
+        (λ (x : HasLink t a).
+        rw (fails-from noLink 256 (x .i) (x .high) (ne-eqb (t .link a (x .i)) 0 (λ q. omega (arith, x .some)))) (and-none (allB noSlot 510)))
+        z;
+  }
+    where
+      and-none : (b : Bool) → not (b && false) ≡ true
+      and-none true = refl
+      and-none false = refl
+
+-- ---- one array
+
+record Free (ws : List ℕ) (a : ℕ) : Type 0 where
+  pub tag : getD ws (1024 * a) 0 ≡ 0
+  pub blank : (k : ℕ) → k < 1024 → getD ws (1024 * a + k) 0 ≡ 0
+
+record Used (L : ℕ) (ws : List ℕ) (a : ℕ) : Type 0 where
+  pub tag : getD ws (1024 * a) 0 ≢ 0
+  pub right : Right (lev (arraysOf ws) a) (slotsOf ws a) (bestsOf ws a)
+  pub links : (i : ℕ) → i < 256 → (arraysOf ws .link a i ≡ 0) ⊎ Child (arrayCount ws) L (arraysOf ws) a i (arraysOf ws .link a i)
+  pub hung : a ≢ 1 → Hung (arrayCount ws) (arraysOf ws) a
+  pub some : a ≢ 1 → HasSlot (arraysOf ws) a ⊎ HasLink (arraysOf ws) a
+
+module _ (L : ℕ) (ws : List ℕ) (a : ℕ) where
+  abbrev t : Arrays
+  t = arraysOf ws
+
+  abbrev A : ℕ
+  A = arrayCount ws
+
+  abbrev placed : Bool
+  placed = hungB A t a && not (emptyB (slotsOf ws a) (t .link a))
+
+  abbrev usedB : Bool
+  usedB = rightB (lev t a) (slotsOf ws a) (bestsOf ws a) && (linksB A L t a && (eqb a 1 || placed))
+
+  used-to : getD ws (1024 * a) 0 ≢ 0 → usedB ≡ true → Used L ws a
+  used-to n b =
+      let x = and-to (rightB (lev t a) (slotsOf ws a) (bestsOf ws a)) (linksB A L t a && (eqb a 1 || placed)) b in
+      let y = and-to (linksB A L t a) (eqb a 1 || placed) (x .1) in
+      record {
+        tag = n;
+        right = right-tells (lev t a) (slotsOf ws a) (bestsOf ws a) .to (x .0);
+        links = links-tells A L t a .to (y .0);
+        hung = λ m. ⊎-elim (λ (z : t .tag a ≡ 0). absurd (n z)) (λ (z : Hung A t a). z) (hung-tells A t a .to (rest m (y .1) .0));
+        some = λ m. some-tells t a .to (rest m (y .1) .1);
+      }
+    where
+      rest : a ≢ 1 → (eqb a 1 || placed) ≡ true → (hungB A t a ≡ true) × (not (emptyB (slotsOf ws a) (t .link a)) ≡ true)
+      rest m e = and-to (hungB A t a) (not (emptyB (slotsOf ws a) (t .link a))) (rw (ne-eqb a 1 m) at e)
+
+  used-from : Used L ws a → usedB ≡ true
+  used-from x =
+      and-from (rightB (lev t a) (slotsOf ws a) (bestsOf ws a)) (linksB A L t a && (eqb a 1 || placed)) (right-tells (lev t a) (slotsOf ws a) (bestsOf ws a) .from (x .right))
+      (and-from (linksB A L t a) (eqb a 1 || placed) (links-tells A L t a .from (x .links))
+      (same a 1 (λ q e. rw e) (λ n e. rw e (and-from (hungB A t a) (not (emptyB (slotsOf ws a) (t .link a))) (hung-tells A t a .from (inr (x .hung n))) (some-tells t a .from (x .some n))))))
+
+  array-tells : Tells (arrayB L ws a) (Free ws a ⊎ Used L ws a)
+  unfolding arrayB
+  array-tells =
+      same (getD ws (1024 * a) 0) 0
+      (λ z e. rw e (record {
+        to = λ b. inl (record { tag = z; blank = λ k h. eqb-true _ 0 (all-to (zeroAt ws (1024 * a)) 1024 b k h) });
+        from = λ b. ⊎-elim (λ (x : Free ws a). all-from (zeroAt ws (1024 * a)) 1024 (λ k h. eq-eqb _ 0 (x .blank k h))) (λ (x : Used L ws a). absurd (x .tag z)) b;
+      }))
+      (λ n e. rw e (record {
+        to = λ b. inr (used-to n b);
+        from = λ b. ⊎-elim (λ (x : Free ws a). absurd (n (x .tag))) (λ (x : Used L ws a). used-from x) b;
+      }))
+
+-- ---- the header, and all words
+
+abbrev Rest : List ℕ → Type 0
+Rest ws = (k : ℕ) → 513 ≤ k → k < 1024 → getD ws k 0 ≡ 0
+
+header-tells : (ws : List ℕ) → Tells (headerB ws) (Header ws × Rest ws)
+unfolding headerB groupB
+header-tells ws =
+    tells-as
+    (λ z. (record { count = z .0; groups = z .1 .0 }, λ k h w. let e : 513 + (k - 513) ≡ k = omega arith in rw e at (z .1 .1 (k - 513) (omega arith))))
+    (λ z. (z .0 .count, (z .0 .groups, λ k h. z .1 (513 + k) (omega arith) (omega arith))))
+    (tells-and (tells-eq (getD ws 0 0) (usedIn (arraysOf ws) 0 (arrayCount ws)))
+    (tells-and
+    (tells-all (groupB ws) (λ g. getD ws (g + 1) 0 ≡ usedIn (arraysOf ws) (8 * g) 8) 512 (λ g h. tells-eq (getD ws (g + 1) 0) (usedIn (arraysOf ws) (8 * g) 8)))
+    (tells-all (zeroAt ws 513) (λ k. getD ws (513 + k) 0 ≡ 0) 511 (λ k h. tells-eq (getD ws (513 + k) 0) 0))))
+
+-- n words make a table's size
+pub record Fits (n : ℕ) : Type 0 where
+  pub whole : n % 1024 ≡ 0
+  pub low : 2048 ≤ n
+  pub high : n ≤ 4195328
+
+module _ (L : ℕ) (ws : List ℕ) (some : 1 ≤ L) (levels : L < 32) (size : Fits (length ws)) where
+  abbrev Each : Type 0
+  Each = (j : ℕ) → j < arrayCount ws → Free ws (j + 1) ⊎ Used L ws (j + 1)
+
+  one : Each → (a : ℕ) → 1 ≤ a → a ≤ arrayCount ws → Free ws a ⊎ Used L ws a
+  one f a h w = let e : a - 1 + 1 ≡ a = omega arith in rw e at (f (a - 1) (omega arith))
+
+  to-table : getD ws 1024 0 ≡ 1 → Header ws × Rest ws → Each → Table L ws
+  to-table r hd f = record {
+    whole = size .whole;
+    low = size .low;
+    high = size .high;
+    shape = record {
+      many = omega (arith, size .low);
+      some-level = some;
+      levels = levels;
+      root = r;
+      links = λ a i h w b. ⊎-elim
+          (λ (x : Free ws a). let e : 1024 * a + 513 + 2 * i ≡ 1024 * a + (513 + 2 * i) = omega arith in inl (rw e (x .blank (513 + 2 * i) (omega arith))))
+          (λ (x : Used L ws a). x .links i b) (one f a h w);
+      tags = λ a h w. ⊎-elim (λ (x : Free ws a). inl (x .tag)) (λ (x : Used L ws a). inr (x .hung (λ e. omega arith))) (one f a (omega arith) w);
+    };
+    filled = λ a h w m p. ⊎-elim (λ (x : Free ws a). absurd (omega (arith, x .tag))) (λ (x : Used L ws a). x .some (λ e. omega arith)) (one f a (omega arith) w);
+    blank = λ a h w z. ⊎-elim (λ (x : Free ws a). x .blank) (λ (x : Used L ws a). absurd (x .tag z)) (one f a h w);
+    right = λ a h w p. ⊎-elim (λ (x : Free ws a). absurd (omega (arith, x .tag))) (λ (x : Used L ws a). x .right) (one f a h w);
+    header = hd .0;
+    rest = hd .1;
+  }
+
+  from-table : Table L ws → Each
+  from-table k j h =
+      same (getD ws (1024 * (j + 1)) 0) 0
+      (λ z _. inl (record { tag = z; blank = k .blank (j + 1) (omega arith) (omega arith) z }))
+      (λ m _. inr (record {
+        tag = m;
+        right = k .right (j + 1) (omega arith) (omega arith) (omega arith);
+        links = λ i b. k .shape .links (j + 1) i (omega arith) (omega arith) b;
+        hung = λ e. ⊎-elim (λ (z : arraysOf ws .tag (j + 1) ≡ 0). absurd (m z)) (λ (z : Hung (arrayCount ws) (arraysOf ws) (j + 1)). z) (k .shape .tags (j + 1) (omega arith) (omega arith));
+        some = λ e. k .filled (j + 1) (omega arith) (omega arith) (λ q. omega arith) (omega arith);
+      }))
+
+  -- the check is true exactly of a table
+  pub table-tells : Tells (tableB L ws) (Table L ws)
+  unfolding tableB
+  table-tells =
+      tells-as
+      (λ z. to-table (z .0) (z .1 .0) (z .1 .1))
+      (λ k. (k .shape .root, ((k .header, k .rest), from-table k)))
+      (tells-and (tells-eq (getD ws 1024 0) 1)
+      (tells-and (header-tells ws)
+      (tells-all (λ j. arrayB L ws (j + 1)) (λ j. Free ws (j + 1) ⊎ Used L ws (j + 1)) (arrayCount ws) (λ j h. array-tells L ws (j + 1)))))

@@ -1,0 +1,70 @@
+-- One array's words lent as a part of all: what the check of one block says of the part, it says of the array. Assumes nothing.
+use mathlib.Core.Path.{_≡_, refl, sym, ap, ap₂, _∙_}
+use mathlib.Core.Logic.{_⊎_, _≢_, inl, inr, ⊎-elim}
+use mathlib.Core.Bool.{Bool, true, false, cond, not, _&&_, true≢false, false≢true}
+use mathlib.Core.List.{List}
+use Prim.Native.Nat.{ℕ, zero, suc, _+_, _-_, _*_, _≤_, _<_}
+use native.Mathlib.Omega.{arith}
+use lib.Dec.{eqb}
+use lib.ListN.{length, getD, take, drop}
+use lib.Seq.{getD-take, getD-drop}
+use Rattle.laws.specs.Cases.{bool}
+use Rattle.laws.specs.Tells.{Tells, allB, tells-eq, tells-and, tells-all}
+use Rattle.array.specs.Block.{slots, bests, links, Right}
+use Rattle.array.specs.Check.{rightB, emptyB, taken}
+use Rattle.arrays.specs.Words.{arraysOf, slotsOf, bestsOf}
+use Rattle.arrays.specs.Rehang.{Local}
+use Rattle.arrays.specs.Best.{best-local}
+use Rattle.arrays.specs.Decides.{right-tells}
+
+-- two tests of statements that follow from each other
+tells-same : {b c : Bool} {P Q : Type 0} → Tells b P → Tells c Q → (P → Q) → (Q → P) → b ≡ c
+tells-same {b} {c} p q f g =
+    bool b
+    (λ x. x ∙ sym (q .from (f (p .to x))))
+    (λ x. bool c (λ y. absurd (true≢false (sym (p .from (g (q .to y))) ∙ x))) (λ y. x ∙ sym y))
+
+-- no slot but that of length 0, and no link
+abbrev None : (ℕ → ℕ) → (ℕ → ℕ) → Type 0
+None f h = ((s : ℕ) → s < 510 → f (s + 2) ≡ 0) × ((i : ℕ) → i < 256 → h i ≡ 0)
+
+empty-tells : (f h : ℕ → ℕ) → Tells (emptyB f h) (None f h)
+unfolding emptyB
+empty-tells f h =
+    tells-and (tells-all (λ s. eqb (f (s + 2)) 0) (λ s. f (s + 2) ≡ 0) 510 (λ s b. tells-eq (f (s + 2)) 0)) (tells-all (λ i. eqb (h i) 0) (λ i. h i ≡ 0) 256 (λ i b. tells-eq (h i) 0))
+
+taken-ext : (f g : ℕ → ℕ) (n : ℕ) → ((s : ℕ) → 1 ≤ s → s ≤ n → f s ≡ g s) → taken f n ≡ taken g n
+unfolding taken
+taken-ext f g zero e = refl
+taken-ext f g (suc n) e = rw (e (n + 1) (omega arith) (omega arith), taken-ext f g n (λ s h w. e s h (omega arith)))
+
+module _ (ws : List ℕ) (a m : ℕ) (size : m ≡ 1024) where
+  abbrev b : List ℕ
+  b = take m (drop (1024 * a) ws)
+
+  word : (k : ℕ) → k < 1024 → getD (take m (drop (1024 * a) ws)) k 0 ≡ getD ws (1024 * a + k) 0
+  word k h = let w : k < m = omega arith in rw (getD-take, getD-drop)
+
+  slot : (s : ℕ) → s < 512 → slots b s ≡ slotsOf ws a s
+  slot s h = word s (omega arith)
+
+  best : (i : ℕ) → i < 256 → bests b i ≡ bestsOf ws a i
+  best i h = let e : 1024 * a + 512 + 2 * i ≡ 1024 * a + (512 + 2 * i) = omega arith in rw e (word (512 + 2 * i) (omega arith))
+
+  link : (i : ℕ) → i < 256 → links b i ≡ arraysOf ws .link a i
+  link i h = let e : 1024 * a + 513 + 2 * i ≡ 1024 * a + (513 + 2 * i) = omega arith in rw e (word (513 + 2 * i) (omega arith))
+
+  pub lent-right : (k : ℕ) → rightB k (slots b) (bests b) ≡ rightB k (slotsOf ws a) (bestsOf ws a)
+  lent-right k =
+      tells-same (right-tells k (slots b) (bests b)) (right-tells k (slotsOf ws a) (bestsOf ws a))
+      (best-local .ext k (slots b) (bests b) (slotsOf ws a) (bestsOf ws a) (λ s _ h. sym (slot s h)) (λ i h. sym (best i h)))
+      (best-local .ext k (slotsOf ws a) (bestsOf ws a) (slots b) (bests b) (λ s _ h. slot s h) (λ i h. best i h))
+
+  pub lent-empty : emptyB (slots b) (links b) ≡ emptyB (slotsOf ws a) (arraysOf ws .link a)
+  lent-empty =
+      tells-same (empty-tells (slots b) (links b)) (empty-tells (slotsOf ws a) (arraysOf ws .link a))
+      (λ z. ((λ s h. sym (slot (s + 2) (omega arith)) ∙ z .0 s h), (λ i h. sym (link i h) ∙ z .1 i h)))
+      (λ z. ((λ s h. slot (s + 2) (omega arith) ∙ z .0 s h), (λ i h. link i h ∙ z .1 i h)))
+
+  pub lent-taken : taken (slots b) 511 ≡ taken (slotsOf ws a) 511
+  lent-taken = taken-ext (slots b) (slotsOf ws a) 511 (λ s h w. slot s (omega arith))
