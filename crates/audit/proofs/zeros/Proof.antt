@@ -1,0 +1,64 @@
+-- `audit::zeros` tells whether the words are all 0: the or of those passed is 0 exactly where each of them is. Assumes nothing.
+use mathlib.Core.Path.{_≡_, ap, sym, _∙_}
+use Prim.Native.Nat.{_≤_, _+_, _-_, _<_}
+use native.Mathlib.Nat.{le-antisymm}
+use native.Mathlib.Omega.{arith}
+use lib.Dec.{eqb}
+use Rattle.laws.specs.Tells.{allB, all-none}
+use Rattle.arrays.specs.Table.{zeroAt}
+use Rattle.audit.proofs.Laws.{or-more}
+use Rattle.audit.proofs.zeros.Statement.{statement}
+use Rattle.audit.proofs.zeros.Tie as tie
+
+abbrev Inv-loop : tie.InvT-loop
+Inv-loop words from n seen₀ i₀ seen i = (i ≤ n) × (eqb seen 0 ≡ allB (zeroAt words from) i)
+
+abbrev μ-loop : tie.MeasureT-loop
+μ-loop words from n seen₀ i₀ seen i = n - i
+
+loop-holds : tie.Need-loop-holds Inv-loop μ-loop
+loop-holds c = (omega arith, sym (all-none _))
+
+add-seen : tie.Need-add-seen Inv-loop μ-loop
+add-seen c = omega arith
+
+mul-seen : tie.Need-mul-seen Inv-loop μ-loop
+mul-seen c = omega arith
+
+shared-slice-read-seen : tie.Need-shared-slice-read-seen Inv-loop μ-loop
+shared-slice-read-seen c = omega arith
+
+add-i : tie.Need-add-i Inv-loop μ-loop
+add-i c = omega arith
+
+loop-less : tie.Need-loop-less Inv-loop μ-loop
+loop-less c = omega arith
+
+loop-again : tie.Need-loop-again Inv-loop μ-loop
+loop-again c =
+    let l = c .before .before .loop in
+    let a = c .before .before .before .args in
+    (omega arith, or-more (a .words .now) (a .from) (l .i) (l .seen) (l .inv .1))
+
+returns : tie.Need-returns Inv-loop μ-loop
+returns c =
+    let l = c .before .loop in
+    let a = c .before .before .args in
+    let h : l .i ≤ a .n = omega arith in
+    let w : a .n ≤ l .i = omega arith in
+    l .inv .1 ∙ ap (allB (zeroAt (a .words .now) (a .from))) (le-antisymm h w)
+
+pub zeros-spec : {M : Type 1} → statement M
+zeros-spec =
+    tie.close
+    (tie.spec
+    Inv-loop
+    μ-loop
+    loop-holds
+    add-seen
+    mul-seen
+    shared-slice-read-seen
+    add-i
+    loop-less
+    loop-again
+    returns)
