@@ -1,16 +1,17 @@
--- What the needs of the check of one block cite. Assumes nothing.
+-- What the needs of the functions cite: the check of one block where a test has settled it, the count of its slots, the length of a slot,
+-- and what reslot computes, in its own terms. Assumes nothing.
 use mathlib.Core.Path.{_≡_, refl, sym, ap, _∙_}
 use mathlib.Core.Logic.{_≢_}
-use mathlib.Core.Bool.{Bool, true, false, cond, not, _&&_, _||_}
+use mathlib.Core.Bool.{Bool, true, false}
 use mathlib.Core.List.{List}
-use Prim.Native.Nat.{ℕ, zero, suc, _+_, _-_, _*_, _/_, _^_, _≤_, _<_}
+use Prim.Native.Nat.{ℕ, suc, _+_, _-_, _*_, _/_, _^_, _≤_, _<_}
 use native.Mathlib.Omega.{arith}
 use native.Mathlib.Nat.{le-antisymm, pow-succ'}
 use native.Mathlib.Numerals.{add-one}
 use lib.Count.{leadingZeros, leading-top}
 use lib.Dec.{ltb, eqb}
 use lib.Pow.{pow-pos, pow-mono}
-use lib.ListN.{length, getD, set}
+use lib.ListN.{getD, set}
 use borrow.Author.Tests.{eq-eqb, ne-eqb, lt-ltb, le-ltb, ltb-true}
 use Rattle.laws.specs.Cases.{most}
 use Rattle.laws.specs.Tells.{allB, all-to, or-true}
@@ -108,7 +109,7 @@ hop-at f s d h a b = h s (omega (arith, pow-pos d)) b
 pub half-low : (s d : ℕ) → d ≢ 0 → 2 ^ d ≤ s → 2 ^ (d - 1) ≤ s / 2
 half-low s d n h = let e : d ≡ suc (d - 1) = omega arith in omega (arith, pow-succ' 2 (d - 1), ap (λ (k : ℕ). 2 ^ k) e)
 
--- what reslot computes, in its own terms
+-- what reslot computes
 module _ (k : ℕ) (l : List ℕ) (d x h base slot : ℕ) (o : Spot k l d x) (hop : h < 65536) (eb : base ≡ 8 * (k - 1)) (es : slot ≡ 2 ^ d + x) where
   pub reslot-climbs : Climb (set l slot h) base slot d
   reslot-climbs = rw (eb, es) (climbs k l d x h o hop)

@@ -5,13 +5,13 @@
 --        slots c with c / 2 ^ k ≡ s, k levels below: the slots c, c / 2 .. on the way to s are the longer ones (anyUp)
 use mathlib.Core.Path.{_≡_, refl, sym, ap, _∙_}
 use mathlib.Core.Logic.{_≢_}
-use mathlib.Core.Bool.{Bool, true, false, cond, not, _||_, true≢false, false≢true}
+use mathlib.Core.Bool.{true, false, not, true≢false, false≢true}
 use Prim.Native.Nat.{ℕ, zero, suc, _+_, _-_, _*_, _/_, _%_, _^_, _≤_, _<_}
 use native.Mathlib.Omega.{arith}
-use native.Mathlib.Nat.{div-one, div-div-eq-div-mul, pow-succ', div-lt-self, div-le-self}
-use lib.Dec.{eqb, leb}
+use native.Mathlib.Nat.{div-one, div-div-eq-div-mul, pow-succ', div-lt-self}
+use lib.Dec.{eqb}
 use lib.Pow.{pow-pos}
-use borrow.Author.Tests.{eq-eqb, ne-eqb, le-leb, lt-leb}
+use borrow.Author.Tests.{ne-eqb, le-leb, lt-leb}
 use Rattle.laws.specs.Cases.{bool, same}
 use Rattle.laws.specs.Tells.{or-true}
 use Rattle.array.specs.Block.{bestOf}

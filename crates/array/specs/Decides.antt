@@ -1,11 +1,10 @@
 -- The check of one block decides what it is asked. Assumes nothing.
-use mathlib.Core.Path.{_≡_, refl, sym, ap, _∙_}
-use mathlib.Core.Logic.{_≢_, _⊎_, inl, inr, ⊎-elim}
-use mathlib.Core.Bool.{Bool, true, false, not, _&&_, true≢false, false≢true}
+use mathlib.Core.Path.{_≡_, sym, _∙_}
+use mathlib.Core.Logic.{_⊎_, inl, inr, ⊎-elim}
+use mathlib.Core.Bool.{Bool, true, false, not, _&&_, true≢false}
 use Prim.Native.Nat.{ℕ, zero, suc, _+_, _-_, _*_, _≤_, _<_}
 use native.Mathlib.Omega.{arith}
 use lib.Dec.{ltb, eqb}
-use borrow.Author.Tests.{eq-eqb}
 use Rattle.laws.specs.Cases.{bool, less, same}
 use Rattle.laws.specs.Tells.{Tells, allB, tells-eq, tells-lt, tells-and, tells-or, tells-all, tells-as, and-from}
 use Rattle.array.specs.Block.{bestOf, Right}

@@ -1,20 +1,20 @@
 -- One slot of a block set, and the cells below it rewritten: the best cells are right again, and the cells that gave way are
 -- those that no longer slot covers. Assumes nothing.
-use mathlib.Core.Path.{_≡_, refl, sym, ap, ap₂, _∙_}
+use mathlib.Core.Path.{_≡_, refl, sym, ap, _∙_}
 use mathlib.Core.Logic.{_≢_, _⊎_, inl, inr, ⊎-elim}
 use mathlib.Core.Bool.{Bool, true, false, cond, not}
 use mathlib.Core.List.{List}
-use Prim.Native.Nat.{ℕ, zero, suc, _+_, _-_, _*_, _/_, _^_, _≤_, _<_}
+use Prim.Native.Nat.{ℕ, zero, suc, _+_, _-_, _*_, _^_, _≤_, _<_}
 use native.Mathlib.Omega.{arith}
 use lib.ListN.{length, getD, set, length-set}
 use lib.Seq.{getD-set-same, getD-set-other}
 use lib.Pow.{pow-mono}
 use Rattle.laws.specs.Cases.{bool, less, same}
-use Rattle.array.specs.Block.{slots, bests, links, bestOf, Right}
+use Rattle.array.specs.Block.{slots, bests, bestOf}
 use Rattle.array.specs.Best.{best-ext}
 use Rattle.array.specs.Cover.{Hops, Climb}
 use Rattle.array.specs.Put.{anyUp, exposed, Spot, Reslotted}
-use Rattle.array.specs.Rewrite.{yieldsB, over, mapCells, yielding, map-length, map-other, map-cell}
+use Rattle.array.specs.Rewrite.{over, mapCells, yielding, map-length, map-other, map-cell}
 use Rattle.array.specs.Change.{yields-is, best-apart, best-below}
 use Rattle.array.specs.Place.{slot-low, slot-high, cells-high, covered, uncovered}
 

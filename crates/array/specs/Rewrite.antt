@@ -1,5 +1,5 @@
 -- Cells rewritten: what the loop over a part of the cells leaves, and how many of them gave way. Assumes nothing.
-use mathlib.Core.Path.{_≡_, refl, sym, ap, _∙_}
+use mathlib.Core.Path.{_≡_, refl, _∙_}
 use mathlib.Core.Logic.{_≢_}
 use mathlib.Core.Bool.{Bool, true, false, cond, _||_}
 use mathlib.Core.List.{List}
@@ -8,7 +8,7 @@ use native.Mathlib.Omega.{arith}
 use lib.Dec.{eqb, leb}
 use lib.ListN.{length, getD, set, length-set}
 use lib.Seq.{getD-set-same, getD-set-other, set-getD}
-use Rattle.laws.specs.Cases.{bool, same}
+use Rattle.laws.specs.Cases.{same}
 use Rattle.array.specs.Block.{bests}
 
 -- a cell whose best is b gives way to a route of length len: it has none, or one that is no longer

@@ -180,15 +180,15 @@ fn rewrite(block: &mut [u32], from: usize, to: usize, len: u32, best: u32) -> u3
     ensures list { λ _. ⌜ now (block .exit) ≡ mapCells (over len best) (now (block .entry)) from (to - from) ⌝ }
     ensures count { λ r. ⌜ r ≡ yielding (now (block .entry)) len from (to - from) ⌝ }
 {
-    let mut n: u32 = 0;
+    let mut cells: u32 = 0;
     for i in from..to {
         let cell = 512 + 2 * i;
         if yields(block[cell], len) {
             block[cell] = best;
-            n += 1;
+            cells += 1;
         }
     }
-    n
+    cells
 }
 
 // Sets a slot to a hop or 0: the cells below it that no longer slot covers take its cover, and are counted.

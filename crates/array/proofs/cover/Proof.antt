@@ -1,8 +1,7 @@
 -- `array::cover` meets its contract. The cover of the slot that the loop stands at is the one asked for: a free slot has the cover of the slot above it. Assumes nothing.
 use mathlib.Core.Path.{_≡_, refl, sym, _∙_}
-use Prim.Native.Nat.{ℕ, _+_, _*_, _-_, _/_, _^_, _≤_, _<_}
+use Prim.Native.Nat.{_^_, _≤_, _<_}
 use native.Mathlib.Omega.{arith}
-use borrow.Author.Needs.{needs}
 use Rattle.array.specs.Block.{slots, bestOf}
 use Rattle.array.specs.Best.{best-some, best-top, best-up}
 use Rattle.array.proofs.Laws.{hop-at, half-low}

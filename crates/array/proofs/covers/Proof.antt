@@ -1,11 +1,11 @@
 -- `array::covers` meets its contract. Whatever slot the loop stands at, the covers of all slots before it are written, so the one above it is. Assumes nothing.
-use mathlib.Core.Path.{_≡_, refl, sym, ap, _∙_}
-use Prim.Native.Nat.{_+_, _-_, _*_, _^_, _≤_, _<_}
+use mathlib.Core.Path.{_≡_, refl, _∙_}
+use Prim.Native.Nat.{_-_, _≤_}
 use native.Mathlib.Omega.{arith}
 use lib.ListN.{length, getD, length-set}
 use lib.Seq.{getD-set-other}
 use Rattle.array.specs.Block.{slots}
-use Rattle.array.specs.Cover.{Covers, Hops, covers-none, covers-more, covers-all}
+use Rattle.array.specs.Cover.{Covers, covers-none, covers-more, covers-all}
 use Rattle.array.proofs.covers.Statement.{statement}
 use Rattle.array.proofs.covers.Tie as tie
 

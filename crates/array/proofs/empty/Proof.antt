@@ -1,5 +1,5 @@
 -- `array::empty` meets its contract. The two parts of `emptyB` in order. Assumes nothing.
-use mathlib.Core.Path.{_≡_, sym, _∙_}
+use mathlib.Core.Path.{sym, _∙_}
 use borrow.Author.Needs.{needs}
 use Rattle.array.proofs.Laws.{empty-slot, empty-link}
 use Rattle.array.proofs.empty.Statement.{statement}

@@ -1,5 +1,5 @@
 -- `array::reslot` meets its contract. The cells below the slot that no longer slot covers take the slot's cover, and those are the ones that give way: `reslotted` and `given-way`. Assumes nothing.
-use mathlib.Core.Path.{_≡_, _∙_}
+use mathlib.Core.Path.{_∙_}
 use borrow.Author.Needs.{needs}
 use lib.ListN.{length-set}
 use Rattle.array.proofs.Laws.{reslot-climbs, reslot-done}

@@ -1,7 +1,7 @@
 -- `array::rewrite` meets its contract. The block is the one at the start with the cells passed rewritten, and the number is that of those that gave way. Assumes nothing.
-use mathlib.Core.Path.{_≡_, refl, sym, ap, _∙_}
+use mathlib.Core.Path.{_≡_, sym, _∙_}
 use mathlib.Core.Logic.{⊎-elim}
-use Prim.Native.Nat.{ℕ, _+_, _*_, _-_, _≤_, _<_}
+use Prim.Native.Nat.{_-_, _≤_}
 use native.Mathlib.Omega.{arith}
 use borrow.Author.Needs.{needs}
 use lib.ListN.{length, length-set}
@@ -10,10 +10,10 @@ use Rattle.array.proofs.rewrite.Statement.{statement}
 use Rattle.array.proofs.rewrite.Tie as tie
 
 abbrev Inv-loop : tie.InvT-loop
-Inv-loop block₀ from to len best n₀ i₀ block n i = (length block ≡ 1024) × (from ≤ i) × (i ≤ to) × (n ≤ i) × (block ≡ mapCells (over len best) block₀ from (i - from)) × (n ≡ yielding block₀ len from (i - from))
+Inv-loop block₀ from to len best cells₀ i₀ block cells i = (length block ≡ 1024) × (from ≤ i) × (i ≤ to) × (cells ≤ i) × (block ≡ mapCells (over len best) block₀ from (i - from)) × (cells ≡ yielding block₀ len from (i - from))
 
 abbrev μ-loop : tie.MeasureT-loop
-μ-loop block₀ from to len best n₀ i₀ block n i = to - i
+μ-loop block₀ from to len best cells₀ i₀ block cells i = to - i
 
 loop-holds : tie.Need-loop-holds Inv-loop μ-loop
 loop-holds c = (omega arith, omega arith, omega arith, omega arith, map-none _ _ _ _, count-none _ _ _)
@@ -39,8 +39,8 @@ mul-block c = omega arith
 slice-write-block : tie.Need-slice-write-block Inv-loop μ-loop
 slice-write-block c = omega arith
 
-add-n : tie.Need-add-n Inv-loop μ-loop
-add-n c = omega arith
+add-cells : tie.Need-add-cells Inv-loop μ-loop
+add-cells c = omega arith
 
 add-i : tie.Need-add-i Inv-loop μ-loop
 add-i c = omega arith
@@ -99,7 +99,7 @@ rewrite-spec =
     yields-requires
     mul-block
     slice-write-block
-    add-n
+    add-cells
     add-i
     loop-less
     loop-again

@@ -1,7 +1,6 @@
 -- `array::right` meets its contract. The three parts of `rightB` in order; the covers are right because the slots were found to be hops. Assumes nothing.
-use mathlib.Core.Path.{_≡_, sym, _∙_}
+use mathlib.Core.Path.{sym, _∙_}
 use mathlib.Core.Logic.{⊎-elim}
-use native.Mathlib.Omega.{arith}
 use borrow.Author.Needs.{needs}
 use borrow.Author.Tests.{not-true, not-false, eqb-true, eqb-false}
 use Rattle.array.proofs.Laws.{right-hops, right-first, right-low, right-none, small-hops}

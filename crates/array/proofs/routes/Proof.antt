@@ -1,7 +1,7 @@
 -- `array::routes` meets its contract. The number so far is that of the slots passed. Assumes nothing.
-use mathlib.Core.Path.{_≡_, refl, sym, ap, _∙_}
+use mathlib.Core.Path.{_≡_, _∙_}
 use mathlib.Core.Logic.{⊎-elim}
-use Prim.Native.Nat.{_+_, _-_, _≤_}
+use Prim.Native.Nat.{_-_, _≤_}
 use native.Mathlib.Omega.{arith}
 use Rattle.array.specs.Block.{slots}
 use Rattle.array.specs.Check.{taken}

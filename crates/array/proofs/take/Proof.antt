@@ -1,5 +1,5 @@
 -- `array::take` meets its contract. A slot is set to 0. Assumes nothing.
-use mathlib.Core.Path.{_≡_, _∙_, ap}
+use mathlib.Core.Path.{ap}
 use borrow.Author.Needs.{needs}
 use Rattle.array.specs.Block.{slots}
 use Rattle.array.proofs.take.Statement.{statement}
