@@ -187,9 +187,9 @@ module _ (L : ℕ) (ws : List ℕ) where
   unfolding tableB
   table-header h e = rw (eq-eqb (getD ws 1024 0) 1 h, e)
 
-  pub table-last : getD ws 1024 0 ≡ 1 → headerB ws ≡ true → allB (λ j. arrayB L ws (j + 1)) (arrayCount ws) ≡ tableB L ws
+  pub table-last : (n : ℕ) → n ≡ arrayCount ws → getD ws 1024 0 ≡ 1 → headerB ws ≡ true → allB (λ j. arrayB L ws (j + 1)) n ≡ tableB L ws
   unfolding tableB
-  table-last h e = rw (eq-eqb (getD ws 1024 0) 1 h, e)
+  table-last n q h e = rw (← q, eq-eqb (getD ws 1024 0) 1 h, e)
 
 pub sized : (ws : List ℕ) → misfits (length ws) ≡ false → Sized ws (length ws / 1024 - 1)
 sized ws e =
@@ -217,11 +217,11 @@ module _ (ws : List ℕ) where
   pub check-foreign : misfits (length ws) ≡ false → tableB 4 ws ≡ false → toldCheck (checked.Refused 2) ≡ checkOn 32 (seen 4 ws)
   check-foreign e b = rw (seen-foreign 4 ws e b)
 
-  pub check-table : misfits (length ws) ≡ false → tableB 4 ws ≡ true → (r : ℕ) → r ≡ takenTo (arraysOf ws) (arrayCount ws)
+  pub check-table : misfits (length ws) ≡ false → tableB 4 ws ≡ true → (n r : ℕ) → n ≡ arrayCount ws → r ≡ takenTo (arraysOf ws) n
       → toldCheck (checked.Counts r (getD ws 0 0)) ≡ checkOn 32 (seen 4 ws)
-  check-table e b r q =
+  check-table e b n r d q =
       let ok = table-tells 4 ws (omega arith) (omega arith) (no-misfit-fits (length ws) e) .to b in
-      let x : r ≡ length (listOf 4 ws) = q ∙ taken-length 4 ws ok in
+      let x : r ≡ length (listOf 4 ws) = q ∙ ap (takenTo (arraysOf ws)) d ∙ taken-length 4 ws ok in
       let y : getD ws 0 0 ≡ need 32 (listOf 4 ws) = table-need 4 ws ok in
       rw (seen-table 4 ws ok) (λ i. gives (record { routes = x i; arrays = y i }))
 

@@ -38,6 +38,14 @@ pub fn misfit(n: usize) -> bool
     n > 4195328
 }
 
+// How many arrays the words hold besides the header.
+fn arrays_in(words: &[u32]) -> usize
+    requires { ⌜ misfits (length (now words)) ≡ false ⌝ }
+    ensures { λ r. ⌜ (r ≡ arrayCount (now (words .entry))) × Sized (now (words .entry)) r ⌝ }
+{
+    words.len() / 1024 - 1
+}
+
 // The n words from `from` on are all 0. No early way out: so the loop reads several words at once.
 fn zeros(words: &[u32], from: usize, n: usize) -> bool
     requires { ⌜ from + n ≤ length (now words) ⌝ }
@@ -233,7 +241,7 @@ pub fn is_table(words: &[u32]) -> bool
     requires { ⌜ misfits (length (now words)) ≡ false ⌝ }
     ensures { λ r. ⌜ r ≡ tableB 4 (now (words .entry)) ⌝ }
 {
-    let n = words.len() / 1024 - 1;
+    let n = arrays_in(words);
     if words[1024] != 1 {
         return false;
     }
@@ -280,9 +288,8 @@ pub fn check(words: &[u32]) -> Checked
     if !is_table(words) {
         return Checked::Refused(2);
     }
-    let n = words.len() / 1024 - 1;
-    let routes = routes_of(words, n);
-    Checked::Counts(routes, words[0])
+    let n = arrays_in(words);
+    Checked::Counts(routes_of(words, n), words[0])
 }
 
 // All words 0.
