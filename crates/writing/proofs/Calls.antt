@@ -71,7 +71,7 @@ module _ (ws b : List ℕ) (r : Counted) (told : toldCount r ≡ countOn (seen 4
       (λ _ _ q. absurd (let d : gives n ≡ refuses 2 = rw q at given in let z : _≡_ {A = ℕ} 0 1 = cc in omega arith))
       (λ _ _ t q. less (length b) (8 * length (listOf 4 ws) + 1)
       (λ _ p. absurd (let d : gives n ≡ refuses 9 = rw p at (rw q at given) in let z : _≡_ {A = ℕ} 0 1 = cc in omega arith))
-      (λ h p. record { asked = record { table = t; room = h }; front = rw (q, p) }))
+      (λ h p. record { asked = record { table = t; room = omega arith }; front = rw (q, p) }))
 
   pub ask-dump : Dumps ws b
   ask-dump = written-out .asked

@@ -1,0 +1,108 @@
+-- How far an address's path goes down the arrays, and what opening the rest of it leaves. Assumes nothing.
+use mathlib.Core.Path.{_≡_, refl, sym, ap, _∙_}
+use mathlib.Core.Logic.{_⊎_, _≢_, inl, inr, ⊎-elim}
+use mathlib.Core.List.{List}
+use Prim.Native.Nat.{ℕ, zero, suc, _+_, _-_, _*_, _/_, _%_, _^_, _≤_, _<_}
+use native.Mathlib.Omega.{arith}
+use lib.ListN.{length, getD}
+use Rattle.laws.specs.Cases.{same}
+use Rattle.array.specs.Block.{Right}
+use Rattle.arrays.specs.Arrays.{Arrays, node, Shape}
+use Rattle.arrays.specs.Tree.{Level, node-level}
+use Rattle.arrays.specs.Need.{node-child}
+use Rattle.arrays.specs.Words.{arraysOf, arrayCount, Almost}
+use Rattle.arrays.specs.Missing.{missing, missing-none, missing-depth}
+use Rattle.paths.specs.Address.{front, byteOf, byte-lt, front-more, front-up}
+use Rattle.paths.specs.Grown.{Grown, Tip, grown-none}
+
+-- b is the array of the first 8 * j bits of a
+pub record On (L : ℕ) (ws : List ℕ) (a j b : ℕ) : Type 0 where
+  pub leads : node (arraysOf ws) (front L a j) j ≡ b
+  pub some : 1 ≤ b
+  pub within : b ≤ arrayCount ws
+
+-- and the deepest down to level k
+pub record Stops (L : ℕ) (ws : List ℕ) (a k j b : ℕ) : Type 0 where
+  pub on : On L ws a j b
+  pub low : j ≤ k
+  pub off : j < k → arraysOf ws .link b (byteOf L a j) ≡ 0
+
+pub on-root : (L : ℕ) (ws : List ℕ) (a : ℕ) → 1 ≤ arrayCount ws → On L ws a 0 1
+unfolding node
+on-root L ws a h = record { leads = refl; some = omega arith; within = h }
+
+module _ (L : ℕ) (ws : List ℕ) (a : ℕ) (s : Shape (arrayCount ws) L (arraysOf ws)) where
+  -- what the link of the next byte leads to
+  next : (j b : ℕ) → On L ws a j b → j < L → node (arraysOf ws) (front L a (suc j)) (suc j) ≡ arraysOf ws .link b (byteOf L a j)
+  next j b o h =
+      ap (λ (q : ℕ). node (arraysOf ws) q (suc j)) (front-more L a j h)
+      ∙ node-child (arraysOf ws) (front L a j) j (byteOf L a j) (byte-lt L a j) (rw (o .leads) (o .some))
+      ∙ ap (λ (c : ℕ). arraysOf ws .link c (byteOf L a j)) (o .leads)
+
+  -- with the byte as the code has it
+  pub on-step : (j b y : ℕ) → On L ws a j b → j < L → y ≡ byteOf L a j → arraysOf ws .link b y ≢ 0 → On L ws a (j + 1) (arraysOf ws .link b y)
+  on-step j b y o h ey n =
+      let e : j + 1 ≡ suc j = omega arith in
+      let d : node (arraysOf ws) (front L a (suc j)) (suc j) ≡ arraysOf ws .link b y = rw ey (next j b o h) in
+      let l = node-level (arrayCount ws) L (arraysOf ws) s (front L a (suc j)) (suc j) (rw d (omega arith)) in
+      rw e (record { leads = d; some = omega arith; within = rw d at (l .within) })
+
+  -- how many arrays are missing
+  pub stops-missing : (k j b : ℕ) → k < L → Stops L ws a k j b → missing (arraysOf ws) (front L a k) k ≡ k - j
+  stops-missing k j b h p =
+      same j k
+      (λ e _. (let d : k - j ≡ 0 = omega arith in
+      let o : node (arraysOf ws) (front L a k) k ≡ b = rw e at (p .on .leads) in
+      rw d (missing-none (arrayCount ws) L (arraysOf ws) s k (front L a k) (rw o (p .on .some)))))
+      (λ n _. (let m = k - suc j in
+      let lt : j < k = omega (arith, p .low) in
+      let e : m + suc j ≡ k = omega arith in
+      let d : k - j ≡ suc m = omega arith in
+      let x : 1 ≤ node (arraysOf ws) (front L a k / 2 ^ (8 * suc m)) j = rw (front-up L a (suc m) j k (omega arith) (omega arith), p .on .leads) (p .on .some) in
+      let y : node (arraysOf ws) (front L a k / 2 ^ (8 * m)) (suc j) ≡ 0 = rw (front-up L a m (suc j) k e (omega arith)) (next j b (p .on) (omega arith) ∙ p .off lt) in
+      rw d (ap (missing (arraysOf ws) (front L a k)) (sym e) ∙ missing-depth (arrayCount ws) L (arraysOf ws) s m j (front L a k) x y)))
+
+  -- a path that stops short has no array of level k
+  pub stops-short : (k j b : ℕ) → k < L → Stops L ws a k j b → j ≢ k → node (arraysOf ws) (front L a k) k ≡ 0
+  stops-short k j b h p n =
+      same (node (arraysOf ws) (front L a k) k) 0 (λ q _. q)
+      (λ q _. absurd (n (omega (arith, stops-missing k j b h p, missing-none (arrayCount ws) L (arraysOf ws) s k (front L a k) (omega arith), p .low))))
+
+-- ---- the path opened down to level k: r is the array there, or 0 where there is no room
+
+pub record Opened (L : ℕ) (ws vs : List ℕ) (a k r : ℕ) : Type 0 where
+  pub none : r ≡ 0 → (vs ≡ ws) × (arrayCount ws < getD ws 0 0 + missing (arraysOf ws) (front L a k) k)
+  pub some : r ≢ 0 → Grown L ws vs (missing (arraysOf ws) (front L a k) k) (front L a k) k r
+
+module _ (L : ℕ) (ws : List ℕ) (a k j b : ℕ) (ok : Almost Right L 0 ws) (h : k < L) (p : Stops L ws a k j b) where
+  miss : missing (arraysOf ws) (front L a k) k ≡ k - j
+  miss = stops-missing L ws a (ok .shape) k j b h p
+
+  -- any array may be empty
+  weaken : Almost Right L b ws
+  weaken = record {
+    whole = ok .whole;
+    low = ok .low;
+    high = ok .high;
+    shape = ok .shape;
+    filled = λ c l w n q. ok .filled c l w (λ e. omega arith) q;
+    blank = ok .blank;
+    right = ok .right;
+    header = ok .header;
+    rest = ok .rest;
+  }
+
+  pub opened-there : j ≡ k → Opened L ws ws a k b
+  opened-there e = record {
+    none = λ z. absurd (omega (arith, p .on .some));
+    some = λ n. rw miss (let d : k - j ≡ 0 = omega arith in rw d (grown-none L ws (front L a k) k b weaken (p .on .some) (rw e at (p .on .leads))));
+  }
+
+  pub opened-full : arrayCount ws < getD ws 0 0 + (k - j) → Opened L ws ws a k 0
+  opened-full q = record { none = λ z. (refl, rw miss q); some = λ n. absurd (n refl) }
+
+  pub opened-tip : j < k → Tip L ws (front L a j) j b (byteOf L a j)
+  opened-tip l = record { ok = weaken; some = p .on .some; leads = p .on .leads; cells = byte-lt L a j; off = p .off l }
+
+  pub opened-grown : (vs : List ℕ) (r : ℕ) → Grown L ws vs (k - j) (front L a k) k r → Opened L ws vs a k r
+  opened-grown vs r g = record { none = λ z. absurd (omega (arith, g .some)); some = λ n. rw miss g }
