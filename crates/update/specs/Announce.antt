@@ -1,0 +1,131 @@
+-- An announcement to a table: each of its answers is the list's, and a table is left that stands for the list with the route.
+-- Assumes nothing.
+use mathlib.Core.Path.{_≡_, refl, sym, ap, ap₂, _∙_}
+use mathlib.Core.Logic.{_⊎_, _≢_, inl, inr, ⊎-elim}
+use mathlib.Core.Bool.{Bool, true, false, cond, not, false≢true}
+use mathlib.Core.List.{List}
+use Prim.Native.Nat.{ℕ, zero, suc, _+_, _-_, _*_, _/_, _%_, _^_, _≤_, _<_}
+use native.Mathlib.Omega.{arith}
+use lib.Dec.{eqb, ltb}
+use lib.ListN.{length, getD}
+use lib.Pow.{pow-pos, pow-add, pow-mono}
+use borrow.Author.Tests.{eq-eqb, ne-eqb, lt-ltb, le-ltb}
+use Rattle.routes.specs.Route.{Route, route, insert}
+use Rattle.routes.specs.Route as list
+use Rattle.routes.specs.Room.{needTo, need}
+use Rattle.routes.specs.Cells.{cells}
+use Rattle.routes.specs.Answers.{Update, announce, Reply, done, refused, refuse, verdict}
+use Rattle.laws.specs.Collect.{routes, routeOf}
+use Rattle.array.specs.Block.{Right}
+use Rattle.arrays.specs.Arrays.{Arrays, node, held, lev, Shape, HasSlot, HasLink}
+use Rattle.arrays.specs.Words.{arraysOf, arrayCount, slotsOf, Almost}
+use Rattle.arrays.specs.Table.{Table, listOf}
+use Rattle.arrays.specs.Tree.{Level, node-level}
+use Rattle.arrays.specs.Slot.{Place, slotted-insert}
+use Rattle.arrays.specs.Block.{reslot-slotted, reslot-almost, almost-whole}
+use Rattle.arrays.specs.Best.{best-local}
+use Rattle.arrays.specs.Stock.{count-need, used-full}
+use Rattle.arrays.specs.Missing.{missing, need-more}
+use Rattle.paths.specs.Address.{front}
+use Rattle.paths.specs.Grown.{Grown}
+use Rattle.paths.specs.Stop.{Opened}
+use Rattle.paths.specs.Held.{stands-head, stands-small, stands-place, stands-route, hopFound, Sought, sought-held}
+use Rattle.update.specs.declared.Updated.the-variants.{Done, Refused}
+use Rattle.update.specs.Update.{Applies}
+use Rattle.update.specs.Seat.{Seat, Seated, seat-at}
+use Rattle.update.specs.Cells.{cells-exposed}
+
+-- a refusal leaves the words
+pub refuses : (L : ℕ) (ws : List ℕ) (u : Update) (n : ℕ) → Table L ws → refused n ≡ verdict (8 * L) (arrayCount ws) (listOf L ws) u → Applies L ws ws u (Refused n)
+refuses L ws u n ok e = record { answer = e; table = ok; size = refl; list = refl; kept = λ _. refl }
+
+-- what is held alike is one list
+pub same-list : (W : ℕ) (f g : ℕ → ℕ → ℕ) → ((v l : ℕ) → f v l ≡ g v l) → routes W f ≡ routes W g
+same-list W f g e = ap (routes W) (λ i v l. e v l i)
+
+node-root : (t : Arrays) (v : ℕ) → node t v 0 ≡ 1
+unfolding node
+node-root t v = refl
+
+-- the header's count is the need of the list
+count-of : (L : ℕ) (ws : List ℕ) → Table L ws → getD ws 0 0 ≡ needTo (8 * L) (L - 1) (listOf L ws)
+count-of zero ws ok = absurd (omega (arith, ok .shape .some-level))
+count-of (suc J) ws ok = let e : suc J - 1 ≡ J = omega arith in rw e (count-need Right J ws ok)
+
+module _ {L : ℕ} {ws : List ℕ} {a l k d x j b : ℕ} (s : Sought L ws a l k d x j b) (h : ℕ) where
+  -- 6: the prefix is held
+  pub announce-held : hopFound ws b j k d x ≢ 0 → Applies L ws ws (announce a l h) (Refused 6)
+  announce-held n = refuses L ws (announce a l h) 6 (s .ok) (rw (ne-eqb (list.held (listOf L ws) a l) 0 (λ z. n (sought-held s ∙ z))))
+
+  module _ (free : hopFound ws b j k d x ≡ 0) (hop : 1 ≤ h) where
+    same-route : routeOf (8 * L - (8 * k + d)) (front L a k * 2 ^ d + x) (8 * k + d) h ≡ route a l h
+    same-route = stands-route L a l k d x (s .stands) (s .prefix) (s .inside) h
+
+    -- the list with the route needs the arrays that the path lacks besides those used
+    needs : need (8 * L) (insert (route a l h) (listOf L ws)) ≡ getD ws 0 0 + missing (arraysOf ws) (front L a k) k
+    needs =
+        let e : 8 * L / 8 - 1 ≡ L - 1 = omega arith in
+        ap₂ (λ (n : ℕ) (r : Route). needTo (8 * L) n (insert r (listOf L ws))) e (sym same-route)
+        ∙ need-more (arrayCount ws) L (arraysOf ws) (s .ok .shape) (s .ok .filled) (front L a k) k d x h (s .stands .deep) (s .stands .own) (s .stands .top)
+        (stands-head L a l k d x (s .stands) (s .prefix) (s .inside)) (stands-small L a l k d x (s .stands) (s .prefix) (s .inside)) (L - 1) (omega (arith, s .ok .shape .some-level)) hop
+        ∙ ap (λ (n : ℕ). n + missing (arraysOf ws) (front L a k) k) (sym (count-of L ws (s .ok)))
+
+    not-held : not (eqb (list.held (listOf L ws) a l) 0) ≡ false
+    not-held = rw (eq-eqb (list.held (listOf L ws) a l) 0 (sym (sought-held s) ∙ free))
+
+    module _ (vs : List ℕ) (r : ℕ) (o : Opened L ws vs a k r) where
+      -- 8: there is no room
+      pub announce-full : r ≡ 0 → Applies L ws vs (announce a l h) (Refused 8)
+      announce-full z =
+          let w = o .none z in
+          rw (w .0) (refuses L ws (announce a l h) 8 (s .ok) (rw (not-held, needs, lt-ltb (arrayCount ws) (getD ws 0 0 + missing (arraysOf ws) (front L a k) k) (w .1))))
+
+      -- the path is open, and its last array has a seat for the route
+      module _ (some : r ≢ 0) where
+        g : Grown L ws vs (missing (arraysOf ws) (front L a k) k) (front L a k) k r
+        g = o .some some
+
+        place : Place (arrayCount vs) L (arraysOf vs) r (front L a k) k d x
+        place = stands-place L a l k d x (s .stands) (s .prefix) (s .inside) (arrayCount vs) (arraysOf vs) r (g .leads) (g .some)
+
+        pub announce-seat : L ≤ 16 → Seat vs r k d x
+        announce-seat w = seat-at L r vs r (front L a k) k d x (g .ok) w (s .stands .top) place
+
+        same-before : listOf L vs ≡ listOf L ws
+        same-before = same-list (8 * L) (held (arraysOf vs)) (held (arraysOf ws)) (g .held)
+
+        lv : Level (arrayCount vs) (arraysOf vs) r k
+        lv = rw (g .leads) at (node-level (arrayCount vs) L (arraysOf vs) (g .ok .shape) (front L a k) k (rw (g .leads) (g .some)))
+
+        room : need (8 * L) (insert (route a l h) (listOf L ws)) ≤ arrayCount ws
+        room =
+            let e : arrayCount vs ≡ arrayCount ws = ap (λ (z : ℕ). z / 1024 - 1) (g .size) in
+            omega (arith, needs, g .count, g .ok .header .count, used-full (arraysOf vs) 0 (arrayCount vs))
+
+        module _ (us : List ℕ) (c : ℕ) (p : Seated vs us r d x h c) where
+          -- the array is not empty
+          filled : 2 ≤ r → HasSlot (arraysOf us) r ⊎ HasLink (arraysOf us) r
+          filled two =
+              let lo : 1 ≤ d = ⊎-elim (λ (z : 1 ≤ d). z) (λ (z : k ≡ 0). absurd (omega (arith, sym (g .leads) ∙ ap (node (arraysOf vs) (front L a k)) z ∙ node-root (arraysOf vs) (front L a k)))) (s .stands .own) in
+              inl (record { s = 2 ^ d + x; low = omega (arith, pow-mono {i = 1} {j = d} lo); high = omega (arith, place .small, pow-mono {i = d} {j = 8} (place .deep)); some = rw (p .slot .here) hop })
+
+          almost : Almost Right L r us
+          almost = reslot-almost Right best-local L r vs us r (2 ^ d + x) h (g .some) (p .slot) (g .ok) (inr refl) (omega (arith, lv .level))
+
+          pub announce-done : Applies L ws us (announce a l h) (Done h c)
+          announce-done = record {
+            answer =
+                rw (not-held, le-ltb (arrayCount ws) (need (8 * L) (insert (route a l h) (listOf L ws))) room)
+                (ap (done h) (p .count ∙ cells-exposed L (arraysOf vs) r (front L a k) k wide (s .stands .top) (g .leads) (g .some) (place .head) d x h (place .deep) (place .own) (place .small)
+                ∙ ap₂ (cells (8 * L)) same-route same-before));
+            table = almost-whole Right L r us almost filled;
+            size = p .slot .size ∙ g .size;
+            list =
+                slotted-insert (arrayCount vs) L (arraysOf vs) (arraysOf us) r (front L a k) k d x h (g .ok .shape) place
+                (reslot-slotted Right best-local L r vs us r (2 ^ d + x) h (g .some) (p .slot)) (8 * L) wide (omega (arith, s .stands .top, s .stands .deep)) hop
+                ∙ ap₂ insert same-route same-before;
+            kept = λ e. absurd (false≢true e);
+          }
+            where
+              wide : 8 * L < 256
+              wide = omega (arith, s .ok .shape .levels)

@@ -1,0 +1,6 @@
+pub mod Cells
+pub mod Update
+pub mod Seat
+pub mod Announce
+pub mod Withdraw
+pub mod Refuse

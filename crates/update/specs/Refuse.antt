@@ -1,0 +1,100 @@
+-- The refusals that come before the work, in document 01's order, and the work's promise as that of the whole call. Assumes nothing.
+use mathlib.Core.Path.{_≡_, refl, sym, ap, ap₂, _∙_}
+use mathlib.Core.Logic.{_⊎_, _≢_}
+use mathlib.Core.Bool.{Bool, true, false, cond, not, _||_, true≢false}
+use mathlib.Core.List.{List}
+use Prim.Native.Nat.{ℕ, zero, suc, _+_, _-_, _*_, _/_, _%_, _^_, _≤_, _<_}
+use native.Mathlib.Omega.{arith}
+use lib.Dec.{ltb, eqb}
+use lib.ListN.{length}
+use borrow.Author.Tests.{eq-eqb, ne-eqb, eqb-true, lt-ltb, le-ltb}
+use Rattle.laws.specs.Cases.{bool, less, same}
+use Rattle.routes.specs.Route.{tooLong, stray, badHop}
+use Rattle.routes.specs.Answers.{Update, announce, withdraw, Reply, refused, refuse, faulty, verdict, answer, isDone}
+use Rattle.routes.specs.Seen.{Seen, misfit, foreign, table, misfits, answerOn, afterOn}
+use Rattle.arrays.specs.Words.{arrayCount}
+use Rattle.arrays.specs.Table.{Table, tableB, listOf, seen}
+use Rattle.arrays.specs.View.{no-misfit-fits, seen-misfit, seen-foreign, seen-table, seen-cases}
+use Rattle.arrays.specs.Decides.{table-tells}
+use Rattle.paths.specs.Address.{IsPrefix}
+use Rattle.update.specs.declared.Updated.{Updated}
+use Rattle.update.specs.declared.Updated.the-variants.{Refused}
+use Rattle.update.specs.Update.{told, faultOf, Updates, Applies}
+
+-- a refusal that leaves the words
+refuses : (ws : List ℕ) (u : Update) (n : ℕ) → answerOn 32 (seen 4 ws) u ≡ refused n → Updates ws ws u (Refused n)
+refuses ws u n e = record { answer = sym e; list = stays (seen 4 ws) e; kept = λ _. refl }
+  where
+    stays : (s : Seen) → answerOn 32 s u ≡ refused n → s ≡ afterOn 32 s u
+    stays misfit e = refl
+    stays foreign e = refl
+    stays (table A rs) e = rw e
+
+-- 1
+pub refuses-size : (ws : List ℕ) (u : Update) → misfits (length ws) ≡ true → Updates ws ws u (Refused 1)
+refuses-size ws u e = refuses ws u 1 (rw (seen-misfit 4 ws e))
+
+-- 3, 4, 5
+pub faulty-by : (W : ℕ) (u : Update) (r : Reply) → faulty W u r ≡ cond (eqb (faultOf W u) 0) r (refused (faultOf W u))
+faulty-by W (announce a l h) r =
+    bool (tooLong W l) (λ e. rw e) (λ e. rw e (bool (stray W a l) (λ f. rw f) (λ f. rw f (bool (badHop h) (λ g. rw g) (λ g. rw g)))))
+faulty-by W (withdraw a l) r =
+    bool (tooLong W l) (λ e. rw e) (λ e. rw e (bool (stray W a l) (λ f. rw f) (λ f. rw f)))
+
+-- the prefix first, then the hop
+pub fault-prefix : (W a l h n : ℕ) → n ≡ faultOf W (withdraw a l) → n ≢ 0 → n ≡ faultOf W (announce a l h)
+fault-prefix W a l h n e z =
+    bool (tooLong W l) (λ t. rw t (rw t at e)) (λ t. bool (stray W a l) (λ f. rw (t, f) (rw (t, f) at e)) (λ f. absurd (z (rw (t, f) at e))))
+
+pub fault-hop : (W a l h n : ℕ) → faultOf W (withdraw a l) ≡ 0 → n ≡ cond (badHop h) 5 0 → n ≡ faultOf W (announce a l h)
+fault-hop W a l h n e q =
+    bool (tooLong W l) (λ t. absurd (omega (arith, rw t at e))) (λ t. bool (stray W a l) (λ f. absurd (omega (arith, rw (t, f) at e))) (λ f. rw (t, f) q))
+
+pub refuses-fault : (ws : List ℕ) (u : Update) (n : ℕ) → misfits (length ws) ≡ false → n ≡ faultOf 32 u → n ≢ 0 → Updates ws ws u (Refused n)
+unfolding answer
+refuses-fault ws u n e f z =
+    let any : (r : Reply) → faulty 32 u r ≡ refused n = λ r. faulty-by 32 u r ∙ rw (← f, ne-eqb n 0 z) in
+    refuses ws u n
+    (seen-cases 4 ws (omega arith) (omega arith)
+    (λ m _. absurd (true≢false (sym m ∙ e)))
+    (λ _ _ s. rw s (any (refused 2)))
+    (λ _ _ _ s. rw s (any (verdict 32 (arrayCount ws) (listOf 4 ws) u))))
+
+-- 2
+pub refuses-foreign : (ws : List ℕ) (u : Update) → misfits (length ws) ≡ false → faultOf 32 u ≡ 0 → tableB 4 ws ≡ false → Updates ws ws u (Refused 2)
+refuses-foreign ws u e f b = refuses ws u 2 (rw (seen-foreign 4 ws e b) (faulty-by 32 u (refused 2) ∙ rw f))
+
+-- ---- the work
+
+pub is-table : (ws : List ℕ) → misfits (length ws) ≡ false → tableB 4 ws ≡ true → Table 4 ws
+is-table ws e b = table-tells 4 ws (omega arith) (omega arith) (no-misfit-fits (length ws) e) .to b
+
+-- no fault, and what that says
+pub sound-prefix : (a l : ℕ) → faultOf 32 (withdraw a l) ≡ 0 → IsPrefix 4 a l
+sound-prefix a l e =
+    less 32 l (λ _ t. absurd (omega (arith, rw t at e)))
+    (λ h t. same (a % 2 ^ (32 - l)) 0 (λ q _. record { fits = h; clean = q }) (λ _ f. absurd (omega (arith, rw (t, f) at e))))
+
+hop-low : (h : ℕ) → badHop h ≡ false → 1 ≤ h
+hop-low h e = same h 0 (λ _ t. absurd (true≢false (rw t at e))) (λ n _. omega arith)
+
+hop-high : (h : ℕ) → badHop h ≡ false → h ≤ 65535
+hop-high h e = same h 0 (λ z _. omega arith) (λ _ t. less 65535 h (λ _ f. absurd (true≢false (rw (t, f) at e))) (λ w _. w))
+
+pub sound-route : (a l h : ℕ) → faultOf 32 (announce a l h) ≡ 0 → IsPrefix 4 a l × (1 ≤ h) × (h ≤ 65535)
+sound-route a l h e =
+    less 32 l (λ _ t. absurd (omega (arith, rw t at e)))
+    (λ w t. same (a % 2 ^ (32 - l)) 0
+    (λ q f. bool (badHop h) (λ g. absurd (omega (arith, rw (t, f, g) at e))) (λ g. (record { fits = w; clean = q }, hop-low h g, hop-high h g)))
+    (λ _ f. absurd (omega (arith, rw (t, f) at e))))
+
+pub applied : (ws vs : List ℕ) (u : Update) (r : Updated) → Table 4 ws → faultOf 32 u ≡ 0 → Applies 4 ws vs u r → Updates ws vs u r
+unfolding answer
+applied ws vs u r t f p = record {
+  answer = rw (seen-table 4 ws t) (p .answer ∙ sym none);
+  list = rw (seen-table 4 vs (p .table), seen-table 4 ws t, none) (ap₂ table (ap (λ (n : ℕ). n / 1024 - 1) (p .size)) (p .list ∙ rw (p .answer)));
+  kept = p .kept;
+}
+  where
+    none : faulty 32 u (verdict 32 (arrayCount ws) (listOf 4 ws) u) ≡ verdict 32 (arrayCount ws) (listOf 4 ws) u
+    none = faulty-by 32 u (verdict 32 (arrayCount ws) (listOf 4 ws) u) ∙ rw f

@@ -1,0 +1,142 @@
+-- A slot of one array of the words, as the floor of one block has it: what that floor asks, and what its promise says of the words.
+-- Assumes nothing.
+use mathlib.Core.Path.{_≡_, refl, sym, ap, ap₂, _∙_}
+use mathlib.Core.Logic.{_⊎_, _≢_, inl, inr, ⊎-elim}
+use mathlib.Core.Bool.{Bool, cond, not, _||_}
+use mathlib.Core.List.{List}
+use Prim.Native.Nat.{ℕ, zero, suc, _+_, _-_, _*_, _/_, _%_, _^_, _≤_, _<_}
+use native.Mathlib.Nat.{mul-le-mul-right}
+use native.Mathlib.Omega.{arith}
+use lib.Dec.{eqb}
+use lib.ListN.{length, getD}
+use lib.Pow.{pow-pos, pow-add, pow-mono}
+use Rattle.array.specs.Block.{slots, bests, links, Right}
+use Rattle.array.specs.Put.{anyUp, exposed, Spot, Reslotted}
+use Rattle.arrays.specs.Arrays.{Arrays, lev}
+use Rattle.arrays.specs.Words.{arraysOf, arrayCount, slotsOf, bestsOf, Almost}
+use Rattle.arrays.specs.Rehang.{Local}
+use Rattle.arrays.specs.Best.{best-local}
+use Rattle.arrays.specs.Tree.{Level, node-level}
+use Rattle.arrays.specs.Slot.{Place}
+use Rattle.arrays.specs.Block.{Reslot}
+use Rattle.array.specs.Frame.{blockOf, withBlock, block-word, block-length, with-length, with-in, with-other}
+
+-- array a, of level k, is right, and has a slot of length d and value x
+pub record Seat (ws : List ℕ) (a k d x : ℕ) : Type 0 where
+  pub inside : 1024 * (a + 1) ≤ length ws
+  pub level : lev (arraysOf ws) a ≡ k + 1
+  pub high : k < 16
+  pub deep : d ≤ 8
+  pub small : x < 2 ^ d
+  pub own : (1 ≤ d) ⊎ (k ≡ 0)
+  pub right : Right (k + 1) (slotsOf ws a) (bestsOf ws a)
+
+-- of a table but for one array
+pub seat-at : (L e : ℕ) (ws : List ℕ) (a q k d x : ℕ) → Almost Right L e ws → L ≤ 16 → k < L → Place (arrayCount ws) L (arraysOf ws) a q k d x → Seat ws a k d x
+seat-at L e ws a q k d x ok h w p =
+    let lv = rw (p .leads) at (node-level (arrayCount ws) L (arraysOf ws) (ok .shape) q k (rw (p .leads) (p .array))) in
+    record {
+      inside = omega (arith, ok .whole, ok .low, lv .within);
+      level = lv .level;
+      high = omega arith;
+      deep = p .deep;
+      small = p .small;
+      own = p .own;
+      right = rw (lv .level) at (ok .right a (p .array) (lv .within) (omega (arith, lv .level)));
+    }
+
+-- ---- the block's slots, best cells and links are the array's
+
+module _ (ws : List ℕ) (a : ℕ) where
+  block-slot : (s : ℕ) → s < 512 → slots (blockOf ws a) s ≡ slotsOf ws a s
+  block-slot s h = block-word ws a s (omega arith)
+
+  block-best : (i : ℕ) → i < 256 → bests (blockOf ws a) i ≡ bestsOf ws a i
+  block-best i h = let e : 1024 * a + (512 + 2 * i) ≡ 1024 * a + 512 + 2 * i = omega arith in block-word ws a (512 + 2 * i) (omega arith) ∙ ap (λ (n : ℕ). getD ws n 0) e
+
+  block-link : (i : ℕ) → i < 256 → links (blockOf ws a) i ≡ arraysOf ws .link a i
+  block-link i h = let e : 1024 * a + (513 + 2 * i) ≡ 1024 * a + 513 + 2 * i = omega arith in block-word ws a (513 + 2 * i) (omega arith) ∙ ap (λ (n : ℕ). getD ws n 0) e
+
+any-ext : (f g : ℕ → ℕ) → ((s : ℕ) → s < 512 → f s ≡ g s) → (n s : ℕ) → s < 512 → anyUp f s n ≡ anyUp g s n
+unfolding anyUp
+any-ext f g e zero s h = refl
+any-ext f g e (suc n) s h = rw (e s h, any-ext f g e n (s / 2) (omega arith))
+
+exposed-ext : (f g : ℕ → ℕ) → ((s : ℕ) → s < 512 → f s ≡ g s) → (d i n : ℕ) → i + n ≤ 256 → exposed f d i n ≡ exposed g d i n
+unfolding exposed
+exposed-ext f g e d i zero h = refl
+exposed-ext f g e d i (suc n) h = rw (any-ext f g e (8 - d) (256 + (i + n)) (omega arith), exposed-ext f g e d i n (omega arith))
+
+-- ---- what the floor of one block asks and gives
+
+module _ (ws : List ℕ) (a k d x : ℕ) (s : Seat ws a k d x) where
+  pub seat-spot : Spot (k + 1) (blockOf ws a) d x
+  seat-spot = record {
+    block = block-length ws a (s .inside);
+    low = omega arith;
+    high = omega (arith, s .high);
+    depth = s .deep;
+    value = s .small;
+    own = ⊎-elim (λ (z : 1 ≤ d). inl z) (λ (z : k ≡ 0). inr (omega arith)) (s .own);
+    right = best-local .ext (k + 1) (slotsOf ws a) (bestsOf ws a) (slots (blockOf ws a)) (bests (blockOf ws a)) (λ r l h. block-slot ws a r h) (block-best ws a) (s .right);
+  }
+
+  slot-lt : 2 ^ d + x < 512
+  slot-lt = omega (arith, s .small, pow-mono {i = d} {j = 8} (s .deep))
+
+  pub seat-slot : slots (blockOf ws a) (2 ^ d + x) ≡ slotsOf ws a (2 ^ d + x)
+  seat-slot = block-slot ws a (2 ^ d + x) slot-lt
+
+  pub seat-exposed : exposed (slots (blockOf ws a)) d (x * 2 ^ (8 - d)) (2 ^ (8 - d)) ≡ exposed (slotsOf ws a) d (x * 2 ^ (8 - d)) (2 ^ (8 - d))
+  seat-exposed = exposed-ext (slots (blockOf ws a)) (slotsOf ws a) (block-slot ws a) d (x * 2 ^ (8 - d)) (2 ^ (8 - d)) fits
+    where
+      fits : x * 2 ^ (8 - d) + 2 ^ (8 - d) ≤ 256
+      fits =
+          let e : d + (8 - d) ≡ 8 = omega (arith, s .deep) in
+          let p : 2 ^ d * 2 ^ (8 - d) ≡ 256 = sym (pow-add 2 d (8 - d)) ∙ ap (λ (n : ℕ). 2 ^ n) e in
+          omega (arith, mul-le-mul-right (2 ^ (8 - d)) (s .small))
+
+  pub seat-reslot : (m : List ℕ) (h : ℕ) → Reslotted (k + 1) (blockOf ws a) m (2 ^ d + x) h → Reslot Right ws (withBlock ws a m) a (2 ^ d + x) h
+  seat-reslot m h g = record {
+    size = with-length ws a m (s .inside) whole;
+    outside = with-other ws a m (s .inside) whole;
+    tag = tag;
+    links = λ i w. link i w ∙ g .same-links i w ∙ block-link ws a i w;
+    here = slot (2 ^ d + x) slot-lt ∙ g .here;
+    slots = λ r l w n. slot r w ∙ g .same-slots r l w n ∙ block-slot ws a r w;
+    right = rw lv (best-local .ext (k + 1) (slots m) (bests m) (slotsOf (withBlock ws a m) a) (bestsOf (withBlock ws a m) a) (λ r l w. slot r w) best (g .right));
+  }
+    where
+      whole : length m ≡ 1024
+      whole = g .size ∙ block-length ws a (s .inside)
+
+      word : (i : ℕ) → i < 1024 → getD (withBlock ws a m) (1024 * a + i) 0 ≡ getD m i 0
+      word = with-in ws a m (s .inside) whole
+
+      tag : getD (withBlock ws a m) (1024 * a) 0 ≡ getD ws (1024 * a) 0
+      tag =
+          let e : 1024 * a ≡ 1024 * a + 0 = omega arith in
+          ap (λ (n : ℕ). getD (withBlock ws a m) n 0) e ∙ word 0 (omega arith) ∙ g .tag ∙ block-word ws a 0 (omega arith) ∙ ap (λ (n : ℕ). getD ws n 0) (sym e)
+
+      slot : (r : ℕ) → r < 512 → slotsOf (withBlock ws a m) a r ≡ slots m r
+      slot r w = word r (omega arith)
+
+      best : (i : ℕ) → i < 256 → bestsOf (withBlock ws a m) a i ≡ bests m i
+      best i w = let e : 1024 * a + 512 + 2 * i ≡ 1024 * a + (512 + 2 * i) = omega arith in rw e (word (512 + 2 * i) (omega arith))
+
+      link : (i : ℕ) → i < 256 → arraysOf (withBlock ws a m) .link a i ≡ links m i
+      link i w = let e : 1024 * a + 513 + 2 * i ≡ 1024 * a + (513 + 2 * i) = omega arith in rw e (word (513 + 2 * i) (omega arith))
+
+      lv : lev (arraysOf (withBlock ws a m)) a ≡ k + 1
+      lv = ap (λ (n : ℕ). n % 32) tag ∙ s .level
+
+-- ---- a seat set to a hop, or to 0: vs is ws but for that slot and the array's best cells, and so many cells were rewritten
+
+pub record Seated (ws vs : List ℕ) (a d x hop cells : ℕ) : Type 0 where
+  pub slot : Reslot Right ws vs a (2 ^ d + x) hop
+  pub count : cells ≡ exposed (slotsOf ws a) d (x * 2 ^ (8 - d)) (2 ^ (8 - d))
+
+-- with the words as the code has them
+pub seated : (ws vs m : List ℕ) (a k d x hop cells : ℕ) → Seat ws a k d x → Reslotted (k + 1) (blockOf ws a) m (2 ^ d + x) hop
+    → cells ≡ exposed (slots (blockOf ws a)) d (x * 2 ^ (8 - d)) (2 ^ (8 - d)) → vs ≡ withBlock ws a m → Seated ws vs a d x hop cells
+seated ws vs m a k d x hop cells s g c e = rw e (record { slot = seat-reslot ws a k d x s m hop g; count = c ∙ seat-exposed ws a k d x s })

@@ -1,0 +1,40 @@
+-- What announce and withdraw promise. An answer is a reply of document 01; the words are seen before and after; what is refused changes
+-- nothing. Assumes nothing.
+use mathlib.Core.Path.{_≡_}
+use mathlib.Core.Bool.{Bool, true, false, cond}
+use mathlib.Core.List.{List}
+use Prim.Native.Nat.{ℕ, _+_, _-_, _*_, _%_, _^_, _≤_, _<_}
+use lib.ListN.{length}
+use Rattle.routes.specs.Route.{tooLong, stray, badHop}
+use Rattle.routes.specs.Answers.{Update, announce, withdraw, Reply, done, refused, isDone, isRefused, changed, verdict}
+use Rattle.routes.specs.Seen.{answerOn, afterOn}
+use Rattle.arrays.specs.Words.{arrayCount}
+use Rattle.arrays.specs.Table.{Table, listOf, seen}
+use Rattle.update.specs.declared.Updated.{Updated}
+use Rattle.update.specs.declared.Updated.the-variants.{Done, Refused}
+
+-- an answer as document 01 has it
+abbrev pub told : Updated → Reply
+told (Done hop cells) = done hop cells
+told (Refused number) = refused number
+
+-- any words ws become vs
+pub record Updates (ws vs : List ℕ) (u : Update) (r : Updated) : Type 0 where
+  pub answer : told r ≡ answerOn 32 (seen 4 ws) u
+  pub list : seen 4 vs ≡ afterOn 32 (seen 4 ws) u
+  pub kept : isRefused (told r) ≡ true → vs ≡ ws
+
+-- ---- the same of a table, once the update itself is without fault
+
+-- a table ws of L levels becomes vs
+pub record Applies (L : ℕ) (ws vs : List ℕ) (u : Update) (r : Updated) : Type 0 where
+  pub answer : told r ≡ verdict (8 * L) (arrayCount ws) (listOf L ws) u
+  pub table : Table L vs
+  pub size : length vs ≡ length ws
+  pub list : listOf L vs ≡ cond (isDone (told r)) (changed u (listOf L ws)) (listOf L ws)
+  pub kept : isRefused (told r) ≡ true → vs ≡ ws
+
+-- the number of the first fault of an update itself, 0 where it has none
+abbrev pub faultOf : ℕ → Update → ℕ
+faultOf W (announce a l h) = cond (tooLong W l) 3 (cond (stray W a l) 4 (cond (badHop h) 5 0))
+faultOf W (withdraw a l) = cond (tooLong W l) 3 (cond (stray W a l) 4 0)

@@ -1,0 +1,96 @@
+-- A withdrawal from a table: each of its answers is the list's, and a table is left that stands for the list without the route.
+-- Assumes nothing.
+use mathlib.Core.Path.{_≡_, refl, sym, ap, ap₂, _∙_}
+use mathlib.Core.Logic.{_⊎_, _≢_, inl, inr, ⊎-elim}
+use mathlib.Core.Bool.{Bool, true, false, cond, not, false≢true}
+use mathlib.Core.List.{List}
+use Prim.Native.Nat.{ℕ, zero, suc, _+_, _-_, _*_, _/_, _%_, _^_, _≤_, _<_}
+use native.Mathlib.Omega.{arith}
+use lib.Dec.{eqb, ltb}
+use lib.ListN.{length, getD}
+use borrow.Author.Tests.{eq-eqb, ne-eqb}
+use Rattle.laws.specs.Cases.{same}
+use Rattle.routes.specs.Route.{Route, route, key, remove}
+use Rattle.routes.specs.Route as list
+use Rattle.routes.specs.Cells.{cells}
+use Rattle.routes.specs.Answers.{Update, withdraw, Reply, done, refused, verdict}
+use Rattle.laws.specs.Collect.{routes, routeOf}
+use Rattle.array.specs.Block.{Right}
+use Rattle.arrays.specs.Arrays.{Arrays, node, held, lev, Shape}
+use Rattle.arrays.specs.Words.{arraysOf, arrayCount, slotsOf, Almost}
+use Rattle.arrays.specs.Table.{Table, listOf}
+use Rattle.arrays.specs.Tree.{Level, node-level}
+use Rattle.arrays.specs.Slot.{Place, slotted-remove}
+use Rattle.arrays.specs.Block.{reslot-slotted, reslot-almost}
+use Rattle.arrays.specs.Best.{best-local}
+use Rattle.paths.specs.Address.{front}
+use Rattle.paths.specs.Shrunk.{Shrunk, Pruned}
+use Rattle.paths.specs.Held.{stands-route, hopFound, Sought, sought-place, sought-held}
+use Rattle.update.specs.declared.Updated.the-variants.{Done, Refused}
+use Rattle.update.specs.Update.{Applies}
+use Rattle.update.specs.Seat.{Seat, Seated, seat-at}
+use Rattle.update.specs.Announce.{refuses, same-list}
+use Rattle.update.specs.Cells.{cells-exposed}
+
+module _ {L : ℕ} {ws : List ℕ} {a l k d x j b : ℕ} (s : Sought L ws a l k d x j b) where
+  -- 7: the prefix is not held
+  pub withdraw-none : hopFound ws b j k d x ≡ 0 → Applies L ws ws (withdraw a l) (Refused 7)
+  withdraw-none e = refuses L ws (withdraw a l) 7 (s .ok) (rw (eq-eqb (list.held (listOf L ws) a l) 0 (sym (sought-held s) ∙ e)))
+
+  module _ (some : hopFound ws b j k d x ≢ 0) where
+    -- the path goes all the way down
+    arrived : j ≡ k
+    arrived = same j k (λ e _. e) (λ n t. absurd (some (rw t)))
+
+    place : Place (arrayCount ws) L (arraysOf ws) b (front L a k) k d x
+    place = sought-place s arrived
+
+    pub withdraw-seat : L ≤ 16 → Seat ws b k d x
+    withdraw-seat w = seat-at L 0 ws b (front L a k) k d x (s .ok) w (s .stands .top) place
+
+    pub withdraw-slot : slotsOf ws b (2 ^ d + x) ≡ hopFound ws b j k d x
+    withdraw-slot = rw (eq-eqb j k arrived)
+
+    pub withdraw-taken : 1 ≤ slotsOf ws b (2 ^ d + x)
+    withdraw-taken = rw withdraw-slot (omega arith)
+
+    lv : Level (arrayCount ws) (arraysOf ws) b k
+    lv = rw (place .leads) at (node-level (arrayCount ws) L (arraysOf ws) (s .ok .shape) (front L a k) k (rw (place .leads) (place .array)))
+
+    used : 1 ≤ getD ws (1024 * b) 0
+    used = omega (arith, lv .level)
+
+    module _ (vs : List ℕ) (c : ℕ) (p : Seated ws vs b d x 0 c) where
+      -- the array may be empty now, and those above it after it
+      pub withdraw-shrunk : Shrunk L vs vs b
+      withdraw-shrunk = record {
+        ok = reslot-almost Right best-local L 0 ws vs b (2 ^ d + x) 0 (place .array) (p .slot) (s .ok) (inl refl) used;
+        some = place .array;
+        within = rw (p .slot .size) (lv .within);
+        used = rw (p .slot .tag) used;
+        size = refl;
+        held = λ v l. refl;
+      }
+
+      pub withdraw-done : (us : List ℕ) (h : ℕ) → Pruned L vs us → h ≡ slotsOf ws b (2 ^ d + x) → Applies L ws us (withdraw a l) (Done h c)
+      withdraw-done us h pu eh = record {
+        answer =
+            rw (ne-eqb (list.held (listOf L ws) a l) 0 (λ z. some (sought-held s ∙ z)))
+            (ap₂ done (eh ∙ withdraw-slot ∙ sought-held s)
+            (p .count ∙ cells-exposed L (arraysOf ws) b (front L a k) k wide (s .stands .top) (place .leads) (place .array) (place .head) d x 0 (place .deep) (place .own) (place .small)
+            ∙ ap (λ (r : Route). cells (8 * L) r (listOf L ws)) same-route));
+        table = pu .ok;
+        size = pu .size ∙ p .slot .size;
+        list =
+            same-list (8 * L) (held (arraysOf us)) (held (arraysOf vs)) (pu .held)
+            ∙ slotted-remove (arrayCount ws) L (arraysOf ws) (arraysOf vs) b (front L a k) k d x 0 (s .ok .shape) place
+            (reslot-slotted Right best-local L 0 ws vs b (2 ^ d + x) 0 (place .array) (p .slot)) (8 * L) wide (omega (arith, s .stands .top, s .stands .deep)) refl
+            ∙ ap (λ (r : Route). remove (key r) (listOf L ws)) same-route;
+        kept = λ e. absurd (false≢true e);
+      }
+        where
+          wide : 8 * L < 256
+          wide = omega (arith, s .ok .shape .levels)
+
+          same-route : routeOf (8 * L - (8 * k + d)) (front L a k * 2 ^ d + x) (8 * k + d) 0 ≡ route a l 0
+          same-route = stands-route L a l k d x (s .stands) (s .prefix) (s .inside) 0

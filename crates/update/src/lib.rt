@@ -1,0 +1,152 @@
+// Announcements and withdrawals: a route put into a table of lent words, or taken out of it.
+ghost use mathlib.Core.Path.{_≡_};
+ghost use Prim.Native.Nat.{ℕ, _+_, _*_, _-_, _%_, _^_, _<_, _≤_};
+ghost use Rattle.routes.specs.Answers.{announce as announced, withdraw as withdrawn};
+ghost use Rattle.arrays.specs.Words.{slotsOf};
+ghost use Rattle.arrays.specs.Table.{Table};
+ghost use Rattle.paths.specs.Address.{IsPrefix};
+ghost use Rattle.update.specs.Seat.{Seat, Seated};
+ghost use Rattle.update.specs.Update.{Updates, Applies, faultOf};
+
+// What an update answers: hop and cells, or the refusal's number.
+pub enum Updated {
+    Done(u32, u32),
+    Refused(u32),
+}
+
+// The bits of an address after a length. Length 0 would be a shift by 32, so the size has 64 bits.
+fn low_bits(address: u32, length: u32) -> u64
+    requires { ⌜ length ≤ 32 ⌝ }
+    ensures { λ r. ⌜ r ≡ address % 2 ^ (32 - length) ⌝ }
+{
+    let size: u64 = 1 << (32 - length);
+    address as u64 % size
+}
+
+// The number of the first fault of a prefix, 0 where it has none.
+fn prefix_fault(address: u32, length: u32) -> u32
+    ensures { λ r. ⌜ r ≡ faultOf 32 (withdrawn address length) ⌝ }
+{
+    if length > 32 {
+        return 3;
+    }
+    if low_bits(address, length) != 0 {
+        return 4;
+    }
+    0
+}
+
+// The same of a route.
+fn route_fault(address: u32, length: u32, hop: u32) -> u32
+    ensures { λ r. ⌜ r ≡ faultOf 32 (announced address length hop) ⌝ }
+{
+    let f = prefix_fault(address, length);
+    if f != 0 {
+        return f;
+    }
+    if hop == 0 {
+        return 5;
+    }
+    if hop > 65535 {
+        return 5;
+    }
+    0
+}
+
+// A hop set in the slot at a place of array a. The block of that array alone is lent; the cells rewritten are counted.
+fn set(words: &mut [u32], a: usize, p: paths::Place, hop: u32) -> u32
+    requires { ⌜ Seat (now words) a (p .level) (p .depth) (p .value) × (1 ≤ hop) × (hop < 65536) ⌝ }
+    ensures { λ r. ⌜ Seated (now (words .entry)) (now (words .exit)) a (p .depth) (p .value) hop r ⌝ }
+{
+    let from = 1024 * a;
+    let to = from + 1024;
+    let k = p.level as u32 + 1;
+    let d = p.depth;
+    let x = p.value;
+    array::put(&mut words[from..to], k, d, x, hop)
+}
+
+// The slot at a place of array a cleared, where it holds a hop.
+fn clear(words: &mut [u32], a: usize, p: paths::Place) -> array::Taken
+    requires { ⌜ Seat (now words) a (p .level) (p .depth) (p .value) × (1 ≤ slotsOf (now words) a (2 ^ p .depth + p .value)) ⌝ }
+    ensures { λ r. ⌜ (r .hop ≡ slotsOf (now (words .entry)) a (2 ^ p .depth + p .value)) × Seated (now (words .entry)) (now (words .exit)) a (p .depth) (p .value) 0 (r .cells) ⌝ }
+{
+    let from = 1024 * a;
+    let to = from + 1024;
+    let k = p.level as u32 + 1;
+    let d = p.depth;
+    let x = p.value;
+    array::take(&mut words[from..to], k, d, x)
+}
+
+// A route announced to a table.
+pub fn announce_in(words: &mut [u32], address: u32, length: u32, hop: u32) -> Updated
+    requires { ⌜ Table 4 (now words) × IsPrefix 4 address length × (1 ≤ hop) × (hop ≤ 65535) ⌝ }
+    ensures { λ r. ⌜ Applies 4 (now (words .entry)) (now (words .exit)) (announced address length hop) r ⌝ }
+{
+    let p = paths::place_of(address, length);
+    let k = p.level;
+    let s = paths::walk_down(words, address, k);
+    if paths::hop_at(words, s, p) != 0 {
+        return Updated::Refused(6);
+    }
+    let b = s.array;
+    let j = s.level;
+    let a = paths::open(words, address, b, j, k);
+    if a == 0 {
+        return Updated::Refused(8);
+    }
+    let cells = set(words, a, p, hop);
+    Updated::Done(hop, cells)
+}
+
+// A route withdrawn from a table.
+pub fn withdraw_in(words: &mut [u32], address: u32, length: u32) -> Updated
+    requires { ⌜ Table 4 (now words) × IsPrefix 4 address length ⌝ }
+    ensures { λ r. ⌜ Applies 4 (now (words .entry)) (now (words .exit)) (withdrawn address length) r ⌝ }
+{
+    let p = paths::place_of(address, length);
+    let k = p.level;
+    let s = paths::walk_down(words, address, k);
+    if paths::hop_at(words, s, p) == 0 {
+        return Updated::Refused(7);
+    }
+    let a = s.array;
+    let t = clear(words, a, p);
+    paths::prune(words, a);
+    Updated::Done(t.hop, t.cells)
+}
+
+// A route announced: refused by the first of 1, 3, 4, 5, 2, 6 and 8 that applies, or held afterwards.
+pub fn announce(words: &mut [u32], address: u32, length: u32, hop: u32) -> Updated
+    ensures { λ r. ⌜ Updates (now (words .entry)) (now (words .exit)) (announced address length hop) r ⌝ }
+{
+    if audit::misfit(words.len()) {
+        return Updated::Refused(1);
+    }
+    let f = route_fault(address, length, hop);
+    if f != 0 {
+        return Updated::Refused(f);
+    }
+    if !audit::is_table(words) {
+        return Updated::Refused(2);
+    }
+    announce_in(words, address, length, hop)
+}
+
+// A route withdrawn: refused by the first of 1, 3, 4, 2 and 7 that applies, or held no more.
+pub fn withdraw(words: &mut [u32], address: u32, length: u32) -> Updated
+    ensures { λ r. ⌜ Updates (now (words .entry)) (now (words .exit)) (withdrawn address length) r ⌝ }
+{
+    if audit::misfit(words.len()) {
+        return Updated::Refused(1);
+    }
+    let f = prefix_fault(address, length);
+    if f != 0 {
+        return Updated::Refused(f);
+    }
+    if !audit::is_table(words) {
+        return Updated::Refused(2);
+    }
+    withdraw_in(words, address, length)
+}
