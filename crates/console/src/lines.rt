@@ -1,0 +1,138 @@
+// A line for each record replied to, from the bytes of the record and of its reply.
+ghost use Prim.Native.Nat.{_≤_, _<_};
+ghost use lib.ListN.{length};
+use crate::text;
+
+// Before a record of the feed, before its reply, and before its line.
+struct Place {
+    at: usize,
+    from: usize,
+    to: usize,
+}
+
+// The lines of all records replied to, at the front of `out`. Hands back their length.
+pub(crate) fn lines(feed: &[u8], replies: &[u8], out: &mut [u8]) -> usize
+    ensures { λ r. ⌜ r ≤ length (now (out .exit)) ⌝ }
+{
+    let mut p = Place {
+        at: 0,
+        from: 0,
+        to: 0,
+    };
+    while p.at < feed.len() && p.from < replies.len() {
+        p = p.line(feed, replies, out);
+    }
+    p.to
+}
+
+impl Place {
+    // The line of the record that is next.
+    fn line(self, feed: &[u8], replies: &[u8], out: &mut [u8]) -> Place
+        requires { ⌜ (self .at < length (now feed)) × (self .from < length (now replies)) × (self .to ≤ length (now out)) ⌝ }
+        ensures { λ r. ⌜ (self .at < r .at) × (r .at ≤ length (now (feed .entry))) × (r .from ≤ length (now (replies .entry))) × (r .to ≤ length (now (out .exit))) ⌝ }
+    {
+        let at = self.at;
+        let from = self.from;
+        let p = subject(&feed[at..], out, self.to);
+        let q = answer(&replies[from..], out, p);
+        let to = text::byte(out, q, b'\n');
+        Place {
+            at: past(at, feed::size(feed[at]), feed.len()),
+            from: past(from, reply_size(replies[from]), replies.len()),
+            to: to,
+        }
+    }
+}
+
+// n bytes on, and no further than the end.
+fn past(at: usize, n: usize, end: usize) -> usize
+    requires { ⌜ (at < end) × (0 < n) ⌝ }
+    ensures { λ r. ⌜ (at < r) × (r ≤ end) ⌝ }
+{
+    if end - at < n { end } else { at + n }
+}
+
+// The bytes of a reply of a kind, the kind's own included.
+fn reply_size(kind: u8) -> usize
+    ensures { λ r. ⌜ 0 < r ⌝ }
+{
+    match kind {
+        16 => 5,
+        17 => 4,
+        19 => 2,
+        _ => 1,
+    }
+}
+
+// The record's kind, with its prefix or address as sent.
+fn subject(record: &[u8], out: &mut [u8], at: usize) -> usize
+    requires { ⌜ at ≤ length (now out) ⌝ }
+    ensures { λ r. ⌜ r ≤ length (now (out .exit)) ⌝ }
+{
+    let kind = byte_at(record, 0);
+    if kind == 3 {
+        let p = text::word(out, at, b"lookup ");
+        return address(record, out, p);
+    }
+    let p = verb(kind, out, at);
+    let q = address(record, out, p);
+    text::field(out, q, b"/", byte_at(record, 5))
+}
+
+fn verb(kind: u64, out: &mut [u8], at: usize) -> usize
+    requires { ⌜ at ≤ length (now out) ⌝ }
+    ensures { λ r. ⌜ r ≤ length (now (out .exit)) ⌝ }
+{
+    if kind == 1 {
+        return text::word(out, at, b"announce ");
+    }
+    text::word(out, at, b"withdraw ")
+}
+
+// The address of a record, written a.b.c.d.
+fn address(record: &[u8], out: &mut [u8], at: usize) -> usize
+    requires { ⌜ at ≤ length (now out) ⌝ }
+    ensures { λ r. ⌜ r ≤ length (now (out .exit)) ⌝ }
+{
+    let a = text::number(out, at, byte_at(record, 1));
+    let b = text::field(out, a, b".", byte_at(record, 2));
+    let c = text::field(out, b, b".", byte_at(record, 3));
+    text::field(out, c, b".", byte_at(record, 4))
+}
+
+fn answer(reply: &[u8], out: &mut [u8], at: usize) -> usize
+    requires { ⌜ at ≤ length (now out) ⌝ }
+    ensures { λ r. ⌜ r ≤ length (now (out .exit)) ⌝ }
+{
+    let kind = byte_at(reply, 0);
+    if kind == 19 {
+        return text::field(out, at, b" refused ", byte_at(reply, 1));
+    }
+    if kind == 18 {
+        return text::word(out, at, b" none");
+    }
+    let p = text::field(out, at, b" via ", two_at(reply, 1));
+    if kind == 17 {
+        return text::field(out, p, b" length ", byte_at(reply, 3));
+    }
+    text::field(out, p, b" cells ", two_at(reply, 3))
+}
+
+fn two_at(bytes: &[u8], i: usize) -> u64
+    requires { ⌜ i < 8 ⌝ }
+{
+    byte_at(bytes, i) * 256 + byte_at(bytes, i + 1)
+}
+
+// A byte, 0 past the end.
+fn byte_at(bytes: &[u8], i: usize) -> u64
+    ensures { λ r. ⌜ r < 256 ⌝ }
+{
+    if i < bytes.len() { wide(bytes[i]) } else { 0 }
+}
+
+fn wide(b: u8) -> u64
+    ensures { λ r. ⌜ r < 256 ⌝ }
+{
+    b as u64
+}

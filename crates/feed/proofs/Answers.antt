@@ -1,0 +1,108 @@
+-- Records answered on a table: what the calls promise of any words, read for words that are one. Assumes nothing.
+use mathlib.Core.Path.{_≡_, refl, _∙_}
+use mathlib.Core.Logic.{_≢_}
+use mathlib.Core.List.{List}
+use Prim.Native.Nat.{ℕ, _+_, _≤_, _<_}
+use native.Mathlib.Omega.{arith}
+use lib.ListN.{length, getD}
+use lib.Dec.{eqb}
+use borrow.Author.Tests.{ne-eqb}
+use Rattle.routes.specs.Answers.{Update, announce, withdraw, update, lookup, Reply as Said, reply, next}
+use Rattle.routes.specs.Bytes.{twoAt, fourAt}
+use Rattle.routes.specs.Runs.{size}
+use Rattle.routes.specs.Seen.{Seen, misfit, foreign, table, answerOn, afterOn, lookupOn}
+use Rattle.laws.specs.Turns.{size-pos}
+use Rattle.arrays.specs.Table.{seen}
+use Rattle.update.specs.Update.{Updates, told as toldUpdate}
+use Rattle.update.specs.declared.Updated.{Updated}
+use Rattle.feed.specs.Turns.{IsTable, roomIn, listIn, told, Answered, announceAt, withdrawAt, lookupAt, here, Asks, one}
+use Rattle.feed.specs.declared.Reply.{Reply}
+
+-- ---- words that are a table
+
+pub table-eq : (s : Seen) → IsTable s → s ≡ table (roomIn s) (listIn s)
+table-eq misfit t = absurd t
+table-eq foreign t = absurd t
+table-eq (table A rs) t = refl
+
+update-on : (s : Seen) (u : Update) → IsTable s → answerOn 32 s u ≡ reply 32 (roomIn s) (listIn s) (update u)
+update-on misfit u t = absurd t
+update-on foreign u t = absurd t
+update-on (table A rs) u t = refl
+
+after-on : (s : Seen) (u : Update) → IsTable s → afterOn 32 s u ≡ table (roomIn s) (next 32 (roomIn s) (listIn s) (update u))
+after-on misfit u t = absurd t
+after-on foreign u t = absurd t
+after-on (table A rs) u t = refl
+
+lookup-on : (s : Seen) (w : Said) (a : ℕ) → IsTable s → lookupOn 32 s w a ≡ reply 32 (roomIn s) (listIn s) (lookup a)
+lookup-on misfit w a t = absurd t
+lookup-on foreign w a t = absurd t
+lookup-on (table A rs) w a t = refl
+
+-- ---- the calls
+
+module _ (ws vs : List ℕ) (r : Reply) (t : IsTable (seen 4 ws)) where
+  answered-update : (u : Update) (x : Updated) → Updates ws vs u x → told r ≡ toldUpdate x → Answered ws (update u) vs r
+  answered-update u x p q = record { answer = q ∙ p .answer ∙ update-on (seen 4 ws) u t; list = p .list ∙ after-on (seen 4 ws) u t }
+
+  module _ (feed : List ℕ) (i : ℕ) where
+    pub answered-announce : (a l h : ℕ) (x : Updated) → a ≡ fourAt feed (i + 1) → l ≡ getD feed (i + 5) 0 → h ≡ twoAt feed (i + 6)
+        → Updates ws vs (announce a l h) x → told r ≡ toldUpdate x → Answered ws (announceAt feed i) vs r
+    answered-announce a l h x ea el eh p q = rw (← ea, ← el, ← eh) (answered-update (announce a l h) x p q)
+
+    pub answered-withdraw : (a l : ℕ) (x : Updated) → a ≡ fourAt feed (i + 1) → l ≡ getD feed (i + 5) 0
+        → Updates ws vs (withdraw a l) x → told r ≡ toldUpdate x → Answered ws (withdrawAt feed i) vs r
+    answered-withdraw a l x ea el p q = rw (← ea, ← el) (answered-update (withdraw a l) x p q)
+
+-- whatever the walk gives on words that are no table
+pub answered-lookup : (ws : List ℕ) (r : Reply) → IsTable (seen 4 ws) → (feed : List ℕ) (i a : ℕ) (w x : Said) → a ≡ fourAt feed (i + 1)
+    → x ≡ lookupOn 32 (seen 4 ws) w a → told r ≡ x → Answered ws (lookupAt feed i) ws r
+answered-lookup ws r t feed i a w x e p q =
+    rw (← e) (record { answer = q ∙ p ∙ lookup-on (seen 4 ws) w a t; list = table-eq (seen 4 ws) t })
+
+-- ---- by the kind
+
+module _ (feed : List ℕ) (i : ℕ) where
+  pub here-1 : getD feed i 0 ≡ 1 → here feed i ≡ announceAt feed i
+  here-1 e = rw e
+
+  pub here-2 : getD feed i 0 ≡ 2 → here feed i ≡ withdrawAt feed i
+  here-2 e = rw e
+
+  pub here-3 : getD feed i 0 ≢ 1 → getD feed i 0 ≢ 2 → here feed i ≡ lookupAt feed i
+  here-3 n m = rw (ne-eqb (getD feed i 0) 1 n, ne-eqb (getD feed i 0) 2 m)
+
+pub size-1 : (k : ℕ) → k ≡ 1 → 8 ≡ size k
+size-1 k e = rw e
+
+pub size-2 : (k : ℕ) → k ≡ 2 → 6 ≡ size k
+size-2 k e = rw e
+
+pub size-3 : (k : ℕ) → k ≡ 3 → 5 ≡ size k
+size-3 k e = rw e
+
+pub size-0 : (k : ℕ) → k ≢ 1 → k ≢ 2 → k ≢ 3 → 1 ≡ size k
+size-0 k a b c = rw (ne-eqb k 1 a, ne-eqb k 2 b, ne-eqb k 3 c)
+
+-- a whole record has the bytes of its kind
+module _ (ws feed : List ℕ) (i : ℕ) (h : Asks ws feed i) where
+  pub asks-kind : i < length feed
+  asks-kind = omega (arith, h .body, size-pos (getD feed i 0))
+
+  pub asks-1 : getD feed i 0 ≡ 1 → IsTable (seen 4 ws) × (i + 8 ≤ length feed)
+  asks-1 e = (h .isTable, omega (arith, h .body, size-1 (getD feed i 0) e))
+
+  pub asks-2 : getD feed i 0 ≡ 2 → IsTable (seen 4 ws) × (i + 6 ≤ length feed)
+  asks-2 e = (h .isTable, omega (arith, h .body, size-2 (getD feed i 0) e))
+
+  pub asks-3 : getD feed i 0 ≢ 1 → getD feed i 0 ≢ 2 → IsTable (seen 4 ws) × (i + 5 ≤ length feed)
+  asks-3 n m = (h .isTable, omega (arith, h .body, h .kind, h .more, size-3 (getD feed i 0) (omega (arith, h .kind, h .more))))
+
+-- ---- what a stop consumes
+
+pub last-0 : (stop : ℕ) → stop ≡ 0 → (1 ≡ one (eqb stop 0)) × (1 ≤ 1)
+last-0 stop e = (rw e, omega arith)
+
+pub last-other : (stop : ℕ) → stop ≢ 0 → (0 ≡ one (eqb stop 0)) × (0 ≤ 1)
+last-other stop n = (rw (ne-eqb stop 0 n), omega arith)

@@ -1,0 +1,214 @@
+-- The loop of the run: at each turn what is left of the run, from how far it has come, is the whole run. Assumes nothing.
+--
+--     feed   ██████████████░░░░░░░░        reply   ██████████░░░░░░░░░░
+--            consumed      at                      written   out, the rest as it was
+use mathlib.Core.Path.{_≡_, refl, sym, ap, ap₂, _∙_}
+use mathlib.Core.Logic.{_≢_}
+use mathlib.Core.Bool.{Bool, true, false, cond}
+use mathlib.Core.List.{List, _++_}
+use Prim.Native.Nat.{ℕ, suc, _+_, _-_, _≤_}
+use native.Mathlib.Nat.{add-zero}
+use native.Mathlib.Omega.{arith}
+use lib.ListN.{length, getD, take, drop, take-append-drop}
+use lib.Seq.{length-sets, length-take-le, drop-drop}
+use lib.Dec.{eqb}
+use Rattle.routes.specs.Answers.{reply, isDone, isRefused}
+use Rattle.routes.specs.Bytes.{replyBytes}
+use Rattle.routes.specs.Runs.{State, Ran as Outcome, size, tally, finish, halts, taken, runs, run}
+use Rattle.routes.specs.Seen.{Seen, misfit, foreign, table, gives, refuses, Counts, checkOn}
+use Rattle.laws.specs.Turns.{Clear, size-pos, halts-clear, runs-on, runs-stop, runs-enough}
+use Rattle.laws.specs.Encoded.{reply-short}
+use Rattle.arrays.specs.Table.{seen}
+use Rattle.audit.specs.Told.{toldCheck}
+use Rattle.audit.specs.declared.Checked.{Checked}
+use Rattle.audit.specs.declared.Checked.the-variants.{Counts as Counted, Refused as Failed}
+use Rattle.feed.specs.Runs.{reportOf, Runs}
+use Rattle.feed.specs.Turns.{IsTable, roomIn, listIn, told, one, Answered, here, Wrote, stateOf, Placed, Takes, Took}
+use Rattle.feed.specs.declared.Reply.{Reply}
+use Rattle.feed.specs.declared.Progress.{Progress}
+use Rattle.feed.specs.declared.Report.{Report}
+use Rattle.feed.specs.declared.Ran.the-variants.{Stopped, Refused}
+use Rattle.feed.proofs.Answers.{table-eq}
+use Rattle.feed.proofs.Replies.{take-sets, drop-sets}
+
+-- ---- one record
+
+one-tally : (b : Bool) (n : ℕ) → n + one b ≡ tally b n
+one-tally true n = refl
+one-tally false n = add-zero n
+
+one-le : (b : Bool) → one b ≤ 1
+one-le true = omega arith
+one-le false = omega arith
+
+module _ (p : Progress) (ws feed b : List ℕ) (t : Takes p ws feed b) (n : ℕ) (vs : List ℕ) (r : Reply) (q : ℕ) (c : List ℕ) (x y : ℕ)
+    (en : n ≡ size (getD feed (p .at) 0)) (asked : Answered ws (here feed (p .at)) vs r) (w : Wrote b (p .out) (replyBytes (told r)) q c)
+    (ex : x ≡ one (isDone (told r))) (ey : y ≡ one (isRefused (told r))) where
+  fits : p .out + length (replyBytes (told r)) ≤ length b
+  fits = omega (arith, reply-short (told r), t .clear .free)
+
+  pub took : Took p ws feed b (record { at = p .at + n; out = q; accepted = p .accepted + x; refused = p .refused + y }) vs c
+  took =
+      record {
+        state = λ i. record {
+          list = ap listIn (asked .list) i;
+          consumed = p .at + en i;
+          replies = reps i;
+          accepted = acc i;
+          refused = ref i;
+        };
+        list = asked .list ∙ ap (table (roomIn (seen 4 ws))) (sym (ap listIn (asked .list)));
+        rest = ap₂ (λ (m : ℕ) (l : List ℕ). drop m l) (w .place) (w .list) ∙ drop-sets b (p .out) (replyBytes (told r)) fits ∙ ap (λ (m : ℕ). drop m b) (sym (w .place));
+        placed = record {
+          at = omega (arith, t .clear .body);
+          out = omega (arith, fits, w .place, ap length (w .list) ∙ length-sets b (p .out) (replyBytes (told r)));
+          accepted = omega (arith, t .placed .accepted, one-le (isDone (told r)), size-pos (getD feed (p .at) 0));
+          refused = omega (arith, t .placed .refused, one-le (isRefused (told r)), size-pos (getD feed (p .at) 0));
+        };
+        on = omega (arith, size-pos (getD feed (p .at) 0));
+        past = omega (arith, w .place);
+      }
+    where
+      said : told r ≡ reply 32 (roomIn (seen 4 ws)) (listIn (seen 4 ws)) (here feed (p .at))
+      said = asked .answer
+
+      reps : take q c ≡ take (p .out) b ++ replyBytes (reply 32 (roomIn (seen 4 ws)) (listIn (seen 4 ws)) (here feed (p .at)))
+      reps = ap₂ (λ (m : ℕ) (l : List ℕ). take m l) (w .place) (w .list) ∙ take-sets b (p .out) (replyBytes (told r)) fits ∙ ap (λ z. take (p .out) b ++ replyBytes z) said
+
+      acc : p .accepted + x ≡ tally (isDone (reply 32 (roomIn (seen 4 ws)) (listIn (seen 4 ws)) (here feed (p .at)))) (p .accepted)
+      acc = ap (λ (m : ℕ). p .accepted + m) ex ∙ one-tally (isDone (told r)) (p .accepted) ∙ ap (λ z. tally (isDone z) (p .accepted)) said
+
+      ref : p .refused + y ≡ tally (isRefused (reply 32 (roomIn (seen 4 ws)) (listIn (seen 4 ws)) (here feed (p .at)))) (p .refused)
+      ref = ap (λ (m : ℕ). p .refused + m) ey ∙ one-tally (isRefused (told r)) (p .refused) ∙ ap (λ z. tally (isRefused z) (p .refused)) said
+
+-- ---- the loop
+
+abbrev pub whole : List ℕ → List ℕ → List ℕ → Outcome
+whole ws feed b = run (roomIn (seen 4 ws)) (listIn (seen 4 ws)) feed (length b)
+
+-- a run from ws₀ and b₀ has come to p, with the words ws and the reply bytes b, and `stop` is what the next tests find
+pub record Going (ws₀ feed b₀ ws b : List ℕ) (p : Progress) (stop : ℕ) : Type 0 where
+  pub placed : Placed p feed b
+  pub list : seen 4 ws ≡ table (roomIn (seen 4 ws₀)) (listIn (seen 4 ws))
+  pub left : runs (length feed) (roomIn (seen 4 ws₀)) feed (length b₀) (stateOf p ws b) ≡ whole ws₀ feed b₀
+  pub rest : drop (p .out) b ≡ drop (p .out) b₀
+  pub long : length b ≡ length b₀
+  pub wide : length ws ≡ length ws₀
+  pub halted : stop ≡ halts feed (length b₀) (p .at) (p .out)
+
+pub start : (ws feed b : List ℕ) (stop : ℕ) → IsTable (seen 4 ws) → stop ≡ halts feed (length b) 0 0
+    → Going ws feed b ws b (record { at = 0; out = 0; accepted = 0; refused = 0 }) stop
+start ws feed b stop t e =
+    record {
+      placed = record { at = omega arith; out = omega arith; accepted = omega arith; refused = omega arith };
+      list = table-eq (seen 4 ws) t;
+      left = refl;
+      rest = refl;
+      long = refl;
+      wide = refl;
+      halted = e;
+    }
+
+out-length : (p : Progress) (feed b : List ℕ) → Placed p feed b → length (take (p .out) b) ≡ p .out
+out-length p feed b h = length-take-le (p .out) b (h .out)
+
+-- a run that ended as o, on a table of A arrays
+record Ended (o : Outcome) (A : ℕ) (b vs c : List ℕ) (r : Report) : Type 0 where
+  report : r ≡ reportOf o
+  list : seen 4 vs ≡ table A (o .end .list)
+  replies : c ≡ o .end .replies ++ drop (length (o .end .replies)) b
+
+module _ (ws₀ feed b₀ ws b : List ℕ) (p : Progress) (stop : ℕ) (g : Going ws₀ feed b₀ ws b p stop) where
+  pub going-clear : stop ≡ 5 → Clear feed (length b) (p .at) (p .out)
+  going-clear e = rw (g .long) (halts-clear feed (length b₀) (p .at) (p .out) (sym (g .halted) ∙ e))
+
+  is-table : IsTable (seen 4 ws)
+  is-table = rw (g .list) tt
+
+  pub going-takes : stop ≡ 5 → Takes p ws feed b
+  going-takes e = record { isTable = is-table; placed = g .placed; clear = going-clear e }
+
+  same-room : roomIn (seen 4 ws) ≡ roomIn (seen 4 ws₀)
+  same-room = ap roomIn (g .list)
+
+  halted-at : halts feed (length b₀) (p .at) (length (take (p .out) b)) ≡ stop
+  halted-at = ap (halts feed (length b₀) (p .at)) (out-length p feed b (g .placed)) ∙ sym (g .halted)
+
+  pub again : (q : Progress) (vs c : List ℕ) (next : ℕ) → stop ≡ 5 → Took p ws feed b q vs c → length c ≡ length b → length vs ≡ length ws
+      → next ≡ halts feed (length b₀) (q .at) (q .out) → Going ws₀ feed b₀ vs c q next
+  again q vs c next e t lc lv h =
+      record {
+        placed = t .placed;
+        list = t .list ∙ ap (λ (n : ℕ). table n (listIn (seen 4 vs))) same-room;
+        left =
+            ap (λ (s : State). runs (length feed) A feed (length b₀) s) (t .state ∙ ap (λ (n : ℕ). taken n feed (stateOf p ws b)) same-room)
+            ∙ runs-enough (length feed) (length feed - 1) A feed (length b₀) (taken A feed (stateOf p ws b)) (omega arith) (omega (arith, size-pos (getD feed (p .at) 0)))
+            ∙ sym (runs-on (length feed - 1) A feed (length b₀) (stateOf p ws b) (halted-at ∙ e))
+            ∙ ap (λ (n : ℕ). runs n A feed (length b₀) (stateOf p ws b)) m
+            ∙ g .left;
+        rest = t .rest ∙ dropped;
+        long = lc ∙ g .long;
+        wide = lv ∙ g .wide;
+        halted = h;
+      }
+    where
+      A : ℕ
+      A = roomIn (seen 4 ws₀)
+
+      m : suc (length feed - 1) ≡ length feed
+      m = omega (arith, going-clear e .body, size-pos (getD feed (p .at) 0))
+
+      dropped : drop (q .out) b ≡ drop (q .out) b₀
+      dropped =
+          let o : p .out + (q .out - p .out) ≡ q .out = omega (arith, t .past) in
+          rw (← o) (sym (drop-drop (q .out - p .out) (p .out) b) ∙ ap (drop (q .out - p .out)) (g .rest) ∙ drop-drop (q .out - p .out) (p .out) b₀)
+
+  -- ---- the end
+
+  ended : stop ≢ 5 → whole ws₀ feed b₀ ≡ record { stop = stop; end = cond (eqb stop 0) (finish (stateOf p ws b)) (stateOf p ws b) }
+  ended n =
+      sym (g .left)
+      ∙ runs-enough (length feed) (suc (length feed)) (roomIn (seen 4 ws₀)) feed (length b₀) (stateOf p ws b) (omega arith) (omega arith)
+      ∙ runs-stop (length feed) (roomIn (seen 4 ws₀)) feed (length b₀) (stateOf p ws b) stop halted-at n
+
+  kept : b ≡ take (p .out) b ++ drop (length (take (p .out) b)) b₀
+  kept = rw (out-length p feed b (g .placed), ← (g .rest)) (sym (take-append-drop (p .out) b))
+
+  report : (z : Bool) → Ended (record { stop = stop; end = cond z (finish (stateOf p ws b)) (stateOf p ws b) }) (roomIn (seen 4 ws₀)) b₀ ws b (record { stop = stop; consumed = p .at + one z; written = p .out; accepted = p .accepted; refused = p .refused })
+  report true = record {
+    report = λ i. record { stop = stop; consumed = p .at + 1; written = sym (out-length p feed b (g .placed)) i; accepted = p .accepted; refused = p .refused };
+    list = g .list;
+    replies = kept;
+  }
+  report false = record {
+    report = λ i. record { stop = stop; consumed = add-zero (p .at) i; written = sym (out-length p feed b (g .placed)) i; accepted = p .accepted; refused = p .refused };
+    list = g .list;
+    replies = kept;
+  }
+
+  runs-as : (s : Seen) → seen 4 ws₀ ≡ s → IsTable s → (r : Report) → Ended (run (roomIn s) (listIn s) feed (length b₀)) (roomIn s) b₀ ws b r → Runs ws₀ feed b₀ ws b (Stopped r)
+  runs-as misfit e t r x = absurd t
+  runs-as foreign e t r x = absurd t
+  runs-as (table A rs) e t r x = record { answer = rw e (ap gives (x .report)); list = rw e (x .list); replies = rw e (x .replies); kept = λ n z. (let y : _≡_ {A = ℕ} 0 1 = cc in absurd (omega arith)) }
+
+  pub stopped : IsTable (seen 4 ws₀) → (n : ℕ) → stop ≢ 5 → n ≡ one (eqb stop 0)
+      → Runs ws₀ feed b₀ ws b (Stopped (record { stop = stop; consumed = p .at + n; written = p .out; accepted = p .accepted; refused = p .refused }))
+  stopped t n h e = runs-as (seen 4 ws₀) refl t _ (rw (e, ended h) (report (eqb stop 0)))
+
+-- ---- the check at the start
+
+check-refused : (s : Seen) (ws feed b : List ℕ) (n : ℕ) → seen 4 ws ≡ s → refuses n ≡ checkOn 32 s → Runs ws feed b ws b (Refused n)
+check-refused misfit ws feed b n e k = record { answer = rw e (cc); list = rw e; replies = rw e; kept = λ _ _. refl }
+check-refused foreign ws feed b n e k = record { answer = rw e (cc); list = rw e; replies = rw e; kept = λ _ _. refl }
+check-refused (table A rs) ws feed b n e k = let z : _≡_ {A = ℕ} 0 1 = cc in absurd (omega arith)
+
+pub run-refused : (ws feed b : List ℕ) (r : Checked) (n : ℕ) → toldCheck r ≡ checkOn 32 (seen 4 ws) → r ≡ Failed n → Runs ws feed b ws b (Refused n)
+run-refused ws feed b r n k e = check-refused (seen 4 ws) ws feed b n refl (rw e at k)
+
+counted : (s : Seen) (x : Counts) → gives x ≡ checkOn 32 s → IsTable s
+counted misfit x e = let z : _≡_ {A = ℕ} 0 1 = cc in absurd (omega arith)
+counted foreign x e = let z : _≡_ {A = ℕ} 0 1 = cc in absurd (omega arith)
+counted (table A rs) x e = tt
+
+pub run-counted : (ws : List ℕ) (r : Checked) (m n : ℕ) → toldCheck r ≡ checkOn 32 (seen 4 ws) → r ≡ Counted m n → IsTable (seen 4 ws)
+run-counted ws r m n k e = counted (seen 4 ws) (record { routes = m; arrays = n }) (rw e at k)

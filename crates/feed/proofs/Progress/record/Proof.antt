@@ -1,0 +1,61 @@
+-- The counters after a record stand for the state that the definition hands on. A count stays below the bytes consumed, so no sum wraps. Assumes nothing.
+use native.Mathlib.Omega.{arith}
+use lib.ListN.{getD}
+use Rattle.laws.specs.Turns.{size-pos}
+use Rattle.feed.proofs.Loop.{took}
+use borrow.Author.Needs.{needs}
+use Rattle.feed.proofs.Progress.record.Statement.{statement}
+use Rattle.feed.proofs.Progress.record.Tie as tie
+
+shared-slice-read-size : tie.Need-shared-slice-read-size
+shared-slice-read-size c = omega (arith, size-pos (getD (c .before .before .before .before .args .feed .now) (c .before .before .before .before .args .self .at) 0))
+
+size-requires : tie.Need-size-requires
+size-requires c κs = search needs
+
+ask-requires : tie.Need-ask-requires
+ask-requires c κs = search needs
+
+put-requires : tie.Need-put-requires
+put-requires c κs = search needs
+
+accepts-requires : tie.Need-accepts-requires
+accepts-requires c κs = search needs
+
+add-accepted : tie.Need-add-accepted
+add-accepted c = search needs
+
+refuses-requires : tie.Need-refuses-requires
+refuses-requires c κs = search needs
+
+add-refused : tie.Need-add-refused
+add-refused c = search needs
+
+add-t18 : tie.Need-add-t18
+add-t18 c = search needs
+
+same-length : tie.Need-same-length
+same-length c = search needs
+
+same-length-2 : tie.Need-same-length-2
+same-length-2 c = search needs
+
+returns : tie.Need-returns
+returns c = took _ _ _ _ (c .before .before .before .before .before .before .before .before .before .before .before .before .before .before .before .before .before .pre) _ _ _ _ _ _ _ (c .before .before .before .before .before .before .before .before .before .before .before .before .size .ensures .0) (c .before .before .before .before .before .before .before .before .before .before .ask .ensures) (c .before .before .before .before .before .before .put .ensures) (c .before .before .before .accepts .ensures .0) (c .before .refuses .ensures .0)
+
+pub record-spec : {M : Type 1} → statement M
+record-spec =
+    tie.close
+    (tie.spec
+    shared-slice-read-size
+    size-requires
+    ask-requires
+    put-requires
+    accepts-requires
+    add-accepted
+    refuses-requires
+    add-refused
+    add-t18
+    same-length
+    same-length-2
+    returns)

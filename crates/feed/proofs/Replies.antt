@@ -1,0 +1,46 @@
+-- Reply bytes: the stores of each kind of reply are its bytes, and a buffer after bytes were written into it. Assumes nothing.
+use mathlib.Core.Path.{_≡_, refl, ap, _∙_}
+use mathlib.Core.List.{List, _++_}
+use Prim.Native.Nat.{ℕ, suc, _+_, _%_, _≤_}
+use native.Mathlib.Omega.{arith}
+use lib.ListN.{length, set, take, drop, length-append}
+use lib.Seq.{sets, sets-eq, take-at, drop-at, length-take-le}
+use Rattle.routes.specs.Bytes.{two, replyBytes}
+use Rattle.feed.specs.Turns.{told, Wrote}
+use Rattle.feed.specs.declared.Reply.{Reply}
+use Rattle.feed.specs.declared.Reply.the-variants.{Done, Found, Nothing, Refused}
+
+module _ (b : List ℕ) (at : ℕ) (r : Reply) where
+  pub put-done : (h c : ℕ) (b₂ b₃ : List ℕ) → r ≡ Done h c → b₂ ≡ sets (set b at 16) (at + 1) (two h) → b₃ ≡ sets b₂ (at + 3) (two c)
+      → Wrote b at (replyBytes (told r)) (at + 5) b₃
+  put-done h c b₂ b₃ e p q =
+      let i : at + 1 ≡ suc at = omega arith in
+      let j : at + 3 ≡ suc (suc (suc at)) = omega arith in
+      rw e (record { place = omega arith; list = rw (q, p, i, j) })
+
+  pub put-found : (h l : ℕ) (b₂ : List ℕ) → r ≡ Found h l → b₂ ≡ sets (set b at 17) (at + 1) (two h)
+      → Wrote b at (replyBytes (told r)) (at + 4) (set b₂ (at + 3) (l % 256))
+  put-found h l b₂ e p =
+      let i : at + 1 ≡ suc at = omega arith in
+      let j : at + 3 ≡ suc (suc (suc at)) = omega arith in
+      rw e (record { place = omega arith; list = rw (p, i, j) })
+
+  pub put-nothing : r ≡ Nothing → Wrote b at (replyBytes (told r)) (at + 1) (set b at 18)
+  put-nothing e = rw e (record { place = omega arith; list = refl })
+
+  pub put-refused : (n : ℕ) → r ≡ Refused n → Wrote b at (replyBytes (told r)) (at + 2) (set (set b at 19) (at + 1) (n % 256))
+  put-refused n e =
+      let i : at + 1 ≡ suc at = omega arith in
+      rw e (record { place = omega arith; list = rw i })
+
+-- ---- a buffer after a write
+
+module _ (b : List ℕ) (p : ℕ) (xs : List ℕ) (h : p + length xs ≤ length b) where
+  front : length (take p b ++ xs) ≡ p + length xs
+  front = length-append (take p b) xs ∙ ap (λ (n : ℕ). n + length xs) (length-take-le p b (omega arith))
+
+  pub take-sets : take (p + length xs) (sets b p xs) ≡ take p b ++ xs
+  take-sets = rw (sets-eq xs b p h) (take-at (take p b ++ xs) (drop (p + length xs) b) (p + length xs) front)
+
+  pub drop-sets : drop (p + length xs) (sets b p xs) ≡ drop (p + length xs) b
+  drop-sets = rw (sets-eq xs b p h) (drop-at (take p b ++ xs) (drop (p + length xs) b) (p + length xs) front)

@@ -1,0 +1,57 @@
+-- The record read from the feed's bytes is the one announced, and on a table the call answers as the list does. Assumes nothing.
+use native.Mathlib.Omega.{arith}
+use mathlib.Core.Path.{refl}
+use Prim.Native.Nat.{_+_}
+use Rattle.feed.proofs.Answers.{answered-announce}
+use borrow.Author.Needs.{needs}
+use Rattle.feed.proofs.announce.Statement.{statement}
+use Rattle.feed.proofs.announce.Tie as tie
+
+add-four-at : tie.Need-add-four-at
+add-four-at c = search needs
+
+four-at-requires : tie.Need-four-at-requires
+four-at-requires c κs = search needs
+
+add-length : tie.Need-add-length
+add-length c = search needs
+
+shared-slice-read-length : tie.Need-shared-slice-read-length
+shared-slice-read-length c = search needs
+
+cast-length : tie.Need-cast-length
+cast-length c = omega (arith, c .shared-slice-known2 .given (c .before .before .before .before .args .at + 5))
+
+add-two-at : tie.Need-add-two-at
+add-two-at c = search needs
+
+two-at-requires : tie.Need-two-at-requires
+two-at-requires c κs = search needs
+
+announce-requires : tie.Need-announce-requires
+announce-requires c κs = search needs
+
+of-update-requires : tie.Need-of-update-requires
+of-update-requires c κs = search needs
+
+same-length : tie.Need-same-length
+same-length c = search needs
+
+returns : tie.Need-returns
+returns c = answered-announce _ _ _ (c .before .before .before .before .before .before .before .before .before .before .pre .0) (c .before .before .before .before .before .before .before .before .before .before .args .feed .now) (c .before .before .before .before .before .before .before .before .before .before .args .at) _ _ _ _ (c .before .before .before .before .before .before .before .four-at .ensures) refl (c .before .before .before .before .before .two-at .ensures .0) (c .before .before .before .announce .ensures) (c .of-update .ensures)
+
+pub announce-spec : {M : Type 1} → statement M
+announce-spec =
+    tie.close
+    (tie.spec
+    add-four-at
+    four-at-requires
+    add-length
+    shared-slice-read-length
+    cast-length
+    add-two-at
+    two-at-requires
+    announce-requires
+    of-update-requires
+    same-length
+    returns)

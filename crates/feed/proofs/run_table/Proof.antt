@@ -1,0 +1,65 @@
+-- The invariant: what is left of the run from here is the whole run, and the rest of the reply is as it was. The measure is what is left of the feed. Assumes nothing.
+use native.Mathlib.Omega.{arith}
+use Prim.Native.Nat.{_-_}
+use lib.ListN.{length}
+use borrow.Author.Needs.{needs}
+use Rattle.feed.proofs.Loop.{Going, start, going-takes, again, stopped}
+use Rattle.feed.proofs.run_table.Statement.{statement}
+use Rattle.feed.proofs.run_table.Tie as tie
+
+abbrev Inv-loop : tie.InvT-loop
+Inv-loop words₀ feed reply₀ room p₀ stop₀ words reply p stop = Going words₀ feed reply₀ words reply p stop
+
+abbrev μ-loop : tie.MeasureT-loop
+μ-loop words₀ feed reply₀ room p₀ stop₀ words reply p stop = length feed - p .at
+
+halt-requires : tie.Need-halt-requires Inv-loop μ-loop
+halt-requires c κs = (omega arith, omega arith)
+
+loop-holds : tie.Need-loop-holds Inv-loop μ-loop
+loop-holds c = start _ _ _ _ (c .before .before .before .before .pre) (c .halt .ensures)
+
+record-requires : tie.Need-record-requires Inv-loop μ-loop
+record-requires c κs = going-takes _ _ _ _ _ _ _ (c .before .before .before .loop .inv) (c .before .before .loop-test .taken)
+
+halt-requires-2 : tie.Need-halt-requires-2 Inv-loop μ-loop
+halt-requires-2 c κs = (c .before .before .before .before .«record» .ensures .placed .at, omega (arith, c .before .before .before .before .«record» .ensures .placed .out, c .before .before .before .before .«record» .kept .1 .1 .1 .0, c .before .before .before .before .before .before .before .before .loop .inv .long))
+
+loop-less : tie.Need-loop-less Inv-loop μ-loop
+loop-less c = omega (arith, c .before .before .before .before .before .«record» .ensures .on, c .before .before .before .before .before .«record» .ensures .placed .at)
+
+loop-again : tie.Need-loop-again Inv-loop μ-loop
+loop-again c = again _ _ _ _ _ _ _ (c .before .before .before .before .before .before .before .before .before .loop .inv) _ _ _ _ (c .before .before .before .before .before .before .before .before .loop-test .taken) (c .before .before .before .before .before .«record» .ensures) (c .before .before .before .before .before .«record» .kept .1 .1 .1 .0) (c .before .before .before .before .before .«record» .kept .1 .0) (c .halt2 .ensures)
+
+last-requires : tie.Need-last-requires Inv-loop μ-loop
+last-requires c κs = search needs
+
+add-t13 : tie.Need-add-t13 Inv-loop μ-loop
+add-t13 c = omega (arith, c .before .before .before .loop .inv .placed .at, c .before .last .ensures .1)
+
+same-length : tie.Need-same-length Inv-loop μ-loop
+same-length c = c .before .before .before .loop .inv .wide
+
+same-length-2 : tie.Need-same-length-2 Inv-loop μ-loop
+same-length-2 c = c .before .before .before .loop .inv .long
+
+returns : tie.Need-returns Inv-loop μ-loop
+returns c = stopped _ _ _ _ _ _ _ (c .before .before .before .loop .inv) (c .before .before .before .before .before .before .before .before .pre) _ (c .before .before .loop-test .left) (c .before .last .ensures .0)
+
+pub run-table-spec : {M : Type 1} → statement M
+run-table-spec =
+    tie.close
+    (tie.spec
+    Inv-loop
+    μ-loop
+    halt-requires
+    loop-holds
+    record-requires
+    halt-requires-2
+    loop-less
+    loop-again
+    last-requires
+    add-t13
+    same-length
+    same-length-2
+    returns)

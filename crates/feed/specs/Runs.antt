@@ -1,0 +1,38 @@
+-- What a run of a feed promises, for every feed, every lent reply and all words: by what the words are seen to be. Assumes nothing.
+use mathlib.Core.Path.{_≡_}
+use mathlib.Core.List.{List}
+use Prim.Native.Nat.{ℕ}
+use lib.ListN.{length}
+use Rattle.routes.specs.Runs.{Ran as Outcome}
+use Rattle.routes.specs.Seen.{Answer, gives, refuses, runOn, ranOn, repliedOn}
+use Rattle.arrays.specs.Table.{seen}
+use Rattle.feed.specs.declared.Report.{Report}
+use Rattle.feed.specs.declared.Ran.{Ran}
+use Rattle.feed.specs.declared.Ran.the-variants.{Stopped, Refused}
+
+-- what a result tells
+abbrev pub told : Ran → Answer Report
+told (Stopped r) = gives r
+told (Refused n) = refuses n
+
+-- what is to be told of a run: stop, feed bytes consumed, reply bytes written, accepted updates, refused records
+abbrev pub reportOf : Outcome → Report
+reportOf o =
+    record {
+      stop = o .stop;
+      consumed = o .end .consumed;
+      written = length (o .end .replies);
+      accepted = o .end .accepted;
+      refused = o .end .refused;
+    }
+
+abbrev pub reported : Answer Outcome → Answer Report
+reported (gives o) = gives (reportOf o)
+reported (refuses n) = refuses n
+
+-- a run of feed on the words ws and the reply bytes b left vs and c, and answered r
+pub record Runs (ws feed b vs c : List ℕ) (r : Ran) : Type 0 where
+  pub answer : told r ≡ reported (runOn (seen 4 ws) feed b)
+  pub list : seen 4 vs ≡ ranOn (seen 4 ws) feed b
+  pub replies : c ≡ repliedOn (seen 4 ws) feed b
+  pub kept : (n : ℕ) → r ≡ Refused n → vs ≡ ws

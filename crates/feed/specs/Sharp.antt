@@ -1,0 +1,73 @@
+-- What the run's promise comes to: two outcomes that it allows agree, reply bytes past those written stay, and what is
+-- written fits. Assumes nothing.
+use mathlib.Core.Path.{_≡_, refl, sym, ap, _∙_}
+use mathlib.Core.List.{List}
+use Prim.Native.Nat.{ℕ, _≤_}
+use native.Mathlib.Omega.{arith}
+use lib.ListN.{length, drop, length-append, length-drop}
+use lib.Seq.{drop-at}
+use Rattle.routes.specs.Seen.{Seen, misfit, foreign, table, runOn, repliedOn}
+use Rattle.routes.specs.Runs.{run}
+use Rattle.arrays.specs.Table.{seen}
+use Rattle.feed.specs.Runs.{told, reported, Runs}
+use Rattle.feed.specs.declared.Ran.{Ran}
+use Rattle.feed.specs.declared.Ran.the-variants.{Stopped, Refused}
+
+-- ---- two outcomes agree
+
+-- one answer, the same reply bytes, the same list; and, where refused, the same words
+pub record Agree (vs c : List ℕ) (r : Ran) (vs′ c′ : List ℕ) (r′ : Ran) : Type 0 where
+  pub answer : r ≡ r′
+  pub replies : c ≡ c′
+  pub list : seen 4 vs ≡ seen 4 vs′
+  pub words : (n : ℕ) → r ≡ Refused n → vs ≡ vs′
+
+told-one : (r r′ : Ran) → told r ≡ told r′ → r ≡ r′
+told-one (Stopped r) (Stopped r′) e = cc
+told-one (Stopped r) (Refused n) e = let z : _≡_ {A = ℕ} 0 1 = cc in absurd (omega arith)
+told-one (Refused n) (Stopped r) e = let z : _≡_ {A = ℕ} 0 1 = cc in absurd (omega arith)
+told-one (Refused n) (Refused m) e = cc
+
+pub sharp : (ws feed b vs c : List ℕ) (r : Ran) (vs′ c′ : List ℕ) (r′ : Ran) → Runs ws feed b vs c r → Runs ws feed b vs′ c′ r′ → Agree vs c r vs′ c′ r′
+sharp ws feed b vs c r vs′ c′ r′ p q =
+    let e : r ≡ r′ = told-one r r′ (p .answer ∙ sym (q .answer)) in
+    record {
+      answer = e;
+      replies = p .replies ∙ sym (q .replies);
+      list = p .list ∙ sym (q .list);
+      words = λ n z. p .kept n z ∙ sym (q .kept n (sym e ∙ z));
+    }
+
+-- ---- what is not written stays
+
+-- the reply bytes written
+abbrev pub writtenBy : Ran → ℕ
+writtenBy (Stopped r) = r .written
+writtenBy (Refused n) = 0
+
+untouched : (s : Seen) (feed b : List ℕ) (r : Ran) → told r ≡ reported (runOn s feed b) → drop (writtenBy r) (repliedOn s feed b) ≡ drop (writtenBy r) b
+untouched misfit feed b r e = refl
+untouched foreign feed b r e = refl
+untouched (table A rs) feed b (Stopped r) e =
+    let xs = run A rs feed (length b) .end .replies in
+    let n : r .written ≡ length xs = cc in
+    rw n (drop-at xs (drop (length xs) b) (length xs) refl)
+untouched (table A rs) feed b (Refused n) e = let z : _≡_ {A = ℕ} 0 1 = cc in absurd (omega arith)
+
+pub stays : (ws feed b vs c : List ℕ) (r : Ran) → Runs ws feed b vs c r → drop (writtenBy r) c ≡ drop (writtenBy r) b
+stays ws feed b vs c r p = ap (drop (writtenBy r)) (p .replies) ∙ untouched (seen 4 ws) feed b r (p .answer)
+
+-- ---- what is written fits
+
+fitting : (s : Seen) (feed b : List ℕ) (r : Ran) → told r ≡ reported (runOn s feed b) → length (repliedOn s feed b) ≡ length b → writtenBy r ≤ length b
+fitting s feed b (Refused n) e l = omega arith
+fitting misfit feed b (Stopped r) e l = let z : _≡_ {A = ℕ} 0 1 = cc in absurd (omega arith)
+fitting foreign feed b (Stopped r) e l = let z : _≡_ {A = ℕ} 0 1 = cc in absurd (omega arith)
+fitting (table A rs) feed b (Stopped r) e l =
+    let xs = run A rs feed (length b) .end .replies in
+    let n : r .written ≡ length xs = cc in
+    omega (arith, length-append xs (drop (length xs) b), length-drop (length xs) b)
+
+-- a lent slice keeps its length
+pub fits : (ws feed b vs c : List ℕ) (r : Ran) → Runs ws feed b vs c r → length c ≡ length b → writtenBy r ≤ length c
+fits ws feed b vs c r p l = omega (arith, fitting (seen 4 ws) feed b r (p .answer) (sym (ap length (p .replies)) ∙ l))

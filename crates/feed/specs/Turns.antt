@@ -1,0 +1,105 @@
+-- What the functions behind the run promise: the answer to one record, its reply, and how far the run has come then. Assumes nothing.
+use mathlib.Core.Path.{_≡_}
+use mathlib.Core.Bool.{Bool, cond}
+use mathlib.Core.List.{List, []}
+use Prim.Native.Nat.{ℕ, _+_, _≤_, _<_}
+use lib.ListN.{length, getD, take, drop}
+use lib.Seq.{sets}
+use Rattle.routes.specs.Route.{Route}
+use Rattle.routes.specs.Answers.{Record, update, announce, withdraw, lookup, Reply as Said, done, found, none, refused, reply, next}
+use Rattle.routes.specs.Bytes.{twoAt, fourAt}
+use Rattle.routes.specs.Runs.{State, size, recordAt, taken}
+use Rattle.routes.specs.Seen.{Seen, misfit, foreign, table}
+use Rattle.laws.specs.Turns.{Clear}
+use Rattle.arrays.specs.Table.{seen}
+use Rattle.feed.specs.declared.Reply.{Reply}
+use Rattle.feed.specs.declared.Reply.the-variants.{Done, Found, Nothing, Refused}
+use Rattle.feed.specs.declared.Progress.{Progress}
+
+-- ---- words that are a table
+
+abbrev pub IsTable : Seen → Type 0
+IsTable misfit = ⊥
+IsTable foreign = ⊥
+IsTable (table A rs) = Unit {0}
+
+abbrev pub roomIn : Seen → ℕ
+roomIn misfit = 0
+roomIn foreign = 0
+roomIn (table A rs) = A
+
+abbrev pub listIn : Seen → List Route
+listIn misfit = []
+listIn foreign = []
+listIn (table A rs) = rs
+
+-- ---- an answer
+
+abbrev pub told : Reply → Said
+told (Done h c) = done h c
+told (Found h l) = found h l
+told Nothing = none
+told (Refused n) = refused n
+
+-- the record x was answered by r on the words ws, a table, and left the table vs
+pub record Answered (ws : List ℕ) (x : Record) (vs : List ℕ) (r : Reply) : Type 0 where
+  pub answer : told r ≡ reply 32 (roomIn (seen 4 ws)) (listIn (seen 4 ws)) x
+  pub list : seen 4 vs ≡ table (roomIn (seen 4 ws)) (next 32 (roomIn (seen 4 ws)) (listIn (seen 4 ws)) x)
+
+-- the records of each kind that begin at i
+abbrev pub announceAt : List ℕ → ℕ → Record
+announceAt feed i = update (announce (fourAt feed (i + 1)) (getD feed (i + 5) 0) (twoAt feed (i + 6)))
+
+abbrev pub withdrawAt : List ℕ → ℕ → Record
+withdrawAt feed i = update (withdraw (fourAt feed (i + 1)) (getD feed (i + 5) 0))
+
+abbrev pub lookupAt : List ℕ → ℕ → Record
+lookupAt feed i = lookup (fourAt feed (i + 1))
+
+-- the record that begins at i
+abbrev pub here : List ℕ → ℕ → Record
+here feed i = recordAt feed i (getD feed i 0)
+
+-- what is asked for before the record at i is answered: a whole record that is no end
+pub record Asks (ws feed : List ℕ) (i : ℕ) : Type 0 where
+  pub isTable : IsTable (seen 4 ws)
+  pub kind : getD feed i 0 ≤ 3
+  pub more : 1 ≤ getD feed i 0
+  pub body : i + size (getD feed i 0) ≤ length feed
+
+-- ---- a reply
+
+-- xs was written at p of b, which left c and the place q
+pub record Wrote (b : List ℕ) (p : ℕ) (xs : List ℕ) (q : ℕ) (c : List ℕ) : Type 0 where
+  pub place : q ≡ p + length xs
+  pub list : c ≡ sets b p xs
+
+abbrev pub one : Bool → ℕ
+one b = cond b 1 0
+
+-- ---- how far a run has come
+
+-- the run's state, as its counters, the words and the reply bytes stand for it
+abbrev pub stateOf : Progress → List ℕ → List ℕ → State
+stateOf p ws b = record { list = listIn (seen 4 ws); consumed = p .at; replies = take (p .out) b; accepted = p .accepted; refused = p .refused }
+
+pub record Placed (p : Progress) (feed b : List ℕ) : Type 0 where
+  pub at : p .at ≤ length feed
+  pub out : p .out ≤ length b
+  pub accepted : p .accepted ≤ p .at
+  pub refused : p .refused ≤ p .at
+
+-- no test stops the run before the next record
+pub record Takes (p : Progress) (ws feed b : List ℕ) : Type 0 where
+  pub isTable : IsTable (seen 4 ws)
+  pub placed : Placed p feed b
+  pub clear : Clear feed (length b) (p .at) (p .out)
+
+-- the record after p was answered: the run has come to q, the words are vs and the reply bytes c
+pub record Took (p : Progress) (ws feed b : List ℕ) (q : Progress) (vs c : List ℕ) : Type 0 where
+  pub state : stateOf q vs c ≡ taken (roomIn (seen 4 ws)) feed (stateOf p ws b)
+  pub list : seen 4 vs ≡ table (roomIn (seen 4 ws)) (listIn (seen 4 vs))
+  pub rest : drop (q .out) c ≡ drop (q .out) b
+  pub placed : Placed q feed c
+  pub on : p .at < q .at
+  pub past : p .out ≤ q .out

@@ -1,0 +1,271 @@
+// The run of a feed: records in order, one reply for each but end, until a test stops it.
+ghost use mathlib.Core.Path.{_≡_};
+ghost use Prim.Native.Nat.{_+_, _<_, _≤_};
+ghost use lib.ListN.{length};
+ghost use lib.Dec.{eqb};
+ghost use Rattle.routes.specs.Answers.{isDone, isRefused};
+ghost use Rattle.routes.specs.Bytes.{replyBytes};
+ghost use Rattle.routes.specs.Runs.{size as sizeOf, halts};
+ghost use Rattle.arrays.specs.Table.{seen};
+ghost use Rattle.update.specs.Update.{told as toldUpdate};
+ghost use Rattle.lookup.specs.Told.{told as toldMatch};
+ghost use Rattle.feed.specs.Runs.{Runs};
+ghost use Rattle.feed.specs.Turns.{told, one, Wrote, IsTable, announceAt, withdrawAt, lookupAt, Asks, Answered, here, Takes, Took};
+ghost use Rattle.feed.specs.declared.Ran.the-variants.{Stopped};
+
+// What a record is answered with.
+enum Reply {
+    // hop and cells
+    Done(u32, u32),
+    // hop and length
+    Found(u32, u32),
+    Nothing,
+    Refused(u32),
+}
+
+// How far a run has come: feed bytes consumed, reply bytes written, accepted updates, refused records.
+struct Progress {
+    at: usize,
+    out: usize,
+    accepted: usize,
+    refused: usize,
+}
+
+// What is told of a run: its stop, feed bytes consumed, reply bytes written, accepted updates, refused records.
+pub struct Report {
+    pub stop: u32,
+    pub consumed: usize,
+    pub written: usize,
+    pub accepted: usize,
+    pub refused: usize,
+}
+
+pub enum Ran {
+    Stopped(Report),
+    Refused(u32),
+}
+
+// Runs a feed on lent words and writes the replies to the front of lent bytes.
+pub fn run(words: &mut [u32], feed: &[u8], reply: &mut [u8]) -> Ran
+    ensures { λ r. ⌜ Runs (now (words .entry)) (now (feed .entry)) (now (reply .entry)) (now (words .exit)) (now (reply .exit)) r ⌝ }
+{
+    match audit::check(words) {
+        audit::Checked::Refused(n) => Ran::Refused(n),
+        audit::Checked::Counts(_, _) => Ran::Stopped(run_table(words, feed, reply)),
+    }
+}
+
+// The run on words that are a table.
+fn run_table(words: &mut [u32], feed: &[u8], reply: &mut [u8]) -> Report
+    requires { ⌜ IsTable (seen 4 (now words)) ⌝ }
+    ensures { λ r. ⌜ Runs (now (words .entry)) (now (feed .entry)) (now (reply .entry)) (now (words .exit)) (now (reply .exit)) (Stopped r) ⌝ }
+{
+    let room = reply.len();
+    let mut p = Progress {
+        at: 0,
+        out: 0,
+        accepted: 0,
+        refused: 0,
+    };
+    let mut stop = p.halt(feed, room);
+    while stop == 5 {
+        p = p.record(words, feed, reply);
+        stop = p.halt(feed, room);
+    }
+    Report {
+        stop: stop,
+        consumed: p.at + last(stop),
+        written: p.out,
+        accepted: p.accepted,
+        refused: p.refused,
+    }
+}
+
+// The bytes that a stop consumes: an end is consumed, another record that stops the run is not.
+fn last(stop: u32) -> usize
+    ensures { λ n. ⌜ (n ≡ one (eqb stop 0)) × (n ≤ 1) ⌝ }
+{
+    if stop == 0 { 1 } else { 0 }
+}
+
+impl Progress {
+    // The stop that the tests before a record find, or 5.
+    fn halt(self, feed: &[u8], room: usize) -> u32
+        requires { ⌜ (self .at ≤ length (now feed)) × (self .out ≤ room) ⌝ }
+        ensures { λ r. ⌜ r ≡ halts (now (feed .entry)) room (self .at) (self .out) ⌝ }
+    {
+        let at = self.at;
+        let out = self.out;
+        if feed.len() <= at {
+            return 1;
+        }
+        let kind = feed[at];
+        if kind > 3 {
+            return 2;
+        }
+        let n = size(kind);
+        if feed.len() - at < n {
+            return 3;
+        }
+        if kind == 0 {
+            return 0;
+        }
+        if room - out < 5 {
+            return 4;
+        }
+        5
+    }
+
+    // Answers the record that is next, and hands back how far the run has come then.
+    fn record(self, words: &mut [u32], feed: &[u8], reply: &mut [u8]) -> Progress
+        requires { ⌜ Takes self (now words) (now feed) (now reply) ⌝ }
+        ensures { λ r. ⌜ Took self (now (words .entry)) (now (feed .entry)) (now (reply .entry)) r (now (words .exit)) (now (reply .exit)) ⌝ }
+    {
+        let at = self.at;
+        let out = self.out;
+        let n = size(feed[at]);
+        let answer = ask(words, feed, at);
+        let next = put(reply, out, answer);
+        let accepted = self.accepted + accepts(answer);
+        let refused = self.refused + refuses(answer);
+        Progress {
+            at: at + n,
+            out: next,
+            accepted: accepted,
+            refused: refused,
+        }
+    }
+}
+
+// The bytes of a record of a kind, the kind's own included.
+pub fn size(kind: u8) -> usize
+    ensures { λ r. ⌜ (r ≡ sizeOf kind) × (0 < r) ⌝ }
+{
+    if kind == 1 {
+        return 8;
+    }
+    if kind == 2 {
+        return 6;
+    }
+    if kind == 3 {
+        return 5;
+    }
+    1
+}
+
+// Answers the record at `at`.
+fn ask(words: &mut [u32], feed: &[u8], at: usize) -> Reply
+    requires { ⌜ Asks (now words) (now feed) at ⌝ }
+    ensures { λ r. ⌜ Answered (now (words .entry)) (here (now (feed .entry)) at) (now (words .exit)) r ⌝ }
+{
+    let kind = feed[at];
+    if kind == 1 {
+        return announce(words, feed, at);
+    }
+    if kind == 2 {
+        return withdraw(words, feed, at);
+    }
+    lookup(words, feed, at)
+}
+
+// Answers the announcement at `at`.
+fn announce(words: &mut [u32], feed: &[u8], at: usize) -> Reply
+    requires { ⌜ IsTable (seen 4 (now words)) × (at + 8 ≤ length (now feed)) ⌝ }
+    ensures { λ r. ⌜ Answered (now (words .entry)) (announceAt (now (feed .entry)) at) (now (words .exit)) r ⌝ }
+{
+    let address = numbers::four_at(feed, at + 1);
+    let length = feed[at + 5] as u32;
+    let hop = numbers::two_at(feed, at + 6);
+    of_update(update::announce(words, address, length, hop))
+}
+
+// Answers the withdrawal at `at`.
+fn withdraw(words: &mut [u32], feed: &[u8], at: usize) -> Reply
+    requires { ⌜ IsTable (seen 4 (now words)) × (at + 6 ≤ length (now feed)) ⌝ }
+    ensures { λ r. ⌜ Answered (now (words .entry)) (withdrawAt (now (feed .entry)) at) (now (words .exit)) r ⌝ }
+{
+    let address = numbers::four_at(feed, at + 1);
+    let length = feed[at + 5] as u32;
+    of_update(update::withdraw(words, address, length))
+}
+
+// Answers the lookup at `at`.
+fn lookup(words: &[u32], feed: &[u8], at: usize) -> Reply
+    requires { ⌜ IsTable (seen 4 (now words)) × (at + 5 ≤ length (now feed)) ⌝ }
+    ensures { λ r. ⌜ Answered (now (words .entry)) (lookupAt (now (feed .entry)) at) (now (words .entry)) r ⌝ }
+{
+    of_match(lookup::lookup(words, numbers::four_at(feed, at + 1)))
+}
+
+fn of_update(u: update::Updated) -> Reply
+    ensures { λ r. ⌜ told r ≡ toldUpdate u ⌝ }
+{
+    match u {
+        update::Updated::Done(hop, cells) => Reply::Done(hop, cells),
+        update::Updated::Refused(n) => Reply::Refused(n),
+    }
+}
+
+fn of_match(m: lookup::Match) -> Reply
+    ensures { λ r. ⌜ told r ≡ toldMatch m ⌝ }
+{
+    match m {
+        lookup::Match::Found(hop, length) => Reply::Found(hop, length),
+        lookup::Match::Nothing => Reply::Nothing,
+        lookup::Match::Refused(n) => Reply::Refused(n),
+    }
+}
+
+// 1 for an update that was done.
+fn accepts(r: Reply) -> usize
+    ensures { λ n. ⌜ (n ≡ one (isDone (told r))) × (n ≤ 1) ⌝ }
+{
+    match r {
+        Reply::Done(_, _) => 1,
+        Reply::Found(_, _) => 0,
+        Reply::Nothing => 0,
+        Reply::Refused(_) => 0,
+    }
+}
+
+// 1 for a record that was refused.
+fn refuses(r: Reply) -> usize
+    ensures { λ n. ⌜ (n ≡ one (isRefused (told r))) × (n ≤ 1) ⌝ }
+{
+    match r {
+        Reply::Done(_, _) => 0,
+        Reply::Found(_, _) => 0,
+        Reply::Nothing => 0,
+        Reply::Refused(_) => 1,
+    }
+}
+
+// Writes a reply, and returns the place after it.
+fn put(reply: &mut [u8], at: usize, r: Reply) -> usize
+    requires { ⌜ at + 5 ≤ length (now reply) ⌝ }
+    ensures { λ q. ⌜ Wrote (now (reply .entry)) at (replyBytes (told r)) q (now (reply .exit)) ⌝ }
+{
+    match r {
+        Reply::Done(hop, cells) => {
+            reply[at] = 16;
+            numbers::put_two(reply, at + 1, hop);
+            numbers::put_two(reply, at + 3, cells);
+            at + 5
+        }
+        Reply::Found(hop, length) => {
+            reply[at] = 17;
+            numbers::put_two(reply, at + 1, hop);
+            reply[at + 3] = (length % 256) as u8;
+            at + 4
+        }
+        Reply::Nothing => {
+            reply[at] = 18;
+            at + 1
+        }
+        Reply::Refused(n) => {
+            reply[at] = 19;
+            reply[at + 1] = (n % 256) as u8;
+            at + 2
+        }
+    }
+}
