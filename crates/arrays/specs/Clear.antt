@@ -1,25 +1,22 @@
 -- The cleared words are a table that holds nothing. Assumes nothing.
 use mathlib.Core.Path.{_≡_, refl, sym, ap, ap₂, _∙_}
-use mathlib.Core.Logic.{_⊎_, _≢_, inl, inr, ⊎-elim}
-use mathlib.Core.Bool.{Bool, true, false, cond}
-use mathlib.Core.List.{List, [], _∷_, _++_}
+use mathlib.Core.Logic.{_≢_, inl}
+use mathlib.Core.Bool.{false}
+use mathlib.Core.List.{List, []}
 use Prim.Native.Nat.{ℕ, zero, suc, _+_, _-_, _*_, _/_, _%_, _^_, _≤_, _<_}
-use native.Mathlib.Nat.{mod-lt}
 use native.Mathlib.Omega.{arith}
-use lib.Dec.{eqb}
-use lib.Pow.{pow-pos, pow-mono}
+use lib.Pow.{pow-pos}
 use lib.ListN.{length, getD, set, replicate, length-set, length-replicate, getD-replicate, List·getD-eq-default}
 use lib.Seq.{getD-set-same, getD-set-other}
-use borrow.Author.Tests.{eq-eqb, ne-eqb}
 use Rattle.laws.specs.Cases.{same, less}
-use Rattle.routes.specs.Route.{Route}
-use Rattle.laws.specs.Collect.{collect, routes, own}
-use Rattle.arrays.specs.Arrays.{Arrays, lev, node, at, held, levelOf, depthOf, Shape}
+use Rattle.laws.specs.Collect.{collect, routes}
+use Rattle.routes.specs.Room.{level}
+use Rattle.arrays.specs.Arrays.{Arrays, lev, node, held, depthOf}
 use Rattle.arrays.specs.Need.{at-some}
 use Rattle.arrays.specs.Slot.{at-none}
-use Rattle.arrays.specs.Words.{arraysOf, arrayCount, usedIn, Header, Almost, slotsOf, bestsOf}
+use Rattle.arrays.specs.Words.{arraysOf, usedIn, Almost, slotsOf, bestsOf}
 use Rattle.arrays.specs.Rehang.{Local}
-use Rattle.routes.specs.Seen.{Seen, table, misfits, arrays}
+use Rattle.routes.specs.Seen.{table, misfits, arrays}
 use Rattle.arrays.specs.Best.{best-local}
 use Rattle.arrays.specs.Table.{Table, listOf, seen}
 use Rattle.arrays.specs.Decides.{Fits}
@@ -109,9 +106,9 @@ module _ (n : ℕ) (low : 2048 ≤ n) where
   unfolding held
   cleared-held v l =
       let d = depthOf l in
-      same (node t (v / 2 ^ d) (levelOf l)) 0
-      (λ e _. at-none t (node t (v / 2 ^ d) (levelOf l)) (2 ^ d + v % 2 ^ d) e)
-      (λ m _. at-some t (node t (v / 2 ^ d) (levelOf l)) (2 ^ d + v % 2 ^ d) (omega arith) ∙ slot-none (node t (v / 2 ^ d) (levelOf l)) (2 ^ d + v % 2 ^ d) (omega arith) (omega (arith, pow-pos d)))
+      same (node t (v / 2 ^ d) (level l)) 0
+      (λ e _. at-none t (node t (v / 2 ^ d) (level l)) (2 ^ d + v % 2 ^ d) e)
+      (λ m _. at-some t (node t (v / 2 ^ d) (level l)) (2 ^ d + v % 2 ^ d) (omega arith) ∙ slot-none (node t (v / 2 ^ d) (level l)) (2 ^ d + v % 2 ^ d) (omega arith) (omega (arith, pow-pos d)))
 
 -- nothing held, no route
 pub collect-none : (f : ℕ → ℕ → ℕ) → ((v l : ℕ) → f v l ≡ 0) → (d v l : ℕ) → collect f d v l ≡ []

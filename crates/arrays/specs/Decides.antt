@@ -1,90 +1,26 @@
 -- The check's tests tell whether the words are a table. Assumes nothing.
-use mathlib.Core.Path.{_≡_, refl, sym, ap, _∙_}
+use mathlib.Core.Path.{_≡_}
 use mathlib.Core.Logic.{_⊎_, _≢_, inl, inr, ⊎-elim}
-use mathlib.Core.Bool.{Bool, true, false, cond, not, _&&_, _||_, true≢false, false≢true}
+use mathlib.Core.Bool.{Bool, true, not, _&&_, _||_}
 use mathlib.Core.List.{List}
-use Prim.Native.Nat.{ℕ, zero, suc, _+_, _-_, _*_, _/_, _%_, _≤_, _<_}
+use Prim.Native.Nat.{ℕ, _+_, _-_, _*_, _%_, _≤_, _<_}
 use native.Mathlib.Omega.{arith}
-use lib.Dec.{ltb, eqb}
+use lib.Dec.{eqb}
 use lib.ListN.{length, getD}
-use borrow.Author.Tests.{eqb-true, eqb-false, eq-eqb, ne-eqb, not-true}
-use Rattle.laws.specs.Cases.{bool, same, less}
-use Rattle.laws.specs.Tells.{Tells, allB, tells-eq, tells-lt, tells-and, tells-or, tells-all, tells-as, all-from, all-to, and-to, and-from}
-use Rattle.array.specs.Block.{bestOf, Right}
+use borrow.Author.Tests.{eqb-true, eq-eqb, ne-eqb}
+use Rattle.laws.specs.Cases.{same}
+use Rattle.laws.specs.Tells.{Tells, tells-eq, tells-and, tells-all, tells-as, all-from, all-to, and-to, and-from}
+use Rattle.array.specs.Block.{Right}
 use Rattle.array.specs.Check.{rightB, emptyB}
-use Rattle.arrays.specs.Arrays.{Arrays, lev, Child, Hung, Shape, HasSlot, HasLink, Filled}
-use Rattle.arrays.specs.Words.{arraysOf, arrayCount, usedIn, slotsOf, bestsOf, Header, Almost}
+use Rattle.array.specs.Decides.{right-tells, full-tells}
+use Rattle.arrays.specs.Arrays.{Arrays, lev, Child, Hung, HasSlot, HasLink}
+use Rattle.arrays.specs.Words.{arraysOf, arrayCount, usedIn, slotsOf, bestsOf, Header}
 use Rattle.arrays.specs.Check.{linksB, hungB, links-tells, hung-tells}
 use Rattle.arrays.specs.Table.{zeroAt, arrayB, groupB, headerB, tableB, Table}
 
-pub right-tells : (k : ℕ) (f g : ℕ → ℕ) → Tells (rightB k f g) (Right k f g)
-unfolding rightB
-right-tells k f g =
-    tells-as
-    (λ z. record {
-      hops = λ s l b. let e : s - 1 + 1 ≡ s = omega arith in rw e at (z .0 (s - 1) (omega arith));
-      first = λ h. ⊎-elim (λ (x : k < 2). absurd (omega arith)) (λ (x : f 1 ≡ 0). x) (z .1 .0);
-      best = z .1 .1;
-    })
-    (λ z. ((λ s b. z .hops (s + 1) (omega arith) (omega arith)), (less k 2 (λ h _. inl h) (λ h _. inr (z .first h)), z .best)))
-    (tells-and (tells-all (λ s. ltb (f (s + 1)) 65536) (λ s. f (s + 1) < 65536) 511 (λ s h. tells-lt (f (s + 1)) 65536))
-    (tells-and (tells-or (tells-lt k 2) (tells-eq (f 1) 0))
-    (tells-all (λ i. eqb (g i) (bestOf f (8 * (k - 1)) (256 + i) 8)) (λ i. g i ≡ bestOf f (8 * (k - 1)) (256 + i) 8) 256
-    (λ i h. tells-eq (g i) (bestOf f (8 * (k - 1)) (256 + i) 8)))))
-
--- ---- something in an array
-
--- a false among them
-record Fails (p : ℕ → Bool) (n : ℕ) : Type 0 where
-  pub i : ℕ
-  pub high : i < n
-  pub bad : p i ≡ false
-
-and-false : (b c : Bool) → (b && c) ≡ false → (b ≡ false) ⊎ (c ≡ false)
-and-false true c e = inr e
-and-false false c e = inl refl
-
-fails : (p : ℕ → Bool) (n : ℕ) → allB p n ≡ false → Fails p n
-unfolding allB
-fails p zero e = absurd (true≢false e)
-fails p (suc n) e = ⊎-elim
-    (λ (z : allB p n ≡ false). (let f = fails p n z in record { i = f .i; high = omega (arith, f .high); bad = f .bad }))
-    (λ (z : p n ≡ false). record { i = n; high = omega arith; bad = z })
-    (and-false (allB p n) (p n) e)
-
-fails-from : (p : ℕ → Bool) (n i : ℕ) → i < n → p i ≡ false → allB p n ≡ false
-fails-from p n i h e = bool (allB p n) (λ q. absurd (true≢false (sym (all-to p n q i h) ∙ e))) (λ q. q)
-
-module _ (t : Arrays) (a : ℕ) where
-  abbrev noSlot : ℕ → Bool
-  noSlot s = eqb (t .slot a (s + 2)) 0
-
-  abbrev noLink : ℕ → Bool
-  noLink i = eqb (t .link a i) 0
-
-  pub some-tells : Tells (not (emptyB (t .slot a) (t .link a))) (HasSlot t a ⊎ HasLink t a)
-  unfolding emptyB
-  some-tells = record {
-    to = λ e. ⊎-elim
-        (λ (z : allB noSlot 510 ≡ false). (let f = fails noSlot 510 z in
-        let b = eqb-false (t .slot a (f .i + 2)) 0 (f .bad) in
-        inl (record { s = f .i + 2; low = omega arith; high = omega (arith, f .high); some = omega arith })))
-        (λ (z : allB noLink 256 ≡ false). (let f = fails noLink 256 z in
-        let b = eqb-false (t .link a (f .i)) 0 (f .bad) in
-        inr (record { i = f .i; high = f .high; some = omega arith })))
-        (and-false (allB noSlot 510) (allB noLink 256) (not-true (allB noSlot 510 && allB noLink 256) e));
-    from = λ z. ⊎-elim
-        (λ (x : HasSlot t a).
-        let g : x .s - 2 + 2 ≡ x .s = omega (arith, x .low) in
-        rw (fails-from noSlot 510 (x .s - 2) (omega (arith, x .low, x .high)) (ne-eqb (t .slot a (x .s - 2 + 2)) 0 (λ q. omega (arith, x .some, rw g at q)))))
-        (λ (x : HasLink t a).
-        rw (fails-from noLink 256 (x .i) (x .high) (ne-eqb (t .link a (x .i)) 0 (λ q. omega (arith, x .some)))) (and-none (allB noSlot 510)))
-        z;
-  }
-    where
-      and-none : (b : Bool) → not (b && false) ≡ true
-      and-none true = refl
-      and-none false = refl
+-- something in an array
+pub some-tells : (t : Arrays) (a : ℕ) → Tells (not (emptyB (t .slot a) (t .link a))) (HasSlot t a ⊎ HasLink t a)
+some-tells t a = full-tells (t .slot a) (t .link a)
 
 -- ---- one array
 

@@ -1,21 +1,18 @@
 -- One array's words lent as a part of all: what the check of one block says of the part, it says of the array. Assumes nothing.
-use mathlib.Core.Path.{_≡_, refl, sym, ap, ap₂, _∙_}
-use mathlib.Core.Logic.{_⊎_, _≢_, inl, inr, ⊎-elim}
-use mathlib.Core.Bool.{Bool, true, false, cond, not, _&&_, true≢false, false≢true}
+use mathlib.Core.Path.{_≡_, refl, sym, _∙_}
+use mathlib.Core.Bool.{Bool, true≢false}
 use mathlib.Core.List.{List}
-use Prim.Native.Nat.{ℕ, zero, suc, _+_, _-_, _*_, _≤_, _<_}
+use Prim.Native.Nat.{ℕ, zero, suc, _+_, _*_, _≤_, _<_}
 use native.Mathlib.Omega.{arith}
-use lib.Dec.{eqb}
-use lib.ListN.{length, getD, take, drop}
+use lib.ListN.{getD, take, drop}
 use lib.Seq.{getD-take, getD-drop}
 use Rattle.laws.specs.Cases.{bool}
-use Rattle.laws.specs.Tells.{Tells, allB, tells-eq, tells-and, tells-all}
-use Rattle.array.specs.Block.{slots, bests, links, Right}
+use Rattle.laws.specs.Tells.{Tells}
+use Rattle.array.specs.Block.{slots, bests, links}
 use Rattle.array.specs.Check.{rightB, emptyB, taken}
+use Rattle.array.specs.Decides.{right-tells, empty-tells}
 use Rattle.arrays.specs.Words.{arraysOf, slotsOf, bestsOf}
-use Rattle.arrays.specs.Rehang.{Local}
 use Rattle.arrays.specs.Best.{best-local}
-use Rattle.arrays.specs.Decides.{right-tells}
 
 -- two tests of statements that follow from each other
 tells-same : {b c : Bool} {P Q : Type 0} → Tells b P → Tells c Q → (P → Q) → (Q → P) → b ≡ c
@@ -23,15 +20,6 @@ tells-same {b} {c} p q f g =
     bool b
     (λ x. x ∙ sym (q .from (f (p .to x))))
     (λ x. bool c (λ y. absurd (true≢false (sym (p .from (g (q .to y))) ∙ x))) (λ y. x ∙ sym y))
-
--- no slot but that of length 0, and no link
-abbrev None : (ℕ → ℕ) → (ℕ → ℕ) → Type 0
-None f h = ((s : ℕ) → s < 510 → f (s + 2) ≡ 0) × ((i : ℕ) → i < 256 → h i ≡ 0)
-
-empty-tells : (f h : ℕ → ℕ) → Tells (emptyB f h) (None f h)
-unfolding emptyB
-empty-tells f h =
-    tells-and (tells-all (λ s. eqb (f (s + 2)) 0) (λ s. f (s + 2) ≡ 0) 510 (λ s b. tells-eq (f (s + 2)) 0)) (tells-all (λ i. eqb (h i) 0) (λ i. h i ≡ 0) 256 (λ i b. tells-eq (h i) 0))
 
 taken-ext : (f g : ℕ → ℕ) (n : ℕ) → ((s : ℕ) → 1 ≤ s → s ≤ n → f s ≡ g s) → taken f n ≡ taken g n
 unfolding taken
@@ -63,8 +51,8 @@ module _ (ws : List ℕ) (a m : ℕ) (size : m ≡ 1024) where
   pub lent-empty : emptyB (slots b) (links b) ≡ emptyB (slotsOf ws a) (arraysOf ws .link a)
   lent-empty =
       tells-same (empty-tells (slots b) (links b)) (empty-tells (slotsOf ws a) (arraysOf ws .link a))
-      (λ z. ((λ s h. sym (slot (s + 2) (omega arith)) ∙ z .0 s h), (λ i h. sym (link i h) ∙ z .1 i h)))
-      (λ z. ((λ s h. slot (s + 2) (omega arith) ∙ z .0 s h), (λ i h. link i h ∙ z .1 i h)))
+      (λ z. record { slots = λ s l h. sym (slot s h) ∙ z .slots s l h; links = λ i h. sym (link i h) ∙ z .links i h })
+      (λ z. record { slots = λ s l h. slot s h ∙ z .slots s l h; links = λ i h. link i h ∙ z .links i h })
 
   pub lent-taken : taken (slots b) 511 ≡ taken (slotsOf ws a) 511
   lent-taken = taken-ext (slots b) (slotsOf ws a) 511 (λ s h w. slot s (omega arith))

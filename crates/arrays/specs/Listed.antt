@@ -1,23 +1,22 @@
 -- A table stands for a route list of document 01, and for one only. Assumes nothing.
 --
 --     words ── paths lead to slots ──► hop of each prefix ── at most one list holds these ──► listOf
-use mathlib.Core.Path.{_≡_, refl, sym, ap, _∙_}
+use mathlib.Core.Path.{_≡_, refl, sym, _∙_}
 use mathlib.Core.Logic.{_≢_}
-use mathlib.Core.Bool.{Bool, true, false, cond}
-use mathlib.Core.List.{List, [], _∷_, _++_}
+use mathlib.Core.List.{List, [], _∷_}
 use Prim.Native.Nat.{ℕ, zero, suc, _+_, _-_, _*_, _/_, _%_, _^_, _≤_, _<_}
 use native.Mathlib.Nat.{mod-lt}
 use native.Mathlib.Omega.{arith}
-use lib.ListN.{length}
 use lib.Pow.{pow-pos, pow-mono, shr-lt}
 use Rattle.routes.specs.Route.{Route, key, All, hopAt, held, Wf, IsRoute, IsList}
 use Rattle.laws.specs.Cases.{same}
-use Rattle.laws.specs.Sorted.{Good, ext, all-append, all-map, hop-head, hop-skip}
+use Rattle.laws.specs.Sorted.{Good, ext, all-append, all-map, hop-skip}
 use Rattle.laws.specs.Collect.{own, collect, routes, routes-from, routes-hop}
 use Rattle.laws.specs.Longest.{whole, routes-wfs}
-use Rattle.arrays.specs.Arrays.{Arrays, lev, node, at, levelOf, depthOf, Shape}
+use Rattle.routes.specs.Room.{level}
+use Rattle.arrays.specs.Arrays.{Arrays, node, at, depthOf}
 use Rattle.arrays.specs.Arrays as arrays
-use Rattle.arrays.specs.Tree.{Level, node-level}
+use Rattle.arrays.specs.Tree.{node-level}
 use Rattle.arrays.specs.Need.{at-some}
 use Rattle.arrays.specs.Slot.{at-none}
 use Rattle.arrays.specs.Words.{arraysOf, arrayCount}
@@ -57,11 +56,11 @@ module _ (L : ℕ) (ws : List ℕ) (ok : Table L ws) where
   unfolding arrays.held
   held-low v l =
       let d = depthOf l in
-      let a = node t (v / 2 ^ d) (levelOf l) in
+      let a = node t (v / 2 ^ d) (level l) in
       let s = 2 ^ d + v % 2 ^ d in
       same a 0
       (λ e _. omega (arith, at-none t a s e))
-      (λ n _. (let u = node-level (arrayCount ws) L t (ok .shape) (v / 2 ^ d) (levelOf l) (omega arith) in
+      (λ n _. (let u = node-level (arrayCount ws) L t (ok .shape) (v / 2 ^ d) (level l) (omega arith) in
       let p : 1 ≤ t .tag a = omega (arith, u .level) in
       let hi : s < 512 = omega (arith, mod-lt v (pow-pos d), pow-mono {i = d} {j = 8} (omega arith)) in
       omega (arith, at-some t a s (u .some), ok .right a (u .some) (u .within) p .hops s (omega (arith, pow-pos d)) hi)))

@@ -1,21 +1,22 @@
 -- The used arrays are as many as the list needs. Assumes nothing.
-use mathlib.Core.Path.{_≡_, refl, sym, ap, ap₂, _∙_}
-use mathlib.Core.Logic.{_⊎_, _≢_, inl, inr, ⊎-elim}
-use mathlib.Core.Bool.{Bool, true, false, cond, _||_, true≢false, false≢true}
+use mathlib.Core.Path.{_≡_, refl, sym, ap, _∙_}
+use mathlib.Core.Logic.{⊎-elim}
+use mathlib.Core.Bool.{Bool, true, false, cond, false≢true}
 use mathlib.Core.List.{List, [], _∷_}
 use Prim.Native.Nat.{ℕ, zero, suc, _+_, _-_, _*_, _/_, _%_, _^_, _≤_, _<_}
 use native.Mathlib.Nat.{pow-succ', mul-le-mul-right, le-refl}
 use native.Mathlib.Omega.{arith}
 use lib.Dec.{eqb}
-use lib.Pow.{pow-pos, pow-add, pow-mono, shr-shr, shr-lt, high, low}
+use lib.Pow.{pow-add, pow-mono, shr-shr, shr-lt, high, low}
 use borrow.Author.Tests.{eq-eqb, ne-eqb}
 use Rattle.laws.specs.Cases.{same, bool, less}
 use Rattle.laws.specs.Collect.{routes}
-use Rattle.routes.specs.Room.{mem, distinct, heads, needTo}
+use Rattle.routes.specs.Room.{level, mem, distinct, heads, needTo}
 use Rattle.laws.specs.Room.{distinct-mem, or-left, or-right}
 use Rattle.laws.specs.Heads.{Below, heads-in, heads-out}
-use Rattle.arrays.specs.Arrays.{Arrays, par, cell, lev, down, at, node, levelOf, depthOf, held, Child, Shape, HasSlot, HasLink, Filled}
-use Rattle.arrays.specs.Tree.{Level, Reached, path, child, hangs, node-level, node-suc, node-up, node-inj, down-some, reach, is-root, used-level, pow8}
+use Rattle.arrays.specs.Arrays.{Arrays, lev, at, node, depthOf, held, Shape, HasSlot, HasLink, Filled}
+use Rattle.arrays.specs.Words.{usedIn}
+use Rattle.arrays.specs.Tree.{path, node-level, node-suc, node-up, node-inj, down-some, reach, used-level, pow8}
 
 -- ---- a slot's length and value
 
@@ -131,7 +132,7 @@ module _ (A L : ℕ) (t : Arrays) (s : Shape A L t) where
   unfolding held
   above W k z h b =
       let l = b .l in
-      let j = levelOf l in
+      let j = level l in
       let d = depthOf l in
       let m = j - k in
       let e : m + k ≡ j = omega (arith, b .long) in
@@ -145,14 +146,10 @@ abbrev pub pathsAt : Arrays → ℕ → ℕ → List ℕ
 pathsAt t k zero = []
 pathsAt t k (suc n) = cond (eqb (lev t (suc n)) (suc k)) (path t k (suc n) ∷ pathsAt t k n) (pathsAt t k n)
 
--- how many of the first n arrays have level k, and how many are used
+-- how many of the first n arrays have level k
 abbrev pub countAt : Arrays → ℕ → ℕ → ℕ
 countAt t k zero = 0
 countAt t k (suc n) = countAt t k n + cond (eqb (lev t (suc n)) (suc k)) 1 0
-
-abbrev pub usedTo : Arrays → ℕ → ℕ
-usedTo t zero = 0
-usedTo t (suc n) = usedTo t n + cond (eqb (t .tag (suc n)) 0) 0 1
 
 -- how many of the first n arrays have a level below k
 abbrev sumTo : Arrays → ℕ → ℕ → ℕ
@@ -237,14 +234,15 @@ module _ (A L : ℕ) (t : Arrays) (s : Shape A L t) where
           let z : p .a ≡ suc n = sym x ∙ ap (λ (u : ℕ). node t u k) (p .is) ∙ y in
           omega (arith, p .within)
 
-  used-sum : (n : ℕ) → n ≤ A → usedTo t n ≡ sumTo t L n
+  used-sum : (n : ℕ) → n ≤ A → usedIn t 0 n ≡ sumTo t L n
   used-sum zero w = sym (sum-zero t L)
   used-sum (suc n) w =
+      let f : 0 + suc n ≡ suc n = omega arith in
       same (t .tag (suc n)) 0
       (λ q e. let z : lev t (suc n) ≡ 0 = omega arith in
-      rw (e, sum-suc t L n, z, hits-zero L) (omega (arith, used-sum n (omega arith))))
+      rw (f, e, sum-suc t L n, z, hits-zero L) (omega (arith, used-sum n (omega arith))))
       (λ q e. let u = used-level A L t s (suc n) (omega arith) w (omega arith) in
-      rw (e, sum-suc t L n, hits-one (lev t (suc n)) L (u .0) (u .1)) (omega (arith, used-sum n (omega arith))))
+      rw (f, e, sum-suc t L n, hits-one (lev t (suc n)) L (u .0) (u .1)) (omega (arith, used-sum n (omega arith))))
 
   root-count : countAt t 0 A ≡ 1
   unfolding path
@@ -292,5 +290,5 @@ module _ (A L : ℕ) (t : Arrays) (s : Shape A L t) where
         omega (arith, need-to j (omega arith), distinct-paths (suc j) A (le-refl A), e)
 
     -- the arrays used are as many as the list needs
-    pub used-need : (J : ℕ) → L ≡ suc J → usedTo t A ≡ needTo (8 * L) J (routes (8 * L) (held t))
+    pub used-need : (J : ℕ) → L ≡ suc J → usedIn t 0 A ≡ needTo (8 * L) J (routes (8 * L) (held t))
     used-need J e = used-sum A (le-refl A) ∙ ap (λ (k : ℕ). sumTo t k A) e ∙ need-to J (omega arith)

@@ -1,30 +1,24 @@
 -- The header's count is the need of the list, and says whether an array is free. Assumes nothing.
-use mathlib.Core.Path.{_≡_, refl, sym, ap, _∙_}
-use mathlib.Core.Logic.{_≢_}
-use mathlib.Core.Bool.{Bool, true, false, cond}
+use mathlib.Core.Path.{_≡_, refl, _∙_}
+use mathlib.Core.Bool.{cond}
 use mathlib.Core.List.{List}
 use Prim.Native.Nat.{ℕ, zero, suc, _+_, _-_, _*_, _/_, _≤_, _<_}
-use native.Mathlib.Nat.{zero-add}
 use native.Mathlib.Omega.{arith}
 use lib.Dec.{eqb}
-use lib.ListN.{length, getD}
+use lib.ListN.{getD}
 use Rattle.laws.specs.Cases.{same}
 use Rattle.laws.specs.Collect.{routes}
 use Rattle.routes.specs.Room.{needTo, need}
 use Rattle.array.specs.Block.{Right}
 use Rattle.arrays.specs.Arrays.{Arrays, held}
-use Rattle.arrays.specs.Need.{usedTo, used-need}
+use Rattle.arrays.specs.Need.{used-need}
 use Rattle.arrays.specs.Words.{arraysOf, arrayCount, usedIn, firstFree, Almost}
 use Rattle.arrays.specs.Table.{Table, listOf}
-
-pub used-all : (t : Arrays) (n : ℕ) → usedIn t 0 n ≡ usedTo t n
-used-all t zero = refl
-used-all t (suc n) = let e : 0 + suc n ≡ suc n = omega arith in rw (e, used-all t n)
 
 pub count-need : (Right : ℕ → (ℕ → ℕ) → (ℕ → ℕ) → Type 0) (J : ℕ) (ws : List ℕ) → Almost Right (suc J) 0 ws
     → getD ws 0 0 ≡ needTo (8 * suc J) J (routes (8 * suc J) (held (arraysOf ws)))
 count-need Right J ws ok =
-    ok .header .count ∙ used-all (arraysOf ws) (arrayCount ws) ∙ used-need (arrayCount ws) (suc J) (arraysOf ws) (ok .shape) (ok .filled) J refl
+    ok .header .count ∙ used-need (arrayCount ws) (suc J) (arraysOf ws) (ok .shape) (ok .filled) J refl
 
 -- the arrays used are the need of the list
 pub table-need : (L : ℕ) (ws : List ℕ) → Table L ws → getD ws 0 0 ≡ need (8 * L) (listOf L ws)

@@ -2,7 +2,7 @@
 -- Assumes nothing.
 use mathlib.Core.Bool.{Bool, cond, not, _&&_, _||_}
 use mathlib.Core.List.{List}
-use Prim.Native.Nat.{ℕ, _+_, _-_, _*_}
+use Prim.Native.Nat.{ℕ, _+_, _*_}
 use lib.Dec.{eqb}
 use lib.ListN.{length, getD}
 use Rattle.routes.specs.Seen.{Seen, misfit, foreign, table, misfits}
@@ -10,7 +10,7 @@ use Rattle.laws.specs.Collect.{routes}
 use Rattle.laws.specs.Tells.{allB}
 use Rattle.array.specs.Block.{Right}
 use Rattle.array.specs.Check.{rightB, emptyB}
-use Rattle.arrays.specs.Arrays.{Arrays, lev, held}
+use Rattle.arrays.specs.Arrays.{lev, held}
 use Rattle.arrays.specs.Words.{arraysOf, arrayCount, slotsOf, bestsOf, usedIn, Almost}
 use Rattle.arrays.specs.Check.{linksB, hungB}
 

@@ -1,14 +1,14 @@
 -- The check's Booleans where a test has settled them: a law for each way out of a function. Assumes nothing.
 use mathlib.Core.Path.{_≡_, refl, sym, ap, _∙_}
 use mathlib.Core.Logic.{_≢_}
-use mathlib.Core.Bool.{Bool, true, false, cond, not, _&&_, _||_}
+use mathlib.Core.Bool.{Bool, true, false, not, _&&_}
 use mathlib.Core.List.{List, _++_, append-nil}
-use Prim.Native.Nat.{ℕ, zero, suc, _+_, _-_, _*_, _/_, _%_, _≤_, _<_}
+use Prim.Native.Nat.{ℕ, suc, _+_, _-_, _*_, _/_, _%_, _≤_, _<_}
 use native.Mathlib.Nat.{le-antisymm}
 use native.Mathlib.Numerals.{add-one}
 use native.Mathlib.Omega.{arith}
-use lib.Bits.{bitOr, bitAnd, or-add-and, and-le-l, and-le-r}
-use lib.Dec.{ltb, leb, eqb}
+use lib.Bits.{bitOr, or-add-and, and-le-l, and-le-r}
+use lib.Dec.{ltb, eqb}
 use lib.ListN.{getD, length, set, replicate, drop}
 use lib.Seq.{drop-length}
 use borrow.Author.Fill.{fill-more}
@@ -22,7 +22,7 @@ use Rattle.arrays.specs.Arrays.{Arrays, par, cell, lev}
 use Rattle.arrays.specs.Words.{arraysOf, arrayCount, slotsOf, bestsOf, usedIn}
 use Rattle.arrays.specs.Check.{linkB, linksB, hungB}
 use Rattle.arrays.specs.Table.{zeroAt, arrayB, groupB, headerB, tableB, listOf, seen}
-use Rattle.arrays.specs.Decides.{Fits, table-tells}
+use Rattle.arrays.specs.Decides.{table-tells}
 use Rattle.arrays.specs.View.{no-misfit-fits, seen-misfit, seen-foreign, seen-table}
 use Rattle.arrays.specs.Stock.{table-need}
 use Rattle.arrays.specs.Taken.{takenIn, takenTo, taken-length}

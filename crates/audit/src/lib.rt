@@ -1,7 +1,7 @@
 // Clearing, and the check of all lent words: flat loops, no search.
 ghost use mathlib.Core.Path.{_≡_};
 ghost use mathlib.Core.Bool.{true, false};
-ghost use Prim.Native.Nat.{ℕ, _+_, _*_, _-_, _/_, _%_, _<_, _≤_};
+ghost use Prim.Native.Nat.{_+_, _*_, _-_, _/_, _%_, _<_, _≤_};
 ghost use lib.ListN.{length, getD, replicate};
 ghost use Rattle.routes.specs.Seen.{misfits, checkOn};
 ghost use Rattle.laws.specs.Tells.{allB};
@@ -51,13 +51,13 @@ fn zeros(words: &[u32], from: usize, n: usize) -> bool
     requires { ⌜ from + n ≤ length (now words) ⌝ }
     ensures { λ r. ⌜ r ≡ allB (zeroAt (now (words .entry)) from) n ⌝ }
 {
-    let mut seen: u32 = 0;
+    let mut any: u32 = 0;
     let mut i = 0;
     while i < n {
-        seen = seen | words[from + i];
+        any = any | words[from + i];
         i += 1;
     }
-    seen == 0
+    any == 0
 }
 
 // Cell i of array a links to nothing, or to an array whose tag names it.

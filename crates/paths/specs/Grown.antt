@@ -1,22 +1,24 @@
--- Fresh arrays hung in a row below the deepest array of a path: nothing held changes. Assumes nothing.
+-- Fresh arrays hung in a row along an address, below the deepest array of its path: nothing held changes, and no other array does.
+-- Assumes nothing.
 --
 --     root ── level j ── (fresh) ── (fresh) ── level k         each fresh array is the one that may be empty until the next hangs below it
 use mathlib.Core.Path.{_≡_, refl, sym, ap, _∙_}
-use mathlib.Core.Logic.{_⊎_, _≢_, inl, inr, ⊎-elim}
+use mathlib.Core.Logic.{_≢_, inl, ⊎-elim}
 use mathlib.Core.List.{List}
-use Prim.Native.Nat.{ℕ, zero, suc, _+_, _-_, _*_, _/_, _%_, _^_, _≤_, _<_}
+use Prim.Native.Nat.{ℕ, suc, _+_, _-_, _*_, _/_, _≤_, _<_}
 use native.Mathlib.Omega.{arith}
 use lib.ListN.{length, getD}
 use Rattle.array.specs.Block.{Right}
-use Rattle.arrays.specs.Arrays.{Arrays, node, lev, held, Shape}
+use Rattle.arrays.specs.Arrays.{node, held}
 use Rattle.arrays.specs.Tree.{Level, node-level}
-use Rattle.arrays.specs.Need.{node-child}
+use Rattle.arrays.specs.Need.{node-child, node-above}
 use Rattle.arrays.specs.Words.{arraysOf, arrayCount, firstFree, gained, Almost, Gains}
 use Rattle.arrays.specs.Hang.{Hang, hang-held, other, node-cases}
 use Rattle.arrays.specs.Rehang.{Gain, gained-hang, gained-almost, gained-length, gained-counted}
 use Rattle.arrays.specs.Best.{best-local}
 use Rattle.arrays.specs.Stock.{Found, find-some, used-full}
-use Rattle.paths.specs.Address.{front, byteOf, byte-lt, front-more}
+use Rattle.paths.specs.Address.{front, byteOf, byte-lt, front-more, front-up}
+use Rattle.paths.specs.Alike.{Alike, gained-alike}
 
 -- a table of L levels but for b, the array of the first 8 * j bits q, whose cell i is without a link
 pub record Tip (L : ℕ) (ws : List ℕ) (q j b i : ℕ) : Type 0 where
@@ -26,14 +28,15 @@ pub record Tip (L : ℕ) (ws : List ℕ) (q j b i : ℕ) : Type 0 where
   pub cells : i < 256
   pub off : arraysOf ws .link b i ≡ 0
 
--- vs is ws with m fresh arrays hung in a row, the last of them r, of the first 8 * k bits q
-pub record Grown (L : ℕ) (ws vs : List ℕ) (m q k r : ℕ) : Type 0 where
+-- vs is ws with arrays hung at the levels j + 1 .. k of a's path; r is that of level k
+pub record Grown (L : ℕ) (ws vs : List ℕ) (a j k r : ℕ) : Type 0 where
   pub ok : Almost Right L r vs
   pub some : 1 ≤ r
   pub size : length vs ≡ length ws
-  pub leads : node (arraysOf vs) q k ≡ r
+  pub leads : node (arraysOf vs) (front L a k) k ≡ r
   pub held : (v l : ℕ) → held (arraysOf vs) v l ≡ held (arraysOf ws) v l
-  pub count : getD vs 0 0 ≡ getD ws 0 0 + m
+  pub count : getD vs 0 0 ≡ getD ws 0 0 + (k - j)
+  pub others : (c : ℕ) → 1 ≤ c → ((i : ℕ) → j ≤ i → i ≤ k → node (arraysOf vs) (front L a i) i ≢ c) → Alike ws vs c
 
 -- ---- one array
 
@@ -80,73 +83,100 @@ module _ (L : ℕ) (ws : List ℕ) (q j b i : ℕ) (tip : Tip L ws q j b i) (dee
         omega (arith, tip .ok .header .groups g (omega (arith, fo .high, tip .ok .high, tip .ok .low)), used-full (arraysOf ws) (8 * g) 8);
   }
 
-  pub grow : Grown L ws vs 1 (q * 256 + i) (suc j) f
-  grow = record {
-    ok = gained-almost Right best-local L ws b i f (tip .ok) gn;
-    some = fo .low;
-    size = gained-length Right best-local L ws b i f (tip .ok) gn;
-    leads = node-child (arraysOf vs) q j i (tip .cells) (rw stay (tip .some)) ∙ rw stay (hang .on);
-    held = hang-held (arrayCount ws) L (arraysOf ws) (arraysOf vs) b i f hang (tip .ok .shape);
-    count = gained-counted Right best-local L ws b i f (tip .ok) gn .count;
-  }
-    where
-      stay : node (arraysOf vs) q j ≡ b
-      stay = ⊎-elim
-          (λ (e : node (arraysOf vs) q j ≡ node (arraysOf ws) q j). e ∙ tip .leads)
-          (λ (e : (node (arraysOf vs) q j ≡ f) × (node (arraysOf ws) q j ≡ 0)). absurd (omega (arith, tip .some, sym (tip .leads) ∙ e .1)))
-          (node-cases (arrayCount ws) L (arraysOf ws) (arraysOf vs) b i f hang (tip .ok .shape) q j)
+  -- a path that led somewhere leads there
+  stay : (v k : ℕ) → 1 ≤ node (arraysOf ws) v k → node (arraysOf vs) v k ≡ node (arraysOf ws) v k
+  stay v k p = ⊎-elim
+      (λ (e : node (arraysOf vs) v k ≡ node (arraysOf ws) v k). e)
+      (λ (e : (node (arraysOf vs) v k ≡ f) × (node (arraysOf ws) v k ≡ 0)). absurd (omega (arith, e .1)))
+      (node-cases (arrayCount ws) L (arraysOf ws) (arraysOf vs) b i f hang (tip .ok .shape) v k)
+
+  stay-tip : node (arraysOf vs) q j ≡ b
+  stay-tip = stay q j (rw (tip .leads) (tip .some)) ∙ tip .leads
+
+  leads : node (arraysOf vs) (q * 256 + i) (suc j) ≡ f
+  leads = node-child (arraysOf vs) q j i (tip .cells) (rw stay-tip (tip .some)) ∙ rw stay-tip (hang .on)
+
+  ok : Almost Right L f vs
+  ok = gained-almost Right best-local L ws b i f (tip .ok) gn
 
   -- the fresh array is a tip itself, at any cell
-  pub grow-tip : (y : ℕ) → y < 256 → Tip L vs (q * 256 + i) (suc j) f y
+  grow-tip : (y : ℕ) → y < 256 → Tip L vs (q * 256 + i) (suc j) f y
   grow-tip y w = record {
-    ok = grow .ok;
-    some = grow .some;
-    leads = grow .leads;
+    ok = ok;
+    some = fo .low;
+    leads = leads;
     cells = w;
     off = hang .links f y (fo .low) w (inl (λ e. other (arrayCount ws) L (arraysOf ws) (arraysOf vs) b i f hang (sym e))) ∙ hang .no-link y w;
   }
 
--- ---- in a row
-
-pub grown-none : (L : ℕ) (ws : List ℕ) (q j b : ℕ) → Almost Right L b ws → 1 ≤ b → node (arraysOf ws) q j ≡ b → Grown L ws ws 0 q j b
-grown-none L ws q j b ok h e = record { ok = ok; some = h; size = refl; leads = e; held = λ v l. refl; count = omega arith }
-
-pub grown-more : (L : ℕ) (ws vs us : List ℕ) (m n q k r p j s : ℕ) → Grown L ws vs m q k r → Grown L vs us n p j s → Grown L ws us (m + n) p j s
-grown-more L ws vs us m n q k r p j s x y =
-    record { ok = y .ok; some = y .some; size = y .size ∙ x .size; leads = y .leads; held = λ v l. y .held v l ∙ x .held v l; count = omega (arith, x .count, y .count) }
-
--- ---- the turns along an address, from level j to level i
+-- ---- in a row, from level j to level i
 
 pub record Turn (L : ℕ) (ws vs : List ℕ) (a j i b : ℕ) : Type 0 where
   pub low : j ≤ i
-  pub grown : Grown L ws vs (i - j) (front L a i) i b
+  pub high : i < L
+  pub grown : Grown L ws vs a j i b
   pub tip : Tip L vs (front L a i) i b (byteOf L a i)
 
-pub turn-first : (L : ℕ) (ws : List ℕ) (a j b : ℕ) → Tip L ws (front L a j) j b (byteOf L a j) → Turn L ws ws a j j b
-turn-first L ws a j b t =
-    let e : j - j ≡ 0 = omega arith in
-    record { low = omega arith; grown = rw e (grown-none L ws (front L a j) j b (t .ok) (t .some) (t .leads)); tip = t }
+pub grown-none : (L : ℕ) (ws : List ℕ) (a j b : ℕ) → Almost Right L b ws → 1 ≤ b → node (arraysOf ws) (front L a j) j ≡ b → Grown L ws ws a j j b
+grown-none L ws a j b ok h e = record { ok = ok; some = h; size = refl; leads = e; held = λ v l. refl; count = omega arith; others = λ c l n w m. refl }
 
-module _ (L : ℕ) (ws vs : List ℕ) (a j i b : ℕ) (t : Turn L ws vs a j i b) where
+pub turn-first : (L : ℕ) (ws : List ℕ) (a j b : ℕ) → j < L → Tip L ws (front L a j) j b (byteOf L a j) → Turn L ws ws a j j b
+turn-first L ws a j b h t = record { low = omega arith; high = h; grown = grown-none L ws a j b (t .ok) (t .some) (t .leads); tip = t }
+
+module _ {L : ℕ} {ws vs : List ℕ} {a j i b : ℕ} (t : Turn L ws vs a j i b) where
   -- there is room for one more
   pub turn-room : (k : ℕ) → i < k → getD ws 0 0 + (k - j) ≤ arrayCount ws → getD vs 0 0 < arrayCount vs
   turn-room k h r = rw (t .grown .size) (omega (arith, t .grown .count, t .low))
+
+  -- the whole path down to level i is there
+  there : (n : ℕ) → n ≤ i → 1 ≤ node (arraysOf vs) (front L a n) n
+  there n h =
+      let e : i - n + n ≡ i = omega arith in
+      rw (← (front-up L a (i - n) n i e (omega (arith, t .high)))) (node-above (arrayCount vs) L (arraysOf vs) (t .tip .ok .shape) (i - n) (front L a i) n (rw (e, t .tip .leads) (t .tip .some)))
 
   module _ (deep : suc i < L) (room : getD vs 0 0 < arrayCount vs) (y f : ℕ) (ey : y ≡ byteOf L a i) (ef : f ≡ firstFree (arraysOf vs) 1 (arrayCount vs)) where
     pub turn-gains : Gains vs b y f
     turn-gains = rw (ey, ef) (can-gain L vs (front L a i) i b (byteOf L a i) (t .tip) deep room)
 
+    -- with the byte and the array in the words of the laws
+    abbrev Y : ℕ
+    Y = byteOf L a i
+
+    abbrev F : ℕ
+    F = firstFree (arraysOf vs) 1 (arrayCount vs)
+
+    abbrev U : List ℕ
+    U = gained vs b Y F
+
+    leads-on : node (arraysOf U) (front L a (suc i)) (suc i) ≡ F
+    leads-on = ap (λ (q : ℕ). node (arraysOf U) q (suc i)) (front-more L a i (omega arith)) ∙ leads L vs (front L a i) i b Y (t .tip) deep room
+
+    others : (c : ℕ) → 1 ≤ c → ((n : ℕ) → j ≤ n → n ≤ suc i → node (arraysOf U) (front L a n) n ≢ c) → Alike ws U c
+    others c h n w m =
+        gained-alike vs b Y F (can-gain L vs (front L a i) i b Y (t .tip) deep room) c h
+        (λ e. n (suc i) (omega (arith, t .low)) (omega arith) (leads-on ∙ sym e))
+        (λ e. n i (t .low) (omega arith) (stay-tip L vs (front L a i) i b Y (t .tip) deep room ∙ sym e)) w m
+        ∙ t .grown .others c h (λ k lo hi e. n k lo (omega arith) (stay L vs (front L a i) i b Y (t .tip) deep room (front L a k) k (there k hi) ∙ e)) w m
+
+    grown : Grown L ws U a j (suc i) F
+    grown =
+        let g = gn L vs (front L a i) i b Y (t .tip) deep room in
+        record {
+          ok = ok L vs (front L a i) i b Y (t .tip) deep room;
+          some = fo L vs (front L a i) i b Y (t .tip) deep room .low;
+          size = gained-length Right best-local L vs b Y F (t .tip .ok) g ∙ t .grown .size;
+          leads = leads-on;
+          held = λ v l. hang-held (arrayCount vs) L (arraysOf vs) (arraysOf U) b Y F (hang L vs (front L a i) i b Y (t .tip) deep room) (t .tip .ok .shape) v l ∙ t .grown .held v l;
+          count = omega (arith, gained-counted Right best-local L vs b Y F (t .tip .ok) g .count, t .grown .count, t .low);
+          others = others;
+        }
+
     pub turn-more : (us : List ℕ) → us ≡ gained vs b y f → Turn L ws us a j (i + 1) f
     turn-more us eu =
-        let m : i + 1 - j ≡ i - j + 1 = omega (arith, t .low) in
         let s : i + 1 ≡ suc i = omega arith in
-        record {
+        rw (eu, ey, ef, s) (record {
           low = omega (arith, t .low);
-          grown = rw (m, eu, ey, ef, s, front-more L a i (omega arith))
-              (grown-more L ws vs (gained vs b (byteOf L a i) F) (i - j) 1 (front L a i) i b (front L a i * 256 + byteOf L a i) (suc i) F (t .grown)
-              (grow L vs (front L a i) i b (byteOf L a i) (t .tip) deep room));
-          tip = rw (eu, ey, ef, s, front-more L a i (omega arith)) (grow-tip L vs (front L a i) i b (byteOf L a i) (t .tip) deep room (byteOf L a (suc i)) (byte-lt L a (suc i)));
-        }
-      where
-        F : ℕ
-        F = firstFree (arraysOf vs) 1 (arrayCount vs)
+          high = deep;
+          grown = grown;
+          tip = rw (front-more L a i (omega arith)) (grow-tip L vs (front L a i) i b Y (t .tip) deep room (byteOf L a (suc i)) (byte-lt L a (suc i)));
+        })

@@ -1,24 +1,23 @@
 -- Where a prefix stands, its route in the list: the hop that the list holds for it is that of its slot. Assumes nothing.
-use mathlib.Core.Path.{_≡_, refl, sym, ap, ap₂, _∙_}
-use mathlib.Core.Logic.{_⊎_, _≢_, inl, inr, ⊎-elim}
-use mathlib.Core.Bool.{Bool, true, false, cond}
+use mathlib.Core.Path.{_≡_, sym, ap₂, _∙_}
+use mathlib.Core.Logic.{_≢_, ⊎-elim}
+use mathlib.Core.Bool.{cond}
 use mathlib.Core.List.{List}
-use Prim.Native.Nat.{ℕ, zero, suc, _+_, _-_, _*_, _/_, _%_, _^_, _≤_, _<_}
+use Prim.Native.Nat.{ℕ, _+_, _-_, _*_, _^_, _≤_, _<_}
 use native.Mathlib.Nat.{mul-le-mul-right}
 use native.Mathlib.Omega.{arith}
 use lib.Dec.{eqb}
-use lib.ListN.{length, getD}
-use lib.Pow.{pow-pos, pow-add, pow-mono}
+use lib.Pow.{pow-add}
 use Rattle.laws.specs.Cases.{same}
-use Rattle.routes.specs.Route.{Route, route, key}
+use Rattle.routes.specs.Route.{route}
 use Rattle.routes.specs.Route as list
 use Rattle.laws.specs.Collect.{routes, routeOf, routes-hop}
-use Rattle.arrays.specs.Arrays.{Arrays, node, held, Shape}
+use Rattle.arrays.specs.Arrays.{Arrays, node, held}
 use Rattle.arrays.specs.Need.{held-at}
 use Rattle.arrays.specs.Slot.{Place, held-place, at-none}
 use Rattle.arrays.specs.Words.{arraysOf, arrayCount, slotsOf}
 use Rattle.arrays.specs.Table.{Table, listOf}
-use Rattle.paths.specs.Address.{front, byteOf, value, value-lt, front-lt, prefix-whole, IsPrefix, Stands}
+use Rattle.paths.specs.Address.{front, value-lt, front-lt, prefix-whole, IsPrefix, Stands}
 use Rattle.paths.specs.Stop.{Stops, stops-short}
 
 module _ (L a l k d x : ℕ) (s : Stands L a l k d x) (p : IsPrefix L a l) (inside : a < 2 ^ (8 * L)) where

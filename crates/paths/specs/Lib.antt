@@ -1,5 +1,6 @@
 pub mod Address
+pub mod Alike
 pub mod Grown
-pub mod Stop
-pub mod Shrunk
 pub mod Held
+pub mod Shrunk
+pub mod Stop

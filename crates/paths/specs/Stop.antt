@@ -1,14 +1,14 @@
 -- How far an address's path goes down the arrays, and what opening the rest of it leaves. Assumes nothing.
 use mathlib.Core.Path.{_≡_, refl, sym, ap, _∙_}
-use mathlib.Core.Logic.{_⊎_, _≢_, inl, inr, ⊎-elim}
+use mathlib.Core.Logic.{_≢_}
 use mathlib.Core.List.{List}
-use Prim.Native.Nat.{ℕ, zero, suc, _+_, _-_, _*_, _/_, _%_, _^_, _≤_, _<_}
+use Prim.Native.Nat.{ℕ, suc, _+_, _-_, _*_, _/_, _^_, _≤_, _<_}
 use native.Mathlib.Omega.{arith}
-use lib.ListN.{length, getD}
+use lib.ListN.{getD}
 use Rattle.laws.specs.Cases.{same}
 use Rattle.array.specs.Block.{Right}
-use Rattle.arrays.specs.Arrays.{Arrays, node, Shape}
-use Rattle.arrays.specs.Tree.{Level, node-level}
+use Rattle.arrays.specs.Arrays.{node, Shape}
+use Rattle.arrays.specs.Tree.{node-level}
 use Rattle.arrays.specs.Need.{node-child}
 use Rattle.arrays.specs.Words.{arraysOf, arrayCount, Almost}
 use Rattle.arrays.specs.Missing.{missing, missing-none, missing-depth}
@@ -62,22 +62,24 @@ module _ (L : ℕ) (ws : List ℕ) (a : ℕ) (s : Shape (arrayCount ws) L (array
       let y : node (arraysOf ws) (front L a k / 2 ^ (8 * m)) (suc j) ≡ 0 = rw (front-up L a m (suc j) k e (omega arith)) (next j b (p .on) (omega arith) ∙ p .off lt) in
       rw d (ap (missing (arraysOf ws) (front L a k)) (sym e) ∙ missing-depth (arrayCount ws) L (arraysOf ws) s m j (front L a k) x y)))
 
+  -- below the stop no array is on the path
+  pub stops-below : (k j b n : ℕ) → k < L → Stops L ws a k j b → j < n → n ≤ k → node (arraysOf ws) (front L a n) n ≡ 0
+  stops-below k j b n h p lo hi =
+      let q : Stops L ws a n j b = record { on = p .on; low = omega arith; off = λ _. p .off (omega arith) } in
+      same (node (arraysOf ws) (front L a n) n) 0 (λ e _. e)
+      (λ e _. absurd (omega (arith, stops-missing n j b (omega arith) q, missing-none (arrayCount ws) L (arraysOf ws) s n (front L a n) (omega arith))))
+
   -- a path that stops short has no array of level k
   pub stops-short : (k j b : ℕ) → k < L → Stops L ws a k j b → j ≢ k → node (arraysOf ws) (front L a k) k ≡ 0
-  stops-short k j b h p n =
-      same (node (arraysOf ws) (front L a k) k) 0 (λ q _. q)
-      (λ q _. absurd (n (omega (arith, stops-missing k j b h p, missing-none (arrayCount ws) L (arraysOf ws) s k (front L a k) (omega arith), p .low))))
+  stops-short k j b h p n = stops-below k j b k h p (omega (arith, p .low)) (omega arith)
 
 -- ---- the path opened down to level k: r is the array there, or 0 where there is no room
 
-pub record Opened (L : ℕ) (ws vs : List ℕ) (a k r : ℕ) : Type 0 where
-  pub none : r ≡ 0 → (vs ≡ ws) × (arrayCount ws < getD ws 0 0 + missing (arraysOf ws) (front L a k) k)
-  pub some : r ≢ 0 → Grown L ws vs (missing (arraysOf ws) (front L a k) k) (front L a k) k r
+pub record Opened (L : ℕ) (ws vs : List ℕ) (a j k r : ℕ) : Type 0 where
+  pub none : r ≡ 0 → (vs ≡ ws) × (arrayCount ws < getD ws 0 0 + (k - j))
+  pub some : r ≢ 0 → Grown L ws vs a j k r
 
-module _ (L : ℕ) (ws : List ℕ) (a k j b : ℕ) (ok : Almost Right L 0 ws) (h : k < L) (p : Stops L ws a k j b) where
-  miss : missing (arraysOf ws) (front L a k) k ≡ k - j
-  miss = stops-missing L ws a (ok .shape) k j b h p
-
+module _ (L : ℕ) (ws : List ℕ) (a k j b : ℕ) (ok : Almost Right L 0 ws) (p : Stops L ws a k j b) where
   -- any array may be empty
   weaken : Almost Right L b ws
   weaken = record {
@@ -92,17 +94,17 @@ module _ (L : ℕ) (ws : List ℕ) (a k j b : ℕ) (ok : Almost Right L 0 ws) (h
     rest = ok .rest;
   }
 
-  pub opened-there : j ≡ k → Opened L ws ws a k b
+  pub opened-there : j ≡ k → Opened L ws ws a j k b
   opened-there e = record {
     none = λ z. absurd (omega (arith, p .on .some));
-    some = λ n. rw miss (let d : k - j ≡ 0 = omega arith in rw d (grown-none L ws (front L a k) k b weaken (p .on .some) (rw e at (p .on .leads))));
+    some = λ n. rw (← e) (grown-none L ws a j b weaken (p .on .some) (p .on .leads));
   }
 
-  pub opened-full : arrayCount ws < getD ws 0 0 + (k - j) → Opened L ws ws a k 0
-  opened-full q = record { none = λ z. (refl, rw miss q); some = λ n. absurd (n refl) }
+  pub opened-full : arrayCount ws < getD ws 0 0 + (k - j) → Opened L ws ws a j k 0
+  opened-full q = record { none = λ z. (refl, q); some = λ n. absurd (n refl) }
 
   pub opened-tip : j < k → Tip L ws (front L a j) j b (byteOf L a j)
   opened-tip l = record { ok = weaken; some = p .on .some; leads = p .on .leads; cells = byte-lt L a j; off = p .off l }
 
-  pub opened-grown : (vs : List ℕ) (r : ℕ) → Grown L ws vs (k - j) (front L a k) k r → Opened L ws vs a k r
-  opened-grown vs r g = record { none = λ z. absurd (omega (arith, g .some)); some = λ n. rw miss g }
+  pub opened-grown : (vs : List ℕ) (r : ℕ) → Grown L ws vs a j k r → Opened L ws vs a j k r
+  opened-grown vs r g = record { none = λ z. absurd (omega (arith, g .some)); some = λ n. g }

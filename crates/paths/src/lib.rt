@@ -9,7 +9,7 @@ ghost use Rattle.arrays.specs.Table.{Table};
 ghost use Rattle.paths.specs.Address.{front, byteOf, Stands};
 ghost use Rattle.paths.specs.Grown.{Tip, Grown};
 ghost use Rattle.paths.specs.Stop.{Stops, Opened};
-ghost use Rattle.paths.specs.Shrunk.{bare, Shrunk, Pruned};
+ghost use Rattle.paths.specs.Shrunk.{bare, Loose, Pruned};
 ghost use Rattle.paths.specs.Held.{hopFound};
 
 // Byte i of an address, the high one first.
@@ -108,7 +108,7 @@ pub fn hop_at(words: &[u32], s: Stop, p: Place) -> u32
 fn hang_path(words: &mut [u32], address: u32, a: usize, j: usize, k: usize) -> usize
     requires { ⌜ (j < k) × (k < 4) × (getD (now words) 0 0 + (k - j) ≤ arrayCount (now words)) ⌝ }
     requires { ⌜ Tip 4 (now words) (front 4 address j) j a (byteOf 4 address j) ⌝ }
-    ensures { λ r. ⌜ Grown 4 (now (words .entry)) (now (words .exit)) (k - j) (front 4 address k) k r ⌝ }
+    ensures { λ r. ⌜ Grown 4 (now (words .entry)) (now (words .exit)) address j k r ⌝ }
 {
     let mut b = a;
     let mut i = j;
@@ -126,7 +126,7 @@ fn hang_path(words: &mut [u32], address: u32, a: usize, j: usize, k: usize) -> u
 // 0, and nothing is changed, where there is no room.
 pub fn open(words: &mut [u32], address: u32, a: usize, j: usize, k: usize) -> usize
     requires { ⌜ (k < 4) × Table 4 (now words) × Stops 4 (now words) address k j a ⌝ }
-    ensures { λ r. ⌜ Opened 4 (now (words .entry)) (now (words .exit)) address k r ⌝ }
+    ensures { λ r. ⌜ Opened 4 (now (words .entry)) (now (words .exit)) address j k r ⌝ }
 {
     if j == k {
         return a;
@@ -151,8 +151,8 @@ fn empty(words: &[u32], a: usize) -> bool
 
 // Array a, and those above it, released while they are empty.
 pub fn prune(words: &mut [u32], a: usize)
-    requires { ⌜ Shrunk 4 (now words) (now words) a ⌝ }
-    ensures { λ _. ⌜ Pruned 4 (now (words .entry)) (now (words .exit)) ⌝ }
+    requires { ⌜ Loose 4 (now words) a ⌝ }
+    ensures { λ _. ⌜ Pruned 4 (now (words .entry)) (now (words .exit)) a ⌝ }
 {
     let mut b = a;
     while b != 1 {

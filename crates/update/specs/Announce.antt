@@ -2,42 +2,43 @@
 -- Assumes nothing.
 use mathlib.Core.Path.{_≡_, refl, sym, ap, ap₂, _∙_}
 use mathlib.Core.Logic.{_⊎_, _≢_, inl, inr, ⊎-elim}
-use mathlib.Core.Bool.{Bool, true, false, cond, not, false≢true}
+use mathlib.Core.Bool.{false, not, false≢true}
 use mathlib.Core.List.{List}
-use Prim.Native.Nat.{ℕ, zero, suc, _+_, _-_, _*_, _/_, _%_, _^_, _≤_, _<_}
+use Prim.Native.Nat.{ℕ, zero, suc, _+_, _-_, _*_, _/_, _^_, _≤_, _<_}
 use native.Mathlib.Omega.{arith}
-use lib.Dec.{eqb, ltb}
-use lib.ListN.{length, getD}
-use lib.Pow.{pow-pos, pow-add, pow-mono}
+use lib.Dec.{eqb}
+use lib.ListN.{getD}
+use lib.Pow.{pow-mono}
 use borrow.Author.Tests.{eq-eqb, ne-eqb, lt-ltb, le-ltb}
 use Rattle.routes.specs.Route.{Route, route, insert}
 use Rattle.routes.specs.Route as list
 use Rattle.routes.specs.Room.{needTo, need}
 use Rattle.routes.specs.Cells.{cells}
-use Rattle.routes.specs.Answers.{Update, announce, Reply, done, refused, refuse, verdict}
+use Rattle.routes.specs.Answers.{Update, announce, done, refused, verdict}
 use Rattle.laws.specs.Collect.{routes, routeOf}
 use Rattle.array.specs.Block.{Right}
-use Rattle.arrays.specs.Arrays.{Arrays, node, held, lev, Shape, HasSlot, HasLink}
-use Rattle.arrays.specs.Words.{arraysOf, arrayCount, slotsOf, Almost}
+use Rattle.arrays.specs.Arrays.{Arrays, node, held, HasSlot, HasLink}
+use Rattle.arrays.specs.Words.{arraysOf, arrayCount, Almost}
 use Rattle.arrays.specs.Table.{Table, listOf}
 use Rattle.arrays.specs.Tree.{Level, node-level}
-use Rattle.arrays.specs.Slot.{Place, slotted-insert}
-use Rattle.arrays.specs.Block.{reslot-slotted, reslot-almost, almost-whole}
+use Rattle.arrays.specs.Slot.{Place, Slotted, slotted-insert}
+use Rattle.arrays.specs.Reslot.{reslot-slotted, reslot-almost, almost-whole}
 use Rattle.arrays.specs.Best.{best-local}
 use Rattle.arrays.specs.Stock.{count-need, used-full}
-use Rattle.arrays.specs.Missing.{missing, need-more}
-use Rattle.paths.specs.Address.{front}
+use Rattle.arrays.specs.Missing.{need-more}
+use Rattle.paths.specs.Address.{front, stands-level}
 use Rattle.paths.specs.Grown.{Grown}
-use Rattle.paths.specs.Stop.{Opened}
+use Rattle.paths.specs.Stop.{Opened, stops-missing}
 use Rattle.paths.specs.Held.{stands-head, stands-small, stands-place, stands-route, hopFound, Sought, sought-held}
 use Rattle.update.specs.declared.Updated.the-variants.{Done, Refused}
 use Rattle.update.specs.Update.{Applies}
 use Rattle.update.specs.Seat.{Seat, Seated, seat-at}
 use Rattle.update.specs.Cells.{cells-exposed}
+use Rattle.update.specs.Spared.{spared-hung}
 
 -- a refusal leaves the words
 pub refuses : (L : ℕ) (ws : List ℕ) (u : Update) (n : ℕ) → Table L ws → refused n ≡ verdict (8 * L) (arrayCount ws) (listOf L ws) u → Applies L ws ws u (Refused n)
-refuses L ws u n ok e = record { answer = e; table = ok; size = refl; list = refl; kept = λ _. refl }
+refuses L ws u n ok e = record { answer = e; table = ok; size = refl; list = refl; kept = λ _. refl; frame = λ c h n w b. refl }
 
 -- what is held alike is one list
 pub same-list : (W : ℕ) (f g : ℕ → ℕ → ℕ) → ((v l : ℕ) → f v l ≡ g v l) → routes W f ≡ routes W g
@@ -62,27 +63,27 @@ module _ {L : ℕ} {ws : List ℕ} {a l k d x j b : ℕ} (s : Sought L ws a l k 
     same-route = stands-route L a l k d x (s .stands) (s .prefix) (s .inside) h
 
     -- the list with the route needs the arrays that the path lacks besides those used
-    needs : need (8 * L) (insert (route a l h) (listOf L ws)) ≡ getD ws 0 0 + missing (arraysOf ws) (front L a k) k
+    needs : need (8 * L) (insert (route a l h) (listOf L ws)) ≡ getD ws 0 0 + (k - j)
     needs =
         let e : 8 * L / 8 - 1 ≡ L - 1 = omega arith in
         ap₂ (λ (n : ℕ) (r : Route). needTo (8 * L) n (insert r (listOf L ws))) e (sym same-route)
         ∙ need-more (arrayCount ws) L (arraysOf ws) (s .ok .shape) (s .ok .filled) (front L a k) k d x h (s .stands .deep) (s .stands .own) (s .stands .top)
         (stands-head L a l k d x (s .stands) (s .prefix) (s .inside)) (stands-small L a l k d x (s .stands) (s .prefix) (s .inside)) (L - 1) (omega (arith, s .ok .shape .some-level)) hop
-        ∙ ap (λ (n : ℕ). n + missing (arraysOf ws) (front L a k) k) (sym (count-of L ws (s .ok)))
+        ∙ ap₂ _+_ (sym (count-of L ws (s .ok))) (stops-missing L ws a (s .ok .shape) k j b (s .stands .top) (s .stops))
 
     not-held : not (eqb (list.held (listOf L ws) a l) 0) ≡ false
     not-held = rw (eq-eqb (list.held (listOf L ws) a l) 0 (sym (sought-held s) ∙ free))
 
-    module _ (vs : List ℕ) (r : ℕ) (o : Opened L ws vs a k r) where
+    module _ (vs : List ℕ) (r : ℕ) (o : Opened L ws vs a j k r) where
       -- 8: there is no room
       pub announce-full : r ≡ 0 → Applies L ws vs (announce a l h) (Refused 8)
       announce-full z =
           let w = o .none z in
-          rw (w .0) (refuses L ws (announce a l h) 8 (s .ok) (rw (not-held, needs, lt-ltb (arrayCount ws) (getD ws 0 0 + missing (arraysOf ws) (front L a k) k) (w .1))))
+          rw (w .0) (refuses L ws (announce a l h) 8 (s .ok) (rw (not-held, needs, lt-ltb (arrayCount ws) (getD ws 0 0 + (k - j)) (w .1))))
 
       -- the path is open, and its last array has a seat for the route
       module _ (some : r ≢ 0) where
-        g : Grown L ws vs (missing (arraysOf ws) (front L a k) k) (front L a k) k r
+        g : Grown L ws vs a j k r
         g = o .some some
 
         place : Place (arrayCount vs) L (arraysOf vs) r (front L a k) k d x
@@ -112,6 +113,9 @@ module _ {L : ℕ} {ws : List ℕ} {a l k d x j b : ℕ} (s : Sought L ws a l k 
           almost : Almost Right L r us
           almost = reslot-almost Right best-local L r vs us r (2 ^ d + x) h (g .some) (p .slot) (g .ok) (inr refl) (omega (arith, lv .level))
 
+          slotted : Slotted (arraysOf vs) (arraysOf us) r (2 ^ d + x) h
+          slotted = reslot-slotted Right best-local L r vs us r (2 ^ d + x) h (g .some) (p .slot)
+
           pub announce-done : Applies L ws us (announce a l h) (Done h c)
           announce-done = record {
             answer =
@@ -122,9 +126,10 @@ module _ {L : ℕ} {ws : List ℕ} {a l k d x j b : ℕ} (s : Sought L ws a l k 
             size = p .slot .size ∙ g .size;
             list =
                 slotted-insert (arrayCount vs) L (arraysOf vs) (arraysOf us) r (front L a k) k d x h (g .ok .shape) place
-                (reslot-slotted Right best-local L r vs us r (2 ^ d + x) h (g .some) (p .slot)) (8 * L) wide (omega (arith, s .stands .top, s .stands .deep)) hop
+                slotted (8 * L) wide (omega (arith, s .stands .top, s .stands .deep)) hop
                 ∙ ap₂ insert same-route same-before;
             kept = λ e. absurd (false≢true e);
+            frame = λ c h n. spared-hung (s .ok .shape) (s .stands .top) (s .stops) g (p .slot) slotted c h (rw (stands-level L a l k d x (s .stands)) at n);
           }
             where
               wide : 8 * L < 256

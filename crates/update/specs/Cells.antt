@@ -2,27 +2,23 @@
 --
 --     cell i of the array of the first 8 * k bits q is the cell q * 256 + i of level k, and the slots above cell i are that cell's
 --     prefixes longer than 8 * k
-use mathlib.Core.Path.{_≡_, refl, sym, ap, ap₂, _∙_}
+use mathlib.Core.Path.{_≡_, refl, sym, ap, _∙_}
 use mathlib.Core.Logic.{_⊎_, ⊎-elim}
-use mathlib.Core.Bool.{Bool, true, false, cond, not, _||_}
-use mathlib.Core.List.{List}
-use Prim.Native.Nat.{ℕ, zero, suc, _+_, _-_, _*_, _/_, _%_, _^_, _≤_, _<_}
-use native.Mathlib.Nat.{mul-div-cancel, mul-le-mul-right, mul-add-div-right, add-mul, mul-assoc, one-mul, add-assoc}
+use Prim.Native.Nat.{ℕ, zero, suc, _+_, _-_, _*_, _/_, _^_, _≤_, _<_}
+use native.Mathlib.Nat.{mul-div-cancel, mul-le-mul-right, mul-add-div-right, add-mul, mul-assoc, one-mul}
 use native.Mathlib.Omega.{arith}
-use lib.Dec.{eqb}
-use lib.Pow.{pow-pos, pow-add, pow-mono, shr-shr, shr-lt}
+use lib.Pow.{pow-pos, pow-add, shr-shr, shr-lt}
 use Rattle.laws.specs.Cases.{bool}
-use Rattle.routes.specs.Route.{Route, hopAt}
+use Rattle.routes.specs.Route.{hopAt}
 use Rattle.routes.specs.Cells.{hidden, cells}
 use Rattle.laws.specs.Collect.{routes, routeOf, routes-hop}
 use Rattle.laws.specs.Longest.{routes-wfs}
 use Rattle.laws.specs.Cells.{open-cells, cells-open}
 use Rattle.laws.specs.Hidden.{cellKey, heldPast, hidden-held}
 use Rattle.array.specs.Put.{anyUp, exposed}
-use Rattle.arrays.specs.Arrays.{Arrays, node, held, Shape}
+use Rattle.arrays.specs.Arrays.{Arrays, node, held}
 use Rattle.arrays.specs.Need.{at-some}
 use Rattle.arrays.specs.Need.{held-at}
-use Rattle.arrays.specs.Slot.{Place}
 
 -- the low bits apart
 quot : (q i e m : ℕ) → e + m ≡ 8 → (q * 256 + i) / 2 ^ m ≡ q * 2 ^ e + i / 2 ^ m

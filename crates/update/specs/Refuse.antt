@@ -1,16 +1,16 @@
 -- The refusals that come before the work, in document 01's order, and the work's promise as that of the whole call. Assumes nothing.
 use mathlib.Core.Path.{_≡_, refl, sym, ap, ap₂, _∙_}
-use mathlib.Core.Logic.{_⊎_, _≢_}
-use mathlib.Core.Bool.{Bool, true, false, cond, not, _||_, true≢false}
+use mathlib.Core.Logic.{_≢_}
+use mathlib.Core.Bool.{true, false, cond, true≢false}
 use mathlib.Core.List.{List}
-use Prim.Native.Nat.{ℕ, zero, suc, _+_, _-_, _*_, _/_, _%_, _^_, _≤_, _<_}
+use Prim.Native.Nat.{ℕ, _-_, _/_, _%_, _^_, _≤_}
 use native.Mathlib.Omega.{arith}
-use lib.Dec.{ltb, eqb}
+use lib.Dec.{eqb}
 use lib.ListN.{length}
-use borrow.Author.Tests.{eq-eqb, ne-eqb, eqb-true, lt-ltb, le-ltb}
+use borrow.Author.Tests.{ne-eqb}
 use Rattle.laws.specs.Cases.{bool, less, same}
 use Rattle.routes.specs.Route.{tooLong, stray, badHop}
-use Rattle.routes.specs.Answers.{Update, announce, withdraw, Reply, refused, refuse, faulty, verdict, answer, isDone}
+use Rattle.routes.specs.Answers.{Update, announce, withdraw, Reply, refused, faulty, verdict, answer}
 use Rattle.routes.specs.Seen.{Seen, misfit, foreign, table, misfits, answerOn, afterOn}
 use Rattle.arrays.specs.Words.{arrayCount}
 use Rattle.arrays.specs.Table.{Table, tableB, listOf, seen}
@@ -19,11 +19,11 @@ use Rattle.arrays.specs.Decides.{table-tells}
 use Rattle.paths.specs.Address.{IsPrefix}
 use Rattle.update.specs.declared.Updated.{Updated}
 use Rattle.update.specs.declared.Updated.the-variants.{Refused}
-use Rattle.update.specs.Update.{told, faultOf, Updates, Applies}
+use Rattle.update.specs.Update.{faultOf, Updates, Applies}
 
 -- a refusal that leaves the words
 refuses : (ws : List ℕ) (u : Update) (n : ℕ) → answerOn 32 (seen 4 ws) u ≡ refused n → Updates ws ws u (Refused n)
-refuses ws u n e = record { answer = sym e; list = stays (seen 4 ws) e; kept = λ _. refl }
+refuses ws u n e = record { answer = sym e; list = stays (seen 4 ws) e; kept = λ _. refl; frame = λ c h n w b. refl }
   where
     stays : (s : Seen) → answerOn 32 s u ≡ refused n → s ≡ afterOn 32 s u
     stays misfit e = refl
@@ -94,6 +94,7 @@ applied ws vs u r t f p = record {
   answer = rw (seen-table 4 ws t) (p .answer ∙ sym none);
   list = rw (seen-table 4 vs (p .table), seen-table 4 ws t, none) (ap₂ table (ap (λ (n : ℕ). n / 1024 - 1) (p .size)) (p .list ∙ rw (p .answer)));
   kept = p .kept;
+  frame = p .frame;
 }
   where
     none : faulty 32 u (verdict 32 (arrayCount ws) (listOf 4 ws) u) ≡ verdict 32 (arrayCount ws) (listOf 4 ws) u

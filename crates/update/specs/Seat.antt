@@ -1,24 +1,21 @@
 -- A slot of one array of the words, as the floor of one block has it: what that floor asks, and what its promise says of the words.
 -- Assumes nothing.
-use mathlib.Core.Path.{_≡_, refl, sym, ap, ap₂, _∙_}
-use mathlib.Core.Logic.{_⊎_, _≢_, inl, inr, ⊎-elim}
-use mathlib.Core.Bool.{Bool, cond, not, _||_}
+use mathlib.Core.Path.{_≡_, refl, sym, ap, _∙_}
+use mathlib.Core.Logic.{_⊎_, inl, inr, ⊎-elim}
 use mathlib.Core.List.{List}
 use Prim.Native.Nat.{ℕ, zero, suc, _+_, _-_, _*_, _/_, _%_, _^_, _≤_, _<_}
 use native.Mathlib.Nat.{mul-le-mul-right}
 use native.Mathlib.Omega.{arith}
-use lib.Dec.{eqb}
 use lib.ListN.{length, getD}
-use lib.Pow.{pow-pos, pow-add, pow-mono}
+use lib.Pow.{pow-add, pow-mono}
 use Rattle.array.specs.Block.{slots, bests, links, Right}
 use Rattle.array.specs.Put.{anyUp, exposed, Spot, Reslotted}
-use Rattle.arrays.specs.Arrays.{Arrays, lev}
+use Rattle.arrays.specs.Arrays.{lev}
 use Rattle.arrays.specs.Words.{arraysOf, arrayCount, slotsOf, bestsOf, Almost}
-use Rattle.arrays.specs.Rehang.{Local}
 use Rattle.arrays.specs.Best.{best-local}
-use Rattle.arrays.specs.Tree.{Level, node-level}
+use Rattle.arrays.specs.Tree.{node-level}
 use Rattle.arrays.specs.Slot.{Place}
-use Rattle.arrays.specs.Block.{Reslot}
+use Rattle.arrays.specs.Reslot.{Reslot}
 use Rattle.array.specs.Frame.{blockOf, withBlock, block-word, block-length, with-length, with-in, with-other}
 
 -- array a, of level k, is right, and has a slot of length d and value x

@@ -1,15 +1,20 @@
 -- What announce and withdraw promise. An answer is a reply of document 01; the words are seen before and after; what is refused changes
 -- nothing. Assumes nothing.
 use mathlib.Core.Path.{_≡_}
-use mathlib.Core.Bool.{Bool, true, false, cond}
+use mathlib.Core.Bool.{true, cond}
 use mathlib.Core.List.{List}
-use Prim.Native.Nat.{ℕ, _+_, _-_, _*_, _%_, _^_, _≤_, _<_}
+use mathlib.Core.Logic.{_⊎_}
+use Prim.Native.Nat.{ℕ, suc, _*_, _≤_}
 use lib.ListN.{length}
 use Rattle.routes.specs.Route.{tooLong, stray, badHop}
+use Rattle.routes.specs.Room.{level}
 use Rattle.routes.specs.Answers.{Update, announce, withdraw, Reply, done, refused, isDone, isRefused, changed, verdict}
 use Rattle.routes.specs.Seen.{answerOn, afterOn}
-use Rattle.arrays.specs.Words.{arrayCount}
+use Rattle.arrays.specs.Arrays.{Arrays, node}
+use Rattle.arrays.specs.Words.{arraysOf, arrayCount}
 use Rattle.arrays.specs.Table.{Table, listOf, seen}
+use Rattle.paths.specs.Address.{front}
+use Rattle.paths.specs.Alike.{Alike}
 use Rattle.update.specs.declared.Updated.{Updated}
 use Rattle.update.specs.declared.Updated.the-variants.{Done, Refused}
 
@@ -18,11 +23,28 @@ abbrev pub told : Updated → Reply
 told (Done hop cells) = done hop cells
 told (Refused number) = refused number
 
--- any words ws become vs
+-- ---- which arrays may differ
+
+-- array c stands on the path of address a in the larger of two tables, at the route's own level k, or above an array of the path that
+-- the smaller lacks: that array was gained or freed, and c was linked to it
+pub record Touched (L : ℕ) (big small : Arrays) (a k c : ℕ) : Type 0 where
+  pub i : ℕ
+  pub high : i ≤ k
+  pub on : node big (front L a i) i ≡ c
+  pub edge : (i ≡ k) ⊎ (node small (front L a (suc i)) (suc i) ≡ 0)
+
+-- an announcement leaves the larger table, a withdrawal finds it
+abbrev pub Touches : ℕ → Update → List ℕ → List ℕ → ℕ → Type 0
+Touches L (announce a l h) ws vs c = Touched L (arraysOf vs) (arraysOf ws) a (level l) c
+Touches L (withdraw a l) ws vs c = Touched L (arraysOf ws) (arraysOf vs) a (level l) c
+
+-- ---- any words ws become vs
+
 pub record Updates (ws vs : List ℕ) (u : Update) (r : Updated) : Type 0 where
   pub answer : told r ≡ answerOn 32 (seen 4 ws) u
   pub list : seen 4 vs ≡ afterOn 32 (seen 4 ws) u
   pub kept : isRefused (told r) ≡ true → vs ≡ ws
+  pub frame : (c : ℕ) → 1 ≤ c → ¬ Touches 4 u ws vs c → Alike ws vs c
 
 -- ---- the same of a table, once the update itself is without fault
 
@@ -33,6 +55,7 @@ pub record Applies (L : ℕ) (ws vs : List ℕ) (u : Update) (r : Updated) : Typ
   pub size : length vs ≡ length ws
   pub list : listOf L vs ≡ cond (isDone (told r)) (changed u (listOf L ws)) (listOf L ws)
   pub kept : isRefused (told r) ≡ true → vs ≡ ws
+  pub frame : (c : ℕ) → 1 ≤ c → ¬ Touches L u ws vs c → Alike ws vs c
 
 -- the number of the first fault of an update itself, 0 where it has none
 abbrev pub faultOf : ℕ → Update → ℕ

@@ -1,36 +1,37 @@
 -- A withdrawal from a table: each of its answers is the list's, and a table is left that stands for the list without the route.
 -- Assumes nothing.
 use mathlib.Core.Path.{_≡_, refl, sym, ap, ap₂, _∙_}
-use mathlib.Core.Logic.{_⊎_, _≢_, inl, inr, ⊎-elim}
-use mathlib.Core.Bool.{Bool, true, false, cond, not, false≢true}
+use mathlib.Core.Logic.{_≢_, inl}
+use mathlib.Core.Bool.{false≢true}
 use mathlib.Core.List.{List}
-use Prim.Native.Nat.{ℕ, zero, suc, _+_, _-_, _*_, _/_, _%_, _^_, _≤_, _<_}
+use Prim.Native.Nat.{ℕ, _+_, _-_, _*_, _%_, _^_, _≤_, _<_}
 use native.Mathlib.Omega.{arith}
-use lib.Dec.{eqb, ltb}
-use lib.ListN.{length, getD}
+use lib.ListN.{getD}
 use borrow.Author.Tests.{eq-eqb, ne-eqb}
 use Rattle.laws.specs.Cases.{same}
 use Rattle.routes.specs.Route.{Route, route, key, remove}
 use Rattle.routes.specs.Route as list
 use Rattle.routes.specs.Cells.{cells}
-use Rattle.routes.specs.Answers.{Update, withdraw, Reply, done, refused, verdict}
-use Rattle.laws.specs.Collect.{routes, routeOf}
+use Rattle.routes.specs.Answers.{withdraw, done}
+use Rattle.laws.specs.Collect.{routeOf}
 use Rattle.array.specs.Block.{Right}
-use Rattle.arrays.specs.Arrays.{Arrays, node, held, lev, Shape}
-use Rattle.arrays.specs.Words.{arraysOf, arrayCount, slotsOf, Almost}
-use Rattle.arrays.specs.Table.{Table, listOf}
+use Rattle.arrays.specs.Arrays.{held}
+use Rattle.arrays.specs.Words.{arraysOf, arrayCount, slotsOf}
+use Rattle.arrays.specs.Table.{listOf}
 use Rattle.arrays.specs.Tree.{Level, node-level}
-use Rattle.arrays.specs.Slot.{Place, slotted-remove}
-use Rattle.arrays.specs.Block.{reslot-slotted, reslot-almost}
+use Rattle.arrays.specs.Slot.{Place, Slotted, same-node, slotted-remove}
+use Rattle.arrays.specs.Reslot.{reslot-slotted, reslot-almost}
 use Rattle.arrays.specs.Best.{best-local}
-use Rattle.paths.specs.Address.{front}
-use Rattle.paths.specs.Shrunk.{Shrunk, Pruned}
+use Rattle.paths.specs.Address.{front, stands-level}
+use Rattle.paths.specs.Stop.{On}
+use Rattle.paths.specs.Shrunk.{Loose, Pruned}
 use Rattle.paths.specs.Held.{stands-route, hopFound, Sought, sought-place, sought-held}
 use Rattle.update.specs.declared.Updated.the-variants.{Done, Refused}
 use Rattle.update.specs.Update.{Applies}
 use Rattle.update.specs.Seat.{Seat, Seated, seat-at}
 use Rattle.update.specs.Announce.{refuses, same-list}
 use Rattle.update.specs.Cells.{cells-exposed}
+use Rattle.update.specs.Spared.{spared-freed}
 
 module _ {L : ℕ} {ws : List ℕ} {a l k d x j b : ℕ} (s : Sought L ws a l k d x j b) where
   -- 7: the prefix is not held
@@ -62,17 +63,25 @@ module _ {L : ℕ} {ws : List ℕ} {a l k d x j b : ℕ} (s : Sought L ws a l k 
 
     module _ (vs : List ℕ) (c : ℕ) (p : Seated ws vs b d x 0 c) where
       -- the array may be empty now, and those above it after it
-      pub withdraw-shrunk : Shrunk L vs vs b
-      withdraw-shrunk = record {
+      pub withdraw-loose : Loose L vs b
+      withdraw-loose = record {
         ok = reslot-almost Right best-local L 0 ws vs b (2 ^ d + x) 0 (place .array) (p .slot) (s .ok) (inl refl) used;
         some = place .array;
         within = rw (p .slot .size) (lv .within);
         used = rw (p .slot .tag) used;
-        size = refl;
-        held = λ v l. refl;
       }
 
-      pub withdraw-done : (us : List ℕ) (h : ℕ) → Pruned L vs us → h ≡ slotsOf ws b (2 ^ d + x) → Applies L ws us (withdraw a l) (Done h c)
+      slotted : Slotted (arraysOf ws) (arraysOf vs) b (2 ^ d + x) 0
+      slotted = reslot-slotted Right best-local L 0 ws vs b (2 ^ d + x) 0 (place .array) (p .slot)
+
+      on : On L vs a k b
+      on = record {
+        leads = same-node (arraysOf ws) (arraysOf vs) (slotted .tags) (slotted .links) (front L a k) k ∙ place .leads;
+        some = place .array;
+        within = withdraw-loose .within;
+      }
+
+      pub withdraw-done : (us : List ℕ) (h : ℕ) → Pruned L vs us b → h ≡ slotsOf ws b (2 ^ d + x) → Applies L ws us (withdraw a l) (Done h c)
       withdraw-done us h pu eh = record {
         answer =
             rw (ne-eqb (list.held (listOf L ws) a l) 0 (λ z. some (sought-held s ∙ z)))
@@ -80,15 +89,20 @@ module _ {L : ℕ} {ws : List ℕ} {a l k d x j b : ℕ} (s : Sought L ws a l k 
             (p .count ∙ cells-exposed L (arraysOf ws) b (front L a k) k wide (s .stands .top) (place .leads) (place .array) (place .head) d x 0 (place .deep) (place .own) (place .small)
             ∙ ap (λ (r : Route). cells (8 * L) r (listOf L ws)) same-route));
         table = pu .ok;
-        size = pu .size ∙ p .slot .size;
+        size = pu .freed .size ∙ p .slot .size;
         list =
-            same-list (8 * L) (held (arraysOf us)) (held (arraysOf vs)) (pu .held)
+            same-list (8 * L) (held (arraysOf us)) (held (arraysOf vs)) (pu .freed .held)
             ∙ slotted-remove (arrayCount ws) L (arraysOf ws) (arraysOf vs) b (front L a k) k d x 0 (s .ok .shape) place
-            (reslot-slotted Right best-local L 0 ws vs b (2 ^ d + x) 0 (place .array) (p .slot)) (8 * L) wide (omega (arith, s .stands .top, s .stands .deep)) refl
+            slotted (8 * L) wide (omega (arith, s .stands .top, s .stands .deep)) refl
             ∙ ap (λ (r : Route). remove (key r) (listOf L ws)) same-route;
         kept = λ e. absurd (false≢true e);
+        frame = λ c h n. spared-freed (withdraw-loose .ok .shape) (pu .ok .shape) (s .stands .top) on (p .slot) slotted (pu .freed) deep c h (rw (stands-level L a l k d x (s .stands)) at n);
       }
         where
+          -- fewer are released than there are levels down to the array's
+          deep : pu .m ≤ k
+          deep = omega (arith, pu .level, ap (λ (n : ℕ). n % 32) (p .slot .tag), lv .level)
+
           wide : 8 * L < 256
           wide = omega (arith, s .ok .shape .levels)
 

@@ -1,7 +1,6 @@
 -- `audit::array_ok` tells whether one array is right: each way out settles the first test that decides. Assumes nothing.
 use mathlib.Core.Path.{sym, ap, _∙_}
 use mathlib.Core.Bool.{not}
-use native.Mathlib.Omega.{arith}
 use borrow.Author.Tests.{not-true, not-false}
 use Rattle.audit.proofs.Laws.{array-free, array-block, array-links, array-root, array-hung, array-last}
 use borrow.Author.Needs.{needs}

@@ -1,5 +1,5 @@
 -- `audit::tag_at` reads a tag: past the last array a list of words reads 0. Assumes nothing.
-use mathlib.Core.Path.{_≡_, sym}
+use mathlib.Core.Path.{sym}
 use Prim.Native.Nat.{_*_}
 use native.Mathlib.Omega.{arith}
 use lib.ListN.{List·getD-eq-default}

@@ -1,6 +1,6 @@
 -- `audit::zeros` tells whether the words are all 0: the or of those passed is 0 exactly where each of them is. Assumes nothing.
 use mathlib.Core.Path.{_≡_, ap, sym, _∙_}
-use Prim.Native.Nat.{_≤_, _+_, _-_, _<_}
+use Prim.Native.Nat.{_≤_, _-_}
 use native.Mathlib.Nat.{le-antisymm}
 use native.Mathlib.Omega.{arith}
 use lib.Dec.{eqb}
@@ -11,22 +11,22 @@ use Rattle.audit.proofs.zeros.Statement.{statement}
 use Rattle.audit.proofs.zeros.Tie as tie
 
 abbrev Inv-loop : tie.InvT-loop
-Inv-loop words from n seen₀ i₀ seen i = (i ≤ n) × (eqb seen 0 ≡ allB (zeroAt words from) i)
+Inv-loop words from n any₀ i₀ any i = (i ≤ n) × (eqb any 0 ≡ allB (zeroAt words from) i)
 
 abbrev μ-loop : tie.MeasureT-loop
-μ-loop words from n seen₀ i₀ seen i = n - i
+μ-loop words from n any₀ i₀ any i = n - i
 
 loop-holds : tie.Need-loop-holds Inv-loop μ-loop
 loop-holds c = (omega arith, sym (all-none _))
 
-add-seen : tie.Need-add-seen Inv-loop μ-loop
-add-seen c = omega arith
+add-any : tie.Need-add-any Inv-loop μ-loop
+add-any c = omega arith
 
-mul-seen : tie.Need-mul-seen Inv-loop μ-loop
-mul-seen c = omega arith
+mul-any : tie.Need-mul-any Inv-loop μ-loop
+mul-any c = omega arith
 
-shared-slice-read-seen : tie.Need-shared-slice-read-seen Inv-loop μ-loop
-shared-slice-read-seen c = omega arith
+shared-slice-read-any : tie.Need-shared-slice-read-any Inv-loop μ-loop
+shared-slice-read-any c = omega arith
 
 add-i : tie.Need-add-i Inv-loop μ-loop
 add-i c = omega arith
@@ -38,7 +38,7 @@ loop-again : tie.Need-loop-again Inv-loop μ-loop
 loop-again c =
     let l = c .before .before .loop in
     let a = c .before .before .before .args in
-    (omega arith, or-more (a .words .now) (a .from) (l .i) (l .seen) (l .inv .1))
+    (omega arith, or-more (a .words .now) (a .from) (l .i) (l .any) (l .inv .1))
 
 returns : tie.Need-returns Inv-loop μ-loop
 returns c =
@@ -55,9 +55,9 @@ zeros-spec =
     Inv-loop
     μ-loop
     loop-holds
-    add-seen
-    mul-seen
-    shared-slice-read-seen
+    add-any
+    mul-any
+    shared-slice-read-any
     add-i
     loop-less
     loop-again

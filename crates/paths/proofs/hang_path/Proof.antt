@@ -1,7 +1,7 @@
 -- `paths::hang_path` meets its contract. A turn hangs the next array, as the first free one, below the last; the room asked for at entry is room for
 -- each, since a turn takes one. Assumes nothing.
 use mathlib.Core.Path.{_≡_}
-use Prim.Native.Nat.{_+_, _-_, _≤_, _<_}
+use Prim.Native.Nat.{_-_, _≤_}
 use native.Mathlib.Omega.{arith}
 use Rattle.paths.specs.Grown.{Turn, turn-first, turn-room, turn-gains, turn-more}
 use Rattle.paths.proofs.hang_path.Statement.{statement}
@@ -16,7 +16,7 @@ abbrev μ-loop : tie.MeasureT-loop
 loop-holds : tie.Need-loop-holds Inv-loop μ-loop
 loop-holds c =
     let s = c .before in
-    (omega arith, turn-first 4 (s .args .words .now) (s .args .address) (s .args .j) (s .args .a) (s .pre .1))
+    (omega arith, turn-first 4 (s .args .words .now) (s .args .address) (s .args .j) (s .args .a) (omega arith) (s .pre .1))
 
 byte-of-requires : tie.Need-byte-of-requires Inv-loop μ-loop
 byte-of-requires c κs = omega arith
@@ -30,8 +30,8 @@ gain-requires : tie.Need-gain-requires Inv-loop μ-loop
 gain-requires c κs =
     let l = c .before .before .before .before .before .loop in
     let s = c .before .before .before .before .before .before .before in
-    let room = turn-room 4 (s .args .words .now) (l .words) (s .args .address) (s .args .j) (l .i) (l .b) (l .inv .1) (s .args .k) (omega arith) (s .pre .0 .2) in
-    turn-gains 4 (s .args .words .now) (l .words) (s .args .address) (s .args .j) (l .i) (l .b) (l .inv .1) (omega arith) room
+    let room = turn-room (l .inv .1) (s .args .k) (omega arith) (s .pre .0 .2) in
+    turn-gains (l .inv .1) (omega arith) room
     (c .before .before .before .byte-of .result) (c .before .find-free .result) (c .before .before .before .byte-of .ensures .0) (c .before .find-free .ensures)
 
 add-i : tie.Need-add-i Inv-loop μ-loop
@@ -46,9 +46,9 @@ loop-again c =
     let s = c .before .before .before .before .before .before .before .before .before .before in
     let byte = c .before .before .before .before .before .before .byte-of in
     let free = c .before .before .before .before .find-free in
-    let room = turn-room 4 (s .args .words .now) (l .words) (s .args .address) (s .args .j) (l .i) (l .b) (l .inv .1) (s .args .k) (omega arith) (s .pre .0 .2) in (
+    let room = turn-room (l .inv .1) (s .args .k) (omega arith) (s .pre .0 .2) in (
       omega arith,
-      turn-more 4 (s .args .words .now) (l .words) (s .args .address) (s .args .j) (l .i) (l .b) (l .inv .1) (omega arith) room
+      turn-more (l .inv .1) (omega arith) room
           (byte .result) (free .result) (byte .ensures .0) (free .ensures) (c .before .before .gain .last .0) (c .before .before .gain .ensures),
     )
 

@@ -1,4 +1,4 @@
--- `paths::open` meets its contract: the arrays that the path lacks are as many as its levels below the stop, and each return is a case of `Opened`.
+-- `paths::open` meets its contract: an array is missing for each level below the stop, and each return is a case of `Opened`.
 -- Assumes nothing.
 use native.Mathlib.Omega.{arith}
 use borrow.Author.Needs.{needs}
@@ -10,7 +10,7 @@ returns : tie.Need-returns
 returns c =
     let s = c .before .before in
     let a = s .args in
-    opened-there 4 (a .words .now) (a .address) (a .k) (a .j) (a .a) (s .pre .1) (s .pre .0) (s .pre .2) (c .if1 .taken)
+    opened-there 4 (a .words .now) (a .address) (a .k) (a .j) (a .a) (s .pre .1) (s .pre .2) (c .if1 .taken)
 
 sub-n : tie.Need-sub-n
 sub-n c = search needs
@@ -31,14 +31,14 @@ returns-2 : tie.Need-returns-2
 returns-2 c =
     let s = c .before .before .before .before in
     let a = s .args in
-    opened-full 4 (a .words .now) (a .address) (a .k) (a .j) (a .a) (s .pre .1) (s .pre .0) (s .pre .2) (omega arith)
+    opened-full 4 (a .words .now) (a .address) (a .k) (a .j) (a .a) (s .pre .1) (s .pre .2) (omega arith)
 
 hang-path-requires : tie.Need-hang-path-requires
 hang-path-requires c κs =
     let s = c .before .before .before .before .before in
     let a = s .args in
     let p = s .pre .2 in
-    ((omega (arith, p .low), s .pre .0, omega arith), opened-tip 4 (a .words .now) (a .address) (a .k) (a .j) (a .a) (s .pre .1) (s .pre .0) p (omega (arith, p .low)))
+    ((omega (arith, p .low), s .pre .0, omega arith), opened-tip 4 (a .words .now) (a .address) (a .k) (a .j) (a .a) (s .pre .1) p (omega (arith, p .low)))
 
 same-length : tie.Need-same-length
 same-length c = search needs
@@ -47,7 +47,7 @@ returns-3 : tie.Need-returns-3
 returns-3 c =
     let s = c .before .before .before .before .before .before .before .before in
     let a = s .args in
-    opened-grown 4 (a .words .now) (a .address) (a .k) (a .j) (a .a) (s .pre .1) (s .pre .0) (s .pre .2) (c .before .before .hang-path .last .0) (c .before .before .hang-path .result) (c .before .before .hang-path .ensures)
+    opened-grown 4 (a .words .now) (a .address) (a .k) (a .j) (a .a) (s .pre .1) (s .pre .2) (c .before .before .hang-path .last .0) (c .before .before .hang-path .result) (c .before .before .hang-path .ensures)
 
 pub open-spec : {M : Type 1} → statement M
 open-spec =

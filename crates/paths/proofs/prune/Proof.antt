@@ -1,36 +1,34 @@
 -- `paths::prune` meets its contract. What is left may have b empty; an empty b is released, and its parent, one level up, may then be empty.
 -- Assumes nothing.
-use mathlib.Core.Path.{_≡_, refl, sym, ap, _∙_}
+use mathlib.Core.Path.{sym, ap, _∙_}
 use mathlib.Core.Bool.{not}
-use Prim.Native.Nat.{_+_, _-_, _*_, _/_, _%_, _≤_, _<_}
+use Prim.Native.Nat.{_*_, _%_}
 use native.Mathlib.Omega.{arith}
-use lib.ListN.{getD, length}
-use borrow.Author.Tests.{not-true, not-false}
-use Rattle.paths.specs.Shrunk.{Shrunk, prune-root, prune-some, can-release, shrink, falls}
+use lib.ListN.{getD}
+use borrow.Author.Tests.{not-false}
+use Rattle.paths.specs.Shrunk.{Shrunk, shrunk-none, prune-root, prune-some, can-release, shrink, falls}
 use Rattle.paths.proofs.prune.Statement.{statement}
 use Rattle.paths.proofs.prune.Tie as tie
 
 abbrev Inv-loop : tie.InvT-loop
-Inv-loop words₀ a b₀ words b = Shrunk 4 words₀ words b
+Inv-loop words₀ a b₀ words b = Shrunk 4 words₀ words a b
 
 abbrev μ-loop : tie.MeasureT-loop
 μ-loop words₀ a b₀ words b = getD words (1024 * b) 0 % 32
 
 loop-holds : tie.Need-loop-holds Inv-loop μ-loop
-loop-holds c = c .before .pre
+loop-holds c = shrunk-none 4 (c .before .args .words .now) (c .before .args .a) (c .before .pre)
 
 empty-requires : tie.Need-empty-requires Inv-loop μ-loop
 empty-requires c κs =
-    let k = c .before .before .loop .inv in
+    let k = c .before .before .loop .inv .loose in
     omega (arith, k .within, k .ok .low)
 
 same-length : tie.Need-same-length Inv-loop μ-loop
-same-length c = c .before .before .before .before .loop .inv .size
+same-length c = c .before .before .before .before .loop .inv .freed .size
 
 returns : tie.Need-returns Inv-loop μ-loop
-returns c =
-    let l = c .before .before .before .before .loop in
-    prune-some 4 (c .before .before .before .before .before .before .args .words .now) (l .words) (l .b) (l .inv) (ap not (sym (c .before .empty .ensures)) ∙ c .if1 .taken)
+returns c = prune-some (c .before .before .before .before .loop .inv) (ap not (sym (c .before .empty .ensures)) ∙ c .if1 .taken)
 
 mul-from : tie.Need-mul-from Inv-loop μ-loop
 mul-from c = omega arith
@@ -45,27 +43,21 @@ cast-p : tie.Need-cast-p Inv-loop μ-loop
 cast-p c = omega (arith, c .slice-known2 .given (1024 * c .before .before .before .before .before .loop .b))
 
 release-requires : tie.Need-release-requires Inv-loop μ-loop
-release-requires c κs =
-    let l = c .before .before .before .before .before .before .loop in
-    can-release 4 (c .before .before .before .before .before .before .before .before .args .words .now) (l .words) (l .b) (l .inv) (λ z. omega arith) (sym (c .before .before .before .empty .ensures) ∙ not-false _ (c .before .before .if1 .left))
+release-requires c κs = can-release (c .before .before .before .before .before .before .loop .inv) (λ z. omega arith) (sym (c .before .before .before .empty .ensures) ∙ not-false _ (c .before .before .if1 .left))
 
 loop-less : tie.Need-loop-less Inv-loop μ-loop
 loop-less c =
-    let l = c .before .before .before .before .before .before .before .before .before .loop in
-    rw (c .before .before .release .ensures) (falls 4 (c .before .before .before .before .before .before .before .before .before .before .before .args .words .now) (l .words) (l .b) (l .inv) (λ z. omega arith) (sym (c .before .before .before .before .before .before .empty .ensures) ∙ not-false _ (c .before .before .before .before .before .if1 .left)))
+    rw (c .before .before .release .ensures) (falls (c .before .before .before .before .before .before .before .before .before .loop .inv) (λ z. omega arith) (sym (c .before .before .before .before .before .before .empty .ensures) ∙ not-false _ (c .before .before .before .before .before .if1 .left)))
 
 loop-again : tie.Need-loop-again Inv-loop μ-loop
 loop-again c =
-    let l = c .before .before .before .before .before .before .before .before .before .loop in
-    rw (c .before .before .release .ensures) (shrink 4 (c .before .before .before .before .before .before .before .before .before .before .before .args .words .now) (l .words) (l .b) (l .inv) (λ z. omega arith) (sym (c .before .before .before .before .before .before .empty .ensures) ∙ not-false _ (c .before .before .before .before .before .if1 .left)))
+    rw (c .before .before .release .ensures) (shrink (c .before .before .before .before .before .before .before .before .before .loop .inv) (λ z. omega arith) (sym (c .before .before .before .before .before .before .empty .ensures) ∙ not-false _ (c .before .before .before .before .before .if1 .left)))
 
 same-length-2 : tie.Need-same-length-2 Inv-loop μ-loop
-same-length-2 c = c .before .loop .inv .size
+same-length-2 c = c .before .loop .inv .freed .size
 
 returns-2 : tie.Need-returns-2 Inv-loop μ-loop
-returns-2 c =
-    let l = c .before .loop in
-    prune-root 4 (c .before .before .before .args .words .now) (l .words) (l .b) (l .inv) (omega arith)
+returns-2 c = prune-root (c .before .loop .inv) (omega arith)
 
 pub prune-spec : {M : Type 1} → statement M
 prune-spec =

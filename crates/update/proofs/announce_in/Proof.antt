@@ -1,7 +1,6 @@
 -- `update::announce_in` meets its contract. The walk tells where the prefix stands and whether it is held; `open` refuses for room or hangs
 -- the arrays that the path lacks, the last of them the one that may be empty; the slot set in it makes a table again. Assumes nothing.
-use mathlib.Core.Path.{_≡_, sym, _∙_}
-use Prim.Native.Nat.{_≤_, _<_}
+use mathlib.Core.Path.{sym, _∙_}
 use native.Mathlib.Omega.{arith}
 use lib.Dec.{lit≤}
 use borrow.Author.Needs.{needs}

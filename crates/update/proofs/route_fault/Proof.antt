@@ -1,6 +1,5 @@
 -- `update::route_fault` meets its contract: the prefix comes first, then the hop. Assumes nothing.
-use mathlib.Core.Path.{_≡_, sym, _∙_}
-use native.Mathlib.Omega.{arith}
+use mathlib.Core.Path.{sym, _∙_}
 use borrow.Author.Needs.{needs}
 use borrow.Author.Tests.{eq-eqb, ne-eqb, lt-ltb, le-ltb}
 use Rattle.update.specs.Refuse.{fault-prefix, fault-hop}

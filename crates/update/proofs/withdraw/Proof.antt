@@ -1,7 +1,6 @@
 -- `update::withdraw` meets its contract: each test is passed to reach the next, and the work's promise on a table is the call's. Assumes nothing.
 use mathlib.Core.Path.{_≡_, sym, _∙_}
-use mathlib.Core.Bool.{true, false}
-use native.Mathlib.Omega.{arith}
+use mathlib.Core.Bool.{false}
 use lib.ListN.{length as size}
 use borrow.Author.Needs.{needs}
 use borrow.Author.Tests.{not-true, not-false}

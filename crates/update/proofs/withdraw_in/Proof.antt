@@ -1,12 +1,11 @@
 -- `update::withdraw_in` meets its contract. The walk tells whether the prefix is held; the slot cleared, its array is the one that may be
 -- empty, and pruning makes a table again. Assumes nothing.
-use mathlib.Core.Path.{_≡_, sym, _∙_}
-use Prim.Native.Nat.{_≤_, _<_}
+use mathlib.Core.Path.{sym, _∙_}
 use native.Mathlib.Omega.{arith}
 use lib.Dec.{lit≤}
 use borrow.Author.Needs.{needs}
 use Rattle.paths.specs.Held.{Sought, stands-small}
-use Rattle.update.specs.Withdraw.{withdraw-none, withdraw-seat, withdraw-taken, withdraw-shrunk, withdraw-done}
+use Rattle.update.specs.Withdraw.{withdraw-none, withdraw-seat, withdraw-taken, withdraw-loose, withdraw-done}
 use Rattle.update.proofs.withdraw_in.Statement.{statement}
 use Rattle.update.proofs.withdraw_in.Tie as tie
 
@@ -47,7 +46,7 @@ prune-requires : tie.Need-prune-requires
 prune-requires c κs =
     let w = c .before .before .before .before .before .before in
     let k = c .before .before .before .clear in
-    withdraw-shrunk (sought w) (λ z. c .before .before .before .before .before .if1 .left (w .hop-at .ensures ∙ z)) (k .last .0) (k .result .cells) (k .ensures .1)
+    withdraw-loose (sought w) (λ z. c .before .before .before .before .before .if1 .left (w .hop-at .ensures ∙ z)) (k .last .0) (k .result .cells) (k .ensures .1)
 
 same-length-2 : tie.Need-same-length-2
 same-length-2 c = search needs

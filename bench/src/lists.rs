@@ -1,0 +1,52 @@
+//! The lists and addresses that are measured on.
+
+use compare::feeds::hop;
+use compare::lists::Growing;
+use compare::random::Random;
+use second::{Prefix, RouteList};
+
+pub struct Load {
+    pub name: &'static str,
+    pub list: RouteList,
+    /// Heads of 24 bits that have an array of their own.
+    pub deepest: Vec<u32>,
+}
+
+/// Random routes, address and length even, until all arrays are needed. Length 0 is left out, as rte_lpm has none.
+pub fn sparse(random: &mut Random, arrays: usize) -> Load {
+    load("random list", &filled(random, arrays))
+}
+
+/// The same and then random routes inside the arrays, until there are so many.
+pub fn dense(random: &mut Random, arrays: usize, routes: usize) -> Load {
+    let mut growing = filled(random, arrays);
+    let heads: Vec<(u32, u32)> = growing.heads().collect();
+    while growing.count() < routes {
+        let (level, head) = random.pick(&heads);
+        let length = 8 * level + random.within(1..=8) as u32;
+        growing.grow(Prefix::around(head | random.word() >> (8 * level), length), hop(random), arrays);
+    }
+    load("denser list", &growing)
+}
+
+fn filled(random: &mut Random, arrays: usize) -> Growing {
+    let mut growing = Growing::default();
+    while growing.need() < arrays {
+        let length = random.within(1..=32) as u32;
+        growing.grow(Prefix::around(random.word(), length), hop(random), arrays);
+    }
+    growing
+}
+
+fn load(name: &'static str, growing: &Growing) -> Load {
+    let deepest = growing.heads().filter(|&(level, _)| level == 3).map(|(_, head)| head).collect();
+    Load { name, list: growing.list(), deepest }
+}
+
+pub fn random_addresses(random: &mut Random, count: usize) -> Vec<u32> {
+    (0..count).map(|_| random.word()).collect()
+}
+
+pub fn deep_addresses(random: &mut Random, load: &Load, count: usize) -> Vec<u32> {
+    (0..count).map(|_| random.pick(&load.deepest) | u32::from(random.byte())).collect()
+}

@@ -1,0 +1,151 @@
+//! Measures the library beside other ways of doing the same, all in one run: `bench/run`, or `bench/run --quick` for a
+//! rough look. A line gives the median time of one call and how much of it the library takes.
+
+mod clock;
+mod lists;
+mod lpm;
+mod trie;
+
+use clock::{measure, Way};
+use compare::random::Random;
+use lists::Load;
+use lpm::Lpm;
+use second::{layout, Route, RouteList};
+use toggleash::ffi::{self, Answer};
+use trie::Trie;
+
+const ARRAYS: usize = 4_096;
+const ROUTES: usize = 100_000;
+
+extern "C" {
+    fn plain_trusting(words: *const u32, n: usize, address: u32) -> Answer;
+    fn plain_checking(words: *const u32, n: usize, address: u32) -> Answer;
+}
+
+type Lookup = unsafe extern "C" fn(*const u32, usize, u32) -> Answer;
+
+struct Scale {
+    addresses: usize,
+    rounds: usize,
+}
+
+fn main() {
+    let scale = match std::env::args().nth(1).as_deref() {
+        None => Scale { addresses: 10_000_000, rounds: 5 },
+        Some("--quick") => Scale { addresses: 500_000, rounds: 3 },
+        Some(_) => panic!("usage: bench/run [--quick]"),
+    };
+    let mut random = Random::for_case(1, "bench", 0);
+    let lpm = Lpm::open(2 * ROUTES as u32, 2 * ARRAYS as u32);
+    println!("one call, median of {} rounds; last column: the library's time over this one's", scale.rounds);
+    for load in [lists::sparse(&mut random, ARRAYS), lists::dense(&mut random, ARRAYS, ROUTES)] {
+        lookups(&mut random, &scale, &load, lpm.as_ref());
+        updates(&mut random, &scale, &load, ARRAYS, lpm.as_ref());
+        whole(&scale, &load);
+    }
+    for arrays in [7, 64] {
+        updates(&mut random, &scale, &lists::sparse(&mut Random::for_case(1, "small", 0), arrays), arrays, None);
+    }
+    if lpm.is_none() {
+        println!("rte_lpm took no part: libdpdk-dev is not installed, or it did not start");
+    }
+}
+
+/// The list as a table, which the library's check must know.
+fn table(list: &RouteList, arrays: usize) -> Vec<u32> {
+    let words = layout::lay(list, arrays, &(2..=arrays).collect::<Vec<_>>());
+    let counts = toggleash::check(&words).expect("a table laid out is one");
+    assert_eq!(counts.routes as usize, list.routes().len());
+    words
+}
+
+fn sum(lookup: Lookup, words: &[u32], addresses: &[u32]) -> u64 {
+    // SAFETY: the words are a table, and the pointer and length are the slice's.
+    addresses.iter().map(|&address| u64::from(unsafe { lookup(words.as_ptr(), words.len(), address) }.hop)).sum()
+}
+
+fn lookups(random: &mut Random, scale: &Scale, load: &Load, lpm: Option<&Lpm>) {
+    let (words, trie) = (&table(&load.list, ARRAYS), &Trie::new(&load.list));
+    let sets = [
+        ("random addresses", lists::random_addresses(random, scale.addresses)),
+        ("addresses inside the deepest arrays", lists::deep_addresses(random, load, scale.addresses)),
+    ];
+    for (name, addresses) in &sets {
+        let mut ways = vec![
+            Way::new("toggleash_lookup", || sum(ffi::toggleash_lookup, words, addresses)),
+            Way::new("C loop with the same refusals", || sum(plain_checking, words, addresses)),
+            Way::new("C loop that trusts the words", || sum(plain_trusting, words, addresses)),
+            Way::new("Rust trie of one bit a step", || trie.sum(addresses)),
+        ];
+        if let Some(lpm) = lpm {
+            lpm.fill(&load.list);
+            ways.push(Way::new("DPDK's rte_lpm_lookup, inline", || lpm.sum(addresses)));
+        }
+        measure(&title("lookup", load, name), scale.rounds, addresses.len(), ways);
+    }
+}
+
+fn title(what: &str, load: &Load, more: &str) -> String {
+    format!("{what}, {}, {} arrays, {} routes, {more}", load.name, load.list.need(), load.list.routes().len())
+}
+
+/// Routes taken out and put back, by single calls and by a run, which is given two records for each.
+fn updates(random: &mut Random, scale: &Scale, load: &Load, arrays: usize, lpm: Option<&Lpm>) {
+    let mut words = table(&load.list, arrays);
+    let mut same_words = words.clone();
+    let mut trie = Trie::new(&load.list);
+    let count = (scale.addresses / 200 / arrays).clamp(4, 2_000);
+    let routes: Vec<Route> = (0..count).map(|_| random.pick(load.list.routes())).collect();
+    let feed: Vec<u8> = routes.iter().flat_map(take_and_put).collect();
+    let mut reply = vec![0; 10 * count];
+    let mut ways = vec![
+        Way::new("toggleash_withdraw, toggleash_announce", || flap(&mut words, &routes)),
+        Way::new("toggleash_run", || accepted(toggleash::run(&mut same_words, &feed, &mut reply))),
+        Way::new("Rust trie of one bit a step", || trie.flap(&routes)),
+    ];
+    if let Some(lpm) = lpm {
+        lpm.fill(&load.list);
+        ways.push(Way::new("DPDK's rte_lpm_delete, rte_lpm_add", || lpm.flap(&routes)));
+    }
+    measure(&title("update", load, "taken out and put back"), scale.rounds, 2 * count, ways);
+}
+
+fn accepted(ran: Result<toggleash::Ran, toggleash::Refusal>) -> u64 {
+    ran.expect("a table stays one").accepted as u64
+}
+
+/// The records that withdraw a route and announce it again.
+fn take_and_put(route: &Route) -> Vec<u8> {
+    let (address, length) = (route.prefix.address.to_be_bytes(), [route.prefix.length as u8]);
+    let hop = (route.hop as u16).to_be_bytes();
+    [&[2][..], &address, &length, &[1], &address, &length, &hop].concat()
+}
+
+/// Gives the number of updates accepted.
+fn flap(words: &mut [u32], routes: &[Route]) -> u64 {
+    let mut accepted = 0;
+    for route in routes {
+        let (address, length) = (route.prefix.address.into(), route.prefix.length);
+        accepted += u64::from(toggleash::withdraw(words, address, length).is_ok());
+        accepted += u64::from(toggleash::announce(words, address, length, route.hop).is_ok());
+    }
+    accepted
+}
+
+/// The calls that read or write the whole table.
+fn whole(scale: &Scale, load: &Load) {
+    let words = &table(&load.list, ARRAYS);
+    let mut buffer = vec![0; 8 * load.list.routes().len() + 1];
+    let mut cleared = words.clone();
+    let check = || u64::from(toggleash::check(words).expect("a table").routes);
+    let write_out = || toggleash::write_out(words, &mut buffer).expect("room enough").len() as u64;
+    let clear = || u64::from(toggleash::clear(&mut cleared).is_ok());
+    let ways = [
+        ("check", Way::new("toggleash_check", check)),
+        ("write out", Way::new("toggleash_write_out", write_out)),
+        ("clear", Way::new("toggleash_clear", clear)),
+    ];
+    for (what, way) in ways {
+        measure(&title(what, load, "one call"), scale.rounds, 1, vec![way]);
+    }
+}

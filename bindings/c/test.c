@@ -1,0 +1,114 @@
+/* Calls every function from C and compares each field, so that the header and the archive are known to agree. Prints
+ * what differs and returns 1 on any difference. */
+#include <stdio.h>
+#include <string.h>
+#include "toggleash.h"
+
+#define ROOM TOGGLEASH_WORDS(4)
+
+static uint32_t words[ROOM];
+static unsigned compared, differing;
+
+static void same(const char *what, uint64_t expected, uint64_t got) {
+    compared++;
+    if (expected != got) {
+        differing++;
+        printf("%s: expected %llu, got %llu\n", what, (unsigned long long)expected, (unsigned long long)got);
+    }
+}
+
+static void update(const char *what, toggleash_update u, uint32_t refusal, uint32_t hop, uint32_t cells) {
+    same(what, refusal, u.refusal);
+    same(what, hop, u.hop);
+    same(what, cells, u.cells);
+}
+
+static void answer(const char *what, toggleash_answer a, uint32_t refusal, uint32_t found, uint32_t hop,
+                   uint32_t length) {
+    same(what, refusal, a.refusal);
+    same(what, found, a.found);
+    same(what, hop, a.hop);
+    same(what, length, a.length);
+}
+
+static void counts(const char *what, toggleash_counts c, uint32_t refusal, uint32_t routes, uint32_t arrays) {
+    same(what, refusal, c.refusal);
+    same(what, routes, c.routes);
+    same(what, arrays, c.arrays);
+}
+
+static void written(const char *what, toggleash_written w, uint32_t refusal, uint64_t bytes) {
+    same(what, refusal, w.refusal);
+    same(what, bytes, w.bytes);
+}
+
+static void ran(const char *what, toggleash_ran r, uint32_t refusal, uint32_t stop, const uint64_t rest[4]) {
+    same(what, refusal, r.refusal);
+    same(what, stop, r.stop);
+    same(what, rest[0], r.consumed);
+    same(what, rest[1], r.written);
+    same(what, rest[2], r.accepted);
+    same(what, rest[3], r.refused);
+}
+
+static void updates(void) {
+    same("clear", 0, toggleash_clear(words, ROOM));
+    update("announce", toggleash_announce(words, ROOM, 0x0A010180, 25, 65535), 0, 65535, 128);
+    update("announce held", toggleash_announce(words, ROOM, 0x0A010180, 25, 2), 6, 0, 0);
+    update("announce, no room", toggleash_announce(words, ROOM, 0x0A010200, 25, 2), 8, 0, 0);
+    update("announce, length", toggleash_announce(words, ROOM, 0, 33, 0), 3, 0, 0);
+    update("announce, stray bit", toggleash_announce(words, ROOM, 0x0A000001, 24, 0), 4, 0, 0);
+    update("announce, hop 0", toggleash_announce(words, ROOM, 0, 0, 0), 5, 0, 0);
+    update("announce, hop", toggleash_announce(words, ROOM, 0, 0, 65536), 5, 0, 0);
+    update("announce default", toggleash_announce(words, ROOM, 0, 0, 7), 0, 7, 256);
+    update("withdraw, not held", toggleash_withdraw(words, ROOM, 0, 1), 7, 0, 0);
+    update("withdraw, length", toggleash_withdraw(words, ROOM, 0, 4000000000u), 3, 0, 0);
+    counts("check", toggleash_check(words, ROOM), 0, 2, 4);
+    answer("lookup", toggleash_lookup(words, ROOM, 0x0A0101FF), 0, 1, 65535, 25);
+    answer("lookup default", toggleash_lookup(words, ROOM, 0xFFFFFFFF), 0, 1, 7, 0);
+    update("withdraw", toggleash_withdraw(words, ROOM, 0, 0), 0, 7, 256);
+    answer("lookup none", toggleash_lookup(words, ROOM, 0xFFFFFFFF), 0, 0, 0, 0);
+}
+
+static void bytes(void) {
+    static const uint8_t list[9] = {1, 0x0A, 1, 1, 0x80, 25, 0xFF, 0xFF, 0};
+    static const uint8_t feed[7] = {2, 0x0A, 1, 1, 0x80, 25, 0};
+    uint8_t buffer[10], reply[6];
+    memset(buffer, 0xEE, sizeof buffer);
+    memset(reply, 0xEE, sizeof reply);
+    written("write out, short", toggleash_write_out(words, ROOM, buffer, 8), 9, 0);
+    same("buffer kept", 0xEE, buffer[0]);
+    written("write out", toggleash_write_out(words, ROOM, buffer, sizeof buffer), 0, 9);
+    same("list", 0, (uint64_t)memcmp(buffer, list, sizeof list));
+    same("rest kept", 0xEE, buffer[9]);
+    ran("run", toggleash_run(words, ROOM, feed, sizeof feed, reply, sizeof reply), 0, 0, (uint64_t[]){7, 5, 1, 0});
+    same("reply", 0, (uint64_t)memcmp(reply, (uint8_t[]){16, 0xFF, 0xFF, 0, 128, 0xEE}, sizeof reply));
+    ran("run again", toggleash_run(words, ROOM, feed, sizeof feed, reply, sizeof reply), 0, 0,
+        (uint64_t[]){7, 2, 0, 1});
+}
+
+static void nothing(void) {
+    static const uint64_t zeros[4];
+    ran("run, null feed", toggleash_run(words, ROOM, NULL, 0, NULL, 0), 0, 1, zeros);
+    written("write out, null", toggleash_write_out(words, ROOM, NULL, 0), 9, 0);
+    same("clear, null", 1, toggleash_clear(NULL, 0));
+    counts("check, null", toggleash_check(NULL, 0), 1, 0, 0);
+    answer("lookup, null", toggleash_lookup(NULL, 0, 1), 1, 0, 0, 0);
+    update("announce, null", toggleash_announce(NULL, 0, 0, 33, 0), 1, 0, 0);
+    update("withdraw, null", toggleash_withdraw(NULL, 0, 0, 33), 1, 0, 0);
+    written("write out, null words", toggleash_write_out(NULL, 0, NULL, 0), 1, 0);
+    ran("run, null words", toggleash_run(NULL, 0, NULL, 0, NULL, 0), 1, 0, zeros);
+    words[0]++;
+    counts("check, no table", toggleash_check(words, ROOM), 2, 0, 0);
+    update("announce, no table", toggleash_announce(words, ROOM, 0, 0, 1), 2, 0, 0);
+    written("write out, no table", toggleash_write_out(words, ROOM, NULL, 0), 2, 0);
+    ran("run, no table", toggleash_run(words, ROOM, NULL, 0, NULL, 0), 2, 0, zeros);
+}
+
+int main(void) {
+    updates();
+    bytes();
+    nothing();
+    printf("%u fields compared, %u differ\n", compared, differing);
+    return differing != 0;
+}

@@ -1,0 +1,150 @@
+//! What the calls answer, and why they refuse.
+
+use std::error::Error;
+use std::fmt;
+
+/// Why a call refused. A refused call has changed nothing that was lent to it.
+///
+/// Where several apply, the first in this order is given: 1, 3, 4, 5, 2, 6 or 7, 8 or 9.
+#[derive(Clone, Copy, Debug, PartialEq, Eq, Hash)]
+#[repr(u8)]
+pub enum Refusal {
+    /// 1: the number of words is not a multiple of 1,024 from 2,048 to 4,195,328.
+    WordCount = 1,
+    /// 2: the words are not a table; from [`lookup`](crate::lookup): its walk met a value that no table holds.
+    NotATable = 2,
+    /// 3: the length is over 32.
+    LengthOver32 = 3,
+    /// 4: a bit of the address after the length is set.
+    StrayBit = 4,
+    /// 5: the hop is 0 or over 65,535.
+    HopOutOfRange = 5,
+    /// 6: the prefix is already held; its hop stays.
+    AlreadyHeld = 6,
+    /// 7: the prefix is not held.
+    NotHeld = 7,
+    /// 8: the list with the route added needs more arrays than the words have.
+    NoRoom = 8,
+    /// 9: the buffer is too short for the written list.
+    BufferShort = 9,
+}
+
+impl Refusal {
+    const ALL: [Refusal; 9] = [
+        Refusal::WordCount,
+        Refusal::NotATable,
+        Refusal::LengthOver32,
+        Refusal::StrayBit,
+        Refusal::HopOutOfRange,
+        Refusal::AlreadyHeld,
+        Refusal::NotHeld,
+        Refusal::NoRoom,
+        Refusal::BufferShort,
+    ];
+
+    /// The number, from 1 to 9, that replies and the calls of C give.
+    pub fn number(self) -> u8 {
+        self as u8
+    }
+
+    /// The refusal of this number.
+    ///
+    /// ```
+    /// use toggleash::Refusal;
+    ///
+    /// assert_eq!(Refusal::from_number(8), Some(Refusal::NoRoom));
+    /// assert_eq!(Refusal::from_number(0), None);
+    /// ```
+    pub fn from_number(number: u32) -> Option<Refusal> {
+        Refusal::ALL.into_iter().find(|refusal| u32::from(refusal.number()) == number)
+    }
+}
+
+impl fmt::Display for Refusal {
+    fn fmt(&self, f: &mut fmt::Formatter<'_>) -> fmt::Result {
+        let reason = match self {
+            Refusal::WordCount => "the number of words is not a multiple of 1,024 from 2,048 to 4,195,328",
+            Refusal::NotATable => "the words are not a table",
+            Refusal::LengthOver32 => "the length is over 32",
+            Refusal::StrayBit => "a bit after the length is set",
+            Refusal::HopOutOfRange => "the hop is 0 or over 65,535",
+            Refusal::AlreadyHeld => "the prefix is already held",
+            Refusal::NotHeld => "the prefix is not held",
+            Refusal::NoRoom => "the table has no room for the route",
+            Refusal::BufferShort => "the buffer is too short for the written list",
+        };
+        write!(f, "refused {}: {reason}", self.number())
+    }
+}
+
+impl Error for Refusal {}
+
+/// What [`check`](crate::check) counts.
+#[derive(Clone, Copy, Debug, PartialEq, Eq, Hash)]
+pub struct Counts {
+    /// Routes held.
+    pub routes: u32,
+    /// Arrays that they need, the first one included.
+    pub arrays: u32,
+}
+
+/// The longest match that [`lookup`](crate::lookup) finds.
+#[derive(Clone, Copy, Debug, PartialEq, Eq, Hash)]
+pub struct Match {
+    /// The route's hop, from 1 to 65,535.
+    pub hop: u32,
+    /// The route's length, from 0 to 32.
+    pub length: u32,
+}
+
+/// What an accepted update reports.
+#[derive(Clone, Copy, Debug, PartialEq, Eq, Hash)]
+pub struct Update {
+    /// The hop announced, or the one that the withdrawn route had.
+    pub hop: u32,
+    /// The cells of the route's array that it covers and no longer route of that array does, from 0 to 256.
+    pub cells: u32,
+}
+
+/// Why a run ended.
+#[derive(Clone, Copy, Debug, PartialEq, Eq, Hash)]
+#[repr(u8)]
+pub enum Stop {
+    /// 0: an end record, which is consumed.
+    End = 0,
+    /// 1: no byte was left.
+    NoByteLeft = 1,
+    /// 2: the next record's kind is not 0 to 3.
+    UnknownKind = 2,
+    /// 3: the next record's body is short.
+    BodyShort = 3,
+    /// 4: fewer than 5 reply bytes were free.
+    ReplyFull = 4,
+}
+
+impl Stop {
+    /// The number of the stop.
+    pub fn number(self) -> u8 {
+        self as u8
+    }
+
+    pub(crate) fn from_number(number: u32) -> Option<Stop> {
+        let all = [Stop::End, Stop::NoByteLeft, Stop::UnknownKind, Stop::BodyShort, Stop::ReplyFull];
+        all.into_iter().find(|stop| u32::from(stop.number()) == number)
+    }
+}
+
+/// What a run did.
+#[derive(Clone, Copy, Debug, PartialEq, Eq, Hash)]
+pub struct Ran {
+    /// Why it ended.
+    pub stop: Stop,
+    /// Feed bytes taken; a record that stops the run is not, the end is.
+    pub consumed: usize,
+    /// Reply bytes written.
+    pub written: usize,
+    /// Updates accepted.
+    pub accepted: usize,
+    /// Records refused.
+    pub refused: usize,
+}

@@ -1,0 +1,63 @@
+//! The calls as C sees them; bindings/c/toggleash.h says what each takes and gives.
+
+#![allow(missing_docs)]
+
+#[repr(C)]
+#[derive(Clone, Copy, Debug, Default, PartialEq, Eq)]
+pub struct Counts {
+    pub refusal: u32,
+    pub routes: u32,
+    pub arrays: u32,
+}
+
+#[repr(C)]
+#[derive(Clone, Copy, Debug, Default, PartialEq, Eq)]
+pub struct Answer {
+    pub refusal: u32,
+    pub found: u32,
+    pub hop: u32,
+    pub length: u32,
+}
+
+#[repr(C)]
+#[derive(Clone, Copy, Debug, Default, PartialEq, Eq)]
+pub struct Update {
+    pub refusal: u32,
+    pub hop: u32,
+    pub cells: u32,
+}
+
+#[repr(C)]
+#[derive(Clone, Copy, Debug, Default, PartialEq, Eq)]
+pub struct Written {
+    pub refusal: u32,
+    pub bytes: u64,
+}
+
+#[repr(C)]
+#[derive(Clone, Copy, Debug, Default, PartialEq, Eq)]
+pub struct Ran {
+    pub refusal: u32,
+    pub stop: u32,
+    pub consumed: u64,
+    pub written: u64,
+    pub accepted: u64,
+    pub refused: u64,
+}
+
+extern "C" {
+    pub fn toggleash_clear(words: *mut u32, n: usize) -> u32;
+    pub fn toggleash_check(words: *const u32, n: usize) -> Counts;
+    pub fn toggleash_lookup(words: *const u32, n: usize, address: u32) -> Answer;
+    pub fn toggleash_announce(words: *mut u32, n: usize, address: u32, length: u32, hop: u32) -> Update;
+    pub fn toggleash_withdraw(words: *mut u32, n: usize, address: u32, length: u32) -> Update;
+    pub fn toggleash_write_out(words: *const u32, n: usize, buffer: *mut u8, room: usize) -> Written;
+    pub fn toggleash_run(
+        words: *mut u32,
+        n: usize,
+        feed: *const u8,
+        feed_len: usize,
+        reply: *mut u8,
+        reply_len: usize,
+    ) -> Ran;
+}

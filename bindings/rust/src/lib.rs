@@ -1,0 +1,213 @@
+//! Safe calls to Toggleash, a proved IPv4 route table in 32-bit words that the caller lends.
+//!
+//! The words are the whole state. A table of A arrays, A from 1 to 4,096, takes 1,024 × (A + 1) of them:
+//! [`words_for`] tells. Each call takes the words as a slice, checks them and its other input for itself, and answers
+//! or gives a [`Refusal`]; a refused call has changed nothing.
+//!
+//! ```
+//! use std::net::Ipv4Addr;
+//! use toggleash::{announce, clear, lookup, withdraw, words_for, Match, Refusal};
+//!
+//! # fn main() -> Result<(), Refusal> {
+//! let mut words = vec![0; words_for(7).unwrap()];
+//! clear(&mut words)?;
+//!
+//! announce(&mut words, Ipv4Addr::new(10, 0, 0, 0), 8, 1)?;
+//! announce(&mut words, Ipv4Addr::new(10, 1, 4, 0), 22, 2)?;
+//! let address = Ipv4Addr::new(10, 1, 5, 9);
+//! assert_eq!(lookup(&words, address)?, Some(Match { hop: 2, length: 22 }));
+//!
+//! // Withdraw one box and its addresses belong to the next box out.
+//! withdraw(&mut words, Ipv4Addr::new(10, 1, 4, 0), 22)?;
+//! assert_eq!(lookup(&words, address)?, Some(Match { hop: 1, length: 8 }));
+//! # Ok(())
+//! # }
+//! ```
+//!
+//! The archive libtoggleash.a is looked for in `target/staticlib` of the repository, or in the folder that the
+//! environment variable `TOGGLEASH_LIB_DIR` names while this crate is built.
+
+#![warn(missing_docs)]
+
+use std::net::Ipv4Addr;
+
+mod answers;
+pub mod ffi;
+
+pub use answers::{Counts, Match, Ran, Refusal, Stop, Update};
+
+/// The most arrays that a table can have.
+pub const MOST_ARRAYS: usize = 4_096;
+
+/// The number of words in a table of so many arrays; none unless they are 1 to 4,096.
+///
+/// ```
+/// assert_eq!(toggleash::words_for(1), Some(2_048));
+/// assert_eq!(toggleash::words_for(4_096), Some(4_195_328));
+/// assert_eq!(toggleash::words_for(0), None);
+/// ```
+pub fn words_for(arrays: usize) -> Option<usize> {
+    (1..=MOST_ARRAYS).contains(&arrays).then(|| 1_024 * (arrays + 1))
+}
+
+// SAFETY of all calls below: a slice's pointer is aligned and leads to as many elements as its length says, alone if
+// the slice is mutable, and the calls stay inside that. An empty slice's pointer leads nowhere, but with length 0 the
+// calls follow no pointer.
+
+/// Makes the words the table of no route, whatever they hold.
+///
+/// ```
+/// use toggleash::{check, clear, Counts, Refusal};
+///
+/// let mut words = vec![7; 2_048];
+/// assert_eq!(check(&words), Err(Refusal::NotATable));
+/// assert_eq!(clear(&mut words), Ok(()));
+/// assert_eq!(check(&words), Ok(Counts { routes: 0, arrays: 1 }));
+/// assert_eq!(clear(&mut words[1..]), Err(Refusal::WordCount));
+/// ```
+///
+/// # Errors
+/// [`Refusal::WordCount`].
+pub fn clear(words: &mut [u32]) -> Result<(), Refusal> {
+    accepted(unsafe { ffi::toggleash_clear(words.as_mut_ptr(), words.len()) })
+}
+
+/// Tests whether the words are a table, and counts its routes and the arrays that they need.
+///
+/// # Errors
+/// [`Refusal::WordCount`], [`Refusal::NotATable`].
+pub fn check(words: &[u32]) -> Result<Counts, Refusal> {
+    let counts = unsafe { ffi::toggleash_check(words.as_ptr(), words.len()) };
+    accepted(counts.refusal)?;
+    Ok(Counts { routes: counts.routes, arrays: counts.arrays })
+}
+
+/// Finds the longest match of an address.
+///
+/// The table is not tested: on words that are none the call reads inside them and gives what its walk gives.
+///
+/// # Errors
+/// [`Refusal::WordCount`]; [`Refusal::NotATable`] where the walk meets a value that no table holds.
+pub fn lookup(words: &[u32], address: Ipv4Addr) -> Result<Option<Match>, Refusal> {
+    let answer = unsafe { ffi::toggleash_lookup(words.as_ptr(), words.len(), address.into()) };
+    accepted(answer.refusal)?;
+    Ok((answer.found != 0).then_some(Match { hop: answer.hop, length: answer.length }))
+}
+
+/// Adds a route. Any length and hop may be given; those that no route has are refused.
+///
+/// ```
+/// use std::net::Ipv4Addr;
+/// use toggleash::{announce, clear, Refusal, Update};
+///
+/// # fn main() -> Result<(), Refusal> {
+/// let mut words = vec![0; 2_048];
+/// clear(&mut words)?;
+/// assert_eq!(announce(&mut words, Ipv4Addr::UNSPECIFIED, 0, 9), Ok(Update { hop: 9, cells: 256 }));
+/// assert_eq!(announce(&mut words, Ipv4Addr::UNSPECIFIED, 0, 9), Err(Refusal::AlreadyHeld));
+/// assert_eq!(announce(&mut words, Ipv4Addr::new(10, 0, 0, 0), 9, 9), Err(Refusal::NoRoom));
+/// assert_eq!(announce(&mut words, Ipv4Addr::new(10, 0, 0, 0), 33, 9), Err(Refusal::LengthOver32));
+/// # Ok(())
+/// # }
+/// ```
+///
+/// # Errors
+/// In this order [`Refusal::WordCount`], [`Refusal::LengthOver32`], [`Refusal::StrayBit`],
+/// [`Refusal::HopOutOfRange`], [`Refusal::NotATable`], [`Refusal::AlreadyHeld`], [`Refusal::NoRoom`].
+pub fn announce(words: &mut [u32], address: Ipv4Addr, length: u32, hop: u32) -> Result<Update, Refusal> {
+    updated(unsafe { ffi::toggleash_announce(words.as_mut_ptr(), words.len(), address.into(), length, hop) })
+}
+
+/// Removes a route and gives the hop that it had.
+///
+/// # Errors
+/// In this order [`Refusal::WordCount`], [`Refusal::LengthOver32`], [`Refusal::StrayBit`], [`Refusal::NotATable`],
+/// [`Refusal::NotHeld`].
+pub fn withdraw(words: &mut [u32], address: Ipv4Addr, length: u32) -> Result<Update, Refusal> {
+    updated(unsafe { ffi::toggleash_withdraw(words.as_mut_ptr(), words.len(), address.into(), length) })
+}
+
+/// Writes the routes as a feed of announcements and an end, and gives the part of the buffer that it filled: 8 bytes
+/// for each route and 1. The rest of the buffer stays.
+///
+/// ```
+/// use std::net::Ipv4Addr;
+/// use toggleash::{announce, clear, run, write_out, Refusal};
+///
+/// # fn main() -> Result<(), Refusal> {
+/// let mut words = vec![0; 2_048];
+/// clear(&mut words)?;
+/// announce(&mut words, Ipv4Addr::new(10, 0, 0, 0), 8, 258)?;
+/// let mut buffer = [0; 100];
+/// let list = write_out(&words, &mut buffer)?;
+/// assert_eq!(list, [1, 10, 0, 0, 0, 8, 1, 2, 0]);
+///
+/// // The list is a feed that fills another table with the same routes.
+/// let mut copy = vec![0; 2_048];
+/// clear(&mut copy)?;
+/// run(&mut copy, list, &mut [0; 5])?;
+/// # Ok(())
+/// # }
+/// ```
+///
+/// # Errors
+/// In this order [`Refusal::WordCount`], [`Refusal::NotATable`], [`Refusal::BufferShort`].
+pub fn write_out<'a>(words: &[u32], buffer: &'a mut [u8]) -> Result<&'a mut [u8], Refusal> {
+    let written = unsafe { ffi::toggleash_write_out(words.as_ptr(), words.len(), buffer.as_mut_ptr(), buffer.len()) };
+    accepted(written.refusal)?;
+    Ok(&mut buffer[..count(written.bytes)])
+}
+
+/// Takes the records of a feed in order and writes a reply to each but the end. The reply bytes past
+/// [`Ran::written`] stay. A refused record is replied to, and the run goes on.
+///
+/// ```
+/// use toggleash::{clear, run, Refusal, Stop};
+///
+/// # fn main() -> Result<(), Refusal> {
+/// let mut words = vec![0; 2_048];
+/// clear(&mut words)?;
+/// let feed = [1, 10, 0, 0, 0, 8, 0, 1, 3, 10, 1, 5, 9, 0];
+/// let mut reply = [0; 64];
+/// let ran = run(&mut words, &feed, &mut reply)?;
+/// assert_eq!((ran.stop, ran.consumed, ran.accepted, ran.refused), (Stop::End, 14, 1, 0));
+/// assert_eq!(reply[..ran.written], [16, 0, 1, 0, 1, 17, 0, 1, 8]);
+/// # Ok(())
+/// # }
+/// ```
+///
+/// # Errors
+/// Before any record, [`Refusal::WordCount`] or [`Refusal::NotATable`].
+pub fn run(words: &mut [u32], feed: &[u8], reply: &mut [u8]) -> Result<Ran, Refusal> {
+    let (words, n) = (words.as_mut_ptr(), words.len());
+    let ran = unsafe { ffi::toggleash_run(words, n, feed.as_ptr(), feed.len(), reply.as_mut_ptr(), reply.len()) };
+    accepted(ran.refusal)?;
+    Ok(Ran {
+        stop: Stop::from_number(ran.stop).unwrap_or_else(|| mismatch("stop", ran.stop)),
+        consumed: count(ran.consumed),
+        written: count(ran.written),
+        accepted: count(ran.accepted),
+        refused: count(ran.refused),
+    })
+}
+
+fn accepted(refusal: u32) -> Result<(), Refusal> {
+    match refusal {
+        0 => Ok(()),
+        number => Err(Refusal::from_number(number).unwrap_or_else(|| mismatch("refusal", number))),
+    }
+}
+
+fn updated(update: ffi::Update) -> Result<Update, Refusal> {
+    accepted(update.refusal)?;
+    Ok(Update { hop: update.hop, cells: update.cells })
+}
+
+/// Counts are at most the length of a slice, or of a feed's records, so they fit.
+fn count(number: u64) -> usize {
+    usize::try_from(number).expect("a count is at most a slice's length")
+}
+
+fn mismatch(what: &str, number: u32) -> ! {
+    panic!("libtoggleash.a gives {what} {number}, which this crate does not know: they are of different versions")
+}

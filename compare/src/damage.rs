@@ -1,0 +1,204 @@
+//! Memories that are no table, or hardly one: every call is made on them under guard.
+
+use std::collections::VecDeque;
+
+use second::layout::{best_of_slots, tag_below, Arrays, CELLS};
+use second::list::mask;
+use second::memory::ARRAY_WORDS;
+use second::RouteList;
+
+use crate::feeds::{Mood, Source, Terrain};
+use crate::guard::Side;
+use crate::lists::{filling, scattered};
+use crate::pair::{Pair, Same};
+use crate::random::Random;
+use crate::tally::Tally;
+
+/// Numbers of words that no table has, but for two, and the nearest to those that some has.
+pub const SIZES: [usize; 18] = [
+    0, 1, 2, 511, 1_023, 1_024, 1_025, 2_047, 2_048, 2_049, 3_071, 3_073, 5_000, 4_194_304, 4_195_327, 4_195_328,
+    4_195_329, 4_196_352,
+];
+
+/// Lookups on one memory.
+const ADDRESSES: usize = 2_500;
+
+/// Values at the borders of what a word may hold.
+const BORDERS: [u32; 16] =
+    [0, 1, 2, 31, 32, 33, 255, 256, 256 + 32, 256 + 33, 65_535, 65_536, (1 << 24) - 224, 1 << 24, 1 << 31, u32::MAX];
+
+/// Best cells at the borders of hop and length.
+const BEST_BORDERS: [u32; 9] =
+    [1, 255, 256, 256 + 32, 256 + 33, 65_535 * 256 + 32, 65_535 * 256 + 33, 1 << 24, u32::MAX];
+
+/// A table of so many arrays with some damage, and every call on it.
+pub fn memory(random: &mut Random, arrays: usize, tally: &mut Tally) -> Same {
+    let terrain = Terrain::new(random, arrays);
+    let need = arrays - random.below(arrays.min(4));
+    let list = filling(random, &terrain, need);
+    let mut words = scattered(random, &list, arrays);
+    for _ in 0..random.pick(&[0, 1, 1, 1, 1, 2, 3]) {
+        damage(random, &mut words);
+    }
+    every_call(random, &terrain, &list, &words, tally)
+}
+
+/// Words of any number, all alike or all random, and every call on them.
+pub fn size(random: &mut Random, count: usize, tally: &mut Tally) -> Same {
+    let terrain = Terrain::new(random, 7);
+    let alike = random.pick(&BORDERS);
+    let any = random.chance(50);
+    let words: Vec<u32> = (0..count).map(|_| if any { random.word() } else { alike }).collect();
+    every_call(random, &terrain, &RouteList::default(), &words, tally)
+}
+
+/// The calls that change no word first, on words that cannot be written, then updates in a row, a run and clearing.
+fn every_call(random: &mut Random, terrain: &Terrain, list: &RouteList, words: &[u32], tally: &mut Tally) -> Same {
+    tally.damaged += 1;
+    let side = random.pick(&[Side::Front, Side::Back]);
+    let mut pair = Pair::seen(words, side);
+    pair.check()?;
+    let addresses = every_cell(random, words);
+    pair.lookup(&addresses)?;
+    tally.lookups += addresses.len() as u64;
+    let full = 8 * list.routes().len() + 1;
+    for room in [0, full - 1, full, full + random.below(30)] {
+        pair.write_out(room, side)?;
+    }
+    let mut source = Source::new(random, terrain, list);
+    let feed = source.feed(Mood::CHURN, 12);
+    let updates = [source.record(Mood::FILL), source.record(Mood::FREE), source.record(Mood::CHURN)];
+    for record in updates {
+        crate::rooms::update(&mut pair, record, |number| number)?;
+        pair.stands()?;
+    }
+    tally.updates += updates.len() as u64;
+    tally.records += Pair::seen(words, side).run(&feed, random.below(70), side)?;
+    tally.feeds += 1;
+    Pair::seen(words, side).clear()
+}
+
+/// Random addresses, and one for each cell that links lead to, damaged ones too, until there are enough.
+fn every_cell(random: &mut Random, words: &[u32]) -> Vec<u32> {
+    let mut addresses: Vec<u32> = (0..20).map(|_| random.word()).collect();
+    let Some(arrays) = Arrays::new(words) else { return addresses };
+    let mut ahead = VecDeque::from([(1, 0, 0)]);
+    while let Some((a, level, head)) = ahead.pop_front() {
+        if addresses.len() > ADDRESSES {
+            break;
+        }
+        for cell in 0..256 {
+            let place = 24 - 8 * level;
+            let inside = head | (cell as u32) << place;
+            addresses.push(inside | random.word() & !mask(8 * level + 8));
+            if let (Some(below), 0..=2) = (arrays.held(arrays.link(a, cell)), level) {
+                ahead.push_back((below, level + 1, inside));
+            }
+        }
+    }
+    addresses
+}
+
+fn damage(random: &mut Random, words: &mut [u32]) {
+    match random.below(10) {
+        0..=3 => one_word(random, words),
+        4 => whole_blocks(random, words),
+        5 | 6 => hang_another(random, words),
+        7 => change_a_route(random, words),
+        8 => border_best(random, words),
+        _ => other_link(random, words),
+    }
+}
+
+/// An array, mostly a used one.
+fn some_array(random: &mut Random, words: &[u32]) -> usize {
+    let arrays = words.len() / ARRAY_WORDS - 1;
+    let tried = (0..8).map(|_| random.within(1..=arrays)).find(|a| words[ARRAY_WORDS * a] != 0);
+    tried.unwrap_or(1)
+}
+
+/// A word of one of the kinds that a table has, near to what it was, at a border, or anything.
+fn one_word(random: &mut Random, words: &mut [u32]) {
+    let arrays = (words.len() / ARRAY_WORDS - 1) as u32;
+    let block = ARRAY_WORDS * some_array(random, words);
+    let cell = CELLS + 2 * random.below(256);
+    let linked = (0..256).map(|i| block + CELLS + 2 * i + 1).find(|&at| words[at] != 0);
+    let at = match random.below(9) {
+        0 => random.below(words.len()),
+        1 => random.within(0..=2),
+        2 => random.within(500..=1_023),
+        3 => block,
+        4 => block + random.within(1..=511),
+        5 => block + random.pick(&[1, 2, 3, 256, 511]),
+        6 => block + cell,
+        7 => block + cell + 1,
+        _ => linked.unwrap_or(block + cell + 1),
+    };
+    words[at] = match random.below(6) {
+        0 => random.word(),
+        1 => random.pick(&BORDERS),
+        2 => words[at] ^ 1 << random.below(32),
+        3 => words[at].wrapping_add(random.pick(&[1, u32::MAX, 32, 8192, 256])),
+        4 => random.below(arrays as usize + 3) as u32,
+        _ => arrays + 1,
+    };
+}
+
+fn border_best(random: &mut Random, words: &mut [u32]) {
+    let best = ARRAY_WORDS * some_array(random, words) + CELLS + 2 * random.below(256);
+    words[best] = random.pick(&BEST_BORDERS);
+}
+
+/// A link that leads somewhere leads nowhere, elsewhere or past the last array.
+fn other_link(random: &mut Random, words: &mut [u32]) {
+    let arrays = words.len() / ARRAY_WORDS - 1;
+    let block = ARRAY_WORDS * some_array(random, words);
+    let links: Vec<usize> = (0..256).map(|i| block + CELLS + 2 * i + 1).filter(|&at| words[at] != 0).collect();
+    if !links.is_empty() {
+        let any = random.within(1..=arrays) as u32;
+        words[random.pick(&links)] = random.pick(&[0, 0, 1, any, arrays as u32, arrays as u32 + 1, u32::MAX]);
+    }
+}
+
+fn whole_blocks(random: &mut Random, words: &mut [u32]) {
+    let (one, other) = (some_array(random, words), some_array(random, words));
+    let block = |a: usize| ARRAY_WORDS * a..ARRAY_WORDS * (a + 1);
+    match random.below(5) {
+        0 => words[block(one)].fill(0),
+        1 => words.copy_within(block(one), ARRAY_WORDS * other),
+        2 => (0..ARRAY_WORDS).for_each(|i| words.swap(ARRAY_WORDS * one + i, ARRAY_WORDS * other + i)),
+        3 => words[block(one)].iter_mut().for_each(|word| *word = random.word()),
+        _ => words[..ARRAY_WORDS].fill(0),
+    }
+}
+
+/// A free array hung below a cell with tag, link and counts in order, perhaps with a route: an empty array, a level too
+/// many, a link that is taken from another array, or, with luck, a table of one route more.
+fn hang_another(random: &mut Random, words: &mut [u32]) {
+    let arrays = words.len() / ARRAY_WORDS - 1;
+    let Some(free) = (1..=arrays).find(|a| words[ARRAY_WORDS * a] == 0) else { return };
+    let (parent, cell) = (some_array(random, words), random.below(256));
+    words[ARRAY_WORDS * parent + CELLS + 2 * cell + 1] = free as u32;
+    let tag = tag_below(parent, cell, words[ARRAY_WORDS * parent]);
+    words[ARRAY_WORDS * free] = tag;
+    words[0] = words[0].wrapping_add(1);
+    words[1 + (free - 1) / 8] = words[1 + (free - 1) / 8].wrapping_add(1);
+    if random.chance(50) {
+        words[ARRAY_WORDS * free + 256 + cell] = 9;
+        words[ARRAY_WORDS * free + CELLS + 2 * cell] = 9 * 256 + 8 * (tag % 32);
+    }
+}
+
+/// A slot gets another hop, or none, and all best cells follow: another table, an array left empty, a route of length 0
+/// below the root, or a hop that is none.
+fn change_a_route(random: &mut Random, words: &mut [u32]) {
+    let block = ARRAY_WORDS * some_array(random, words);
+    let block = &mut words[block..block + ARRAY_WORDS];
+    let any = random.within(1..=511);
+    block[random.pick(&[1, any, any, any])] = random.pick(&[0, 1, 65_535, 65_536]);
+    let level = block[0] % 32 % 5;
+    for cell in 0..256 {
+        // A slot damaged before need not fit into a best cell.
+        block[CELLS + 2 * cell] = best_of_slots(|slot| block[slot] % 65_537, level.saturating_sub(1), cell);
+    }
+}

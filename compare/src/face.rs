@@ -1,0 +1,85 @@
+//! What only a caller in C can do: null with length 0, lengths far over any table's; and every field that is not meant
+//! is 0.
+
+use std::ptr::{null, null_mut};
+
+use toggleash::ffi::{self, Answer, Counts, Ran, Update, Written};
+
+use crate::guard::{begin_call, Lent, Side};
+use crate::pair::{same, Same};
+
+/// Lengths that no memory has; none may be read.
+const FAR: [usize; 6] = [1 << 23, 1 << 32, (1 << 32) + 2_048, 1 << 60, usize::MAX - 1_023, usize::MAX];
+
+pub fn compare() -> Same {
+    nothing_lent()?;
+    FAR.into_iter().try_for_each(far_lengths)?;
+    refused_fields()
+}
+
+/// Refusal 1 from every call, whatever else applies, with words that lead nowhere.
+fn refused_by_size(words: *mut u32, n: usize) -> Same {
+    begin_call("a call of C with a wrong number of words");
+    unsafe {
+        same(|| format!("clear {n}"), ffi::toggleash_clear(words, n), 1)?;
+        let counts = Counts { refusal: 1, ..Counts::default() };
+        same(|| format!("check {n}"), ffi::toggleash_check(words, n), counts)?;
+        let answer = Answer { refusal: 1, ..Answer::default() };
+        same(|| format!("lookup {n}"), ffi::toggleash_lookup(words, n, 0), answer)?;
+        let update = Update { refusal: 1, ..Update::default() };
+        same(|| format!("announce {n}"), ffi::toggleash_announce(words, n, 1, 33, 0), update)?;
+        same(|| format!("withdraw {n}"), ffi::toggleash_withdraw(words, n, 1, 33), update)?;
+        let written = Written { refusal: 1, ..Written::default() };
+        same(|| format!("write out {n}"), ffi::toggleash_write_out(words, n, null_mut(), 0), written)?;
+        let ran = Ran { refusal: 1, ..Ran::default() };
+        same(|| format!("run {n}"), ffi::toggleash_run(words, n, null(), 0, null_mut(), 0), ran)
+    }
+}
+
+fn nothing_lent() -> Same {
+    refused_by_size(null_mut(), 0)?;
+    let mut words = Lent::copy_of(&[0; 2_048], Side::Back);
+    begin_call("a call of C with null beside words");
+    let (first, n) = (words.as_mut_ptr(), words.len());
+    unsafe {
+        same(|| "clear".into(), ffi::toggleash_clear(first, n), 0)?;
+        let written = Written { refusal: 9, ..Written::default() };
+        same(|| "write out to null".into(), ffi::toggleash_write_out(first, n, null_mut(), 0), written)?;
+        let ran = Ran { stop: 1, ..Ran::default() };
+        same(|| "run null".into(), ffi::toggleash_run(first, n, null(), 0, null_mut(), 0), ran)?;
+        let ran = Ran { stop: 4, ..Ran::default() };
+        same(|| "run to null".into(), ffi::toggleash_run(first, n, [3; 5].as_ptr(), 5, null_mut(), 0), ran)
+    }
+}
+
+/// The words end where the guard begins, so a call that believes the length faults.
+fn far_lengths(n: usize) -> Same {
+    let mut words = Lent::copy_of(&[0; 1], Side::Back);
+    refused_by_size(words.as_mut_ptr(), n)
+}
+
+/// The fields of refusals by other numbers, and of a lookup that finds none.
+fn refused_fields() -> Same {
+    let mut words = Lent::copy_of(&[0; 2_048], Side::Back);
+    begin_call("a refused call of C");
+    let (first, n) = (words.as_mut_ptr(), words.len());
+    let update = |refusal| Update { refusal, ..Update::default() };
+    unsafe {
+        same(|| "check".into(), ffi::toggleash_check(first, n), Counts { refusal: 2, ..Counts::default() })?;
+        same(|| "announce".into(), ffi::toggleash_announce(first, n, 0, 0, 1), update(2))?;
+        let ran = ffi::toggleash_run(first, n, [0].as_ptr(), 1, null_mut(), 0);
+        same(|| "run".into(), ran, Ran { refusal: 2, ..Ran::default() })?;
+        ffi::toggleash_clear(first, n);
+        same(|| "lookup".into(), ffi::toggleash_lookup(first, n, 7), Answer::default())?;
+        same(|| "withdraw".into(), ffi::toggleash_withdraw(first, n, 0, 0), update(7))?;
+        let held = Update { hop: 5, cells: 256, ..update(0) };
+        same(|| "announce".into(), ffi::toggleash_announce(first, n, 0, 0, 5), held)?;
+        let found = Answer { found: 1, hop: 5, ..Answer::default() };
+        same(|| "lookup".into(), ffi::toggleash_lookup(first, n, 7), found)?;
+        for (refusal, address, length, hop) in [(3, 1, 33, 0), (4, 1, 0, 0), (5, 0, 0, 0), (6, 0, 0, 9), (8, 0, 9, 1)] {
+            let got = ffi::toggleash_announce(first, n, address, length, hop);
+            same(|| format!("announce refused {refusal}"), got, update(refusal))?;
+        }
+    }
+    Ok(())
+}

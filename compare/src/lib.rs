@@ -1,0 +1,12 @@
+//! The parts of the comparison: random input, guarded memory, and each call made on the library and on the list.
+
+pub mod damage;
+pub mod face;
+pub mod feeds;
+pub mod guard;
+pub mod lists;
+pub mod pair;
+pub mod programs;
+pub mod random;
+pub mod rooms;
+pub mod tally;

@@ -1,0 +1,196 @@
+//! The library's words beside the second program's memory: each call is made on both and compared, in answer, in lent
+//! bytes, and in what the words stand for.
+
+use std::net::Ipv4Addr;
+
+use second::feed::Answer;
+use second::layout::{self, Arrays};
+use second::{Memory, Prefix, Refusal};
+
+use crate::guard::{begin_call, Lent, Side};
+use crate::tally::{saw_refusal, saw_stop};
+
+/// Nothing differs, or the text of what does.
+pub type Same = Result<(), String>;
+
+/// What buffers hold before a call, so that a byte written shows.
+const UNTOUCHED: u8 = 0xA5;
+
+/// Lent words and what they must stand for.
+pub struct Pair {
+    pub words: Lent<u32>,
+    pub memory: Memory,
+}
+
+/// An answer in the form that both sides share.
+type Told<T> = Result<T, u8>;
+
+fn library<T>(result: Result<T, toggleash::Refusal>) -> Told<T> {
+    result.map_err(toggleash::Refusal::number)
+}
+
+fn list<T>(result: Result<T, Refusal>) -> Told<T> {
+    result.map_err(Refusal::number).inspect_err(|&number| saw_refusal(number))
+}
+
+pub fn same<T: PartialEq + std::fmt::Debug>(what: impl Fn() -> String, library: T, list: T) -> Same {
+    if library == list {
+        return Ok(());
+    }
+    Err(format!("{}: the library gives {library:?}, the second program {list:?}", what()))
+}
+
+/// The lent elements are those that must be there.
+fn left<T: PartialEq + std::fmt::Debug>(what: impl Fn() -> String, expected: &[T], lent: &[T]) -> Same {
+    // Comparing at once is much faster than looking for the first that differs.
+    if expected == lent {
+        return Ok(());
+    }
+    let mut pairs = expected.iter().zip(lent).enumerate();
+    let (at, (wanted, is)) = pairs.find(|(_, (wanted, is))| wanted != is).expect("their lengths are equal");
+    Err(format!("{}: lent element {at} is {is:?}, not {wanted:?}", what()))
+}
+
+impl Pair {
+    /// Words as they are, read by the second program.
+    pub fn seen(words: &[u32], side: Side) -> Pair {
+        Pair { words: Lent::copy_of(words, side), memory: layout::read(words) }
+    }
+
+    pub fn clear(&mut self) -> Same {
+        let before = self.words.to_vec();
+        begin_call("clear");
+        let told = library(toggleash::clear(&mut self.words));
+        same(|| "clear".into(), told, list(self.memory.clear()))?;
+        match told {
+            Ok(()) => self.stands(),
+            Err(_) => left(|| "words refused by clear".into(), &before, &self.words),
+        }
+    }
+
+    /// The words stand for the second program's memory, by its own reading of the layout.
+    pub fn stands(&self) -> Same {
+        match layout::read(&self.words) == self.memory {
+            true => Ok(()),
+            false => Err("the words do not stand for the list".into()),
+        }
+    }
+
+    pub fn check(&self) -> Same {
+        begin_call("check");
+        let told = library(self.words.sealed(toggleash::check)).map(|counts| (counts.routes, counts.arrays));
+        same(|| "check".into(), told, list(self.memory.check()).map(|counts| (counts.routes, counts.arrays)))
+    }
+
+    /// Lookups by the layout's walk on any words, and by longest match where they are a table.
+    pub fn lookup(&self, addresses: &[u32]) -> Same {
+        begin_call("lookup");
+        self.words.sealed(|words| {
+            addresses.iter().try_for_each(|&address| {
+                let what = || format!("lookup {}", Ipv4Addr::from(address));
+                let told = library(toggleash::lookup(words, address.into()));
+                let told = told.map(|found| found.map(|found| (found.hop, found.length)));
+                same(what, told, list(layout::walk(words, address)))?;
+                match self.memory.lookup(address) {
+                    Ok(found) => same(what, told, Ok(found.map(|route| (route.hop, route.prefix.length)))),
+                    Err(_) => Ok(()),
+                }
+            })
+        })
+    }
+
+    pub fn announce(&mut self, address: u32, length: u32, hop: u32) -> Same {
+        let what = || format!("announce {}/{length} via {hop}", Ipv4Addr::from(address));
+        let before = self.words.to_vec();
+        begin_call("announce");
+        let told = library(toggleash::announce(&mut self.words, address.into(), length, hop));
+        let expected = list(self.memory.announce(address, length, hop));
+        same_update(what, told, expected)?;
+        self.changed(what, told.is_ok().then_some(Prefix { address, length }), &before)
+    }
+
+    pub fn withdraw(&mut self, address: u32, length: u32) -> Same {
+        let what = || format!("withdraw {}/{length}", Ipv4Addr::from(address));
+        let before = self.words.to_vec();
+        begin_call("withdraw");
+        let told = library(toggleash::withdraw(&mut self.words, address.into(), length));
+        let expected = list(self.memory.withdraw(address, length));
+        same_update(what, told, expected)?;
+        self.changed(what, told.is_ok().then_some(Prefix { address, length }), &before)
+    }
+
+    /// Only the words changed that the update of this prefix may change, or none if it was refused.
+    fn changed(&self, what: impl Fn() -> String, updated: Option<Prefix>, before: &[u32]) -> Same {
+        match updated {
+            Some(prefix) => confined(what, prefix, before, &self.words),
+            None => left(what, before, &self.words),
+        }
+    }
+
+    /// Writes out to a buffer of so many bytes, which all are compared.
+    pub fn write_out(&self, room: usize, side: Side) -> Same {
+        let what = || format!("write out to {room} bytes");
+        let mut expected = vec![UNTOUCHED; room];
+        let mut buffer = Lent::copy_of(&expected, side);
+        begin_call("write_out");
+        let told =
+            self.words.sealed(|words| library(toggleash::write_out(words, &mut buffer)).map(|front| front.len()));
+        same(what, told, list(self.memory.write_out(&mut expected)))?;
+        left(what, &expected, &buffer)
+    }
+
+    /// Runs a feed with so many reply bytes, which all are compared. Gives the number of records replied to.
+    pub fn run(&mut self, feed: &[u8], reply: usize, side: Side) -> Result<u64, String> {
+        let what = || format!("run of {} bytes with {reply} for replies", feed.len());
+        let before = self.words.to_vec();
+        let mut expected = vec![UNTOUCHED; reply];
+        let mut replies = Lent::copy_of(&expected, side);
+        begin_call("run");
+        let words = &mut self.words;
+        let told = library(Lent::copy_of(feed, side).sealed(|feed| toggleash::run(words, feed, &mut replies)));
+        let told = told.map(|ran| (ran.stop.number(), ran.consumed, ran.written, ran.accepted, ran.refused));
+        let mut records = 0;
+        let ran = list(self.memory.run_and_tell(feed, &mut expected, |_, answer| {
+            records += 1;
+            if let Answer::Refused(refusal) = answer {
+                saw_refusal(refusal.number());
+            }
+        }));
+        let ran = ran.inspect(|ran| saw_stop(ran.stop as u8));
+        let ran = ran.map(|ran| (ran.stop as u8, ran.consumed, ran.written, ran.accepted, ran.refused));
+        same(what, told, ran)?;
+        left(what, &expected, &replies)?;
+        match told {
+            Ok((.., accepted, _)) if accepted > 0 => self.stands()?,
+            _ => left(what, &before, &self.words)?,
+        }
+        Ok(records)
+    }
+}
+
+fn same_update(what: impl Fn() -> String, told: Told<toggleash::Update>, expected: Told<second::Update>) -> Same {
+    same(what, told.map(|update| (update.hop, update.cells)), expected.map(|update| (update.hop, update.cells)))
+}
+
+/// Besides the header and the update's own array only arrays gained or freed, and the one that links to them, changed.
+fn confined(what: impl Fn() -> String, prefix: Prefix, before: &[u32], after: &[u32]) -> Same {
+    // The way to the array is whole where more arrays are used.
+    let (full, lean) = if after[0] >= before[0] { (after, before) } else { (before, after) };
+    let arrays = Arrays::new(full).expect("an accepted update has a right size");
+    let mut path = vec![1];
+    for level in 0..prefix.level() {
+        let cell = (prefix.address >> (24 - 8 * level) & 255) as usize;
+        let link = arrays.link(path[level as usize], cell);
+        path.push(arrays.held(link).ok_or_else(|| format!("{}: no array for it", what()))?);
+    }
+    let comes_or_goes = |a: &usize| lean[1024 * a] == 0;
+    let from = path.iter().position(comes_or_goes).unwrap_or(path.len()).saturating_sub(1);
+    let allowed = &path[from..];
+    let blocks = full.chunks(1024).zip(lean.chunks(1024)).enumerate();
+    for (a, (one, other)) in blocks.skip(1) {
+        if one != other && !allowed.contains(&a) {
+            return Err(format!("{}: array {a} changed, which has no part in it", what()));
+        }
+    }
+    Ok(())
+}

@@ -1,0 +1,136 @@
+//! Tables of every size filled, freed and churned by feeds and by direct updates; after each burst the words, the
+//! check, lookups and the written list are compared.
+
+use second::feed::Record;
+use second::memory::ARRAY_WORDS;
+use second::{Prefix, RouteList};
+
+use crate::feeds::{Mood, Source, Terrain};
+use crate::guard::Side;
+use crate::lists::{filling, scattered};
+use crate::pair::{Pair, Same};
+use crate::random::Random;
+use crate::tally::Tally;
+
+/// Words that the check may read over and over for one round trip; beyond that it would take too long.
+const ROUND_TRIP_WORDS: usize = 40_000_000;
+
+/// A room of so many arrays and about so many records.
+pub fn room(random: &mut Random, arrays: usize, records: u64, tally: &mut Tally) -> Same {
+    let terrain = Terrain::new(random, arrays);
+    let mut pair = start(random, &terrain, arrays)?;
+    let end = tally.records + tally.updates + records;
+    while tally.records + tally.updates < end {
+        let known = match random.chance(75) {
+            true => run_feed(random, &terrain, &mut pair, tally)?,
+            false => update_directly(random, &terrain, &mut pair, tally)?,
+        };
+        after_burst(random, &terrain, &pair, &known, tally)?;
+    }
+    round_trip(&pair)
+}
+
+/// A cleared table, from words of any content, or one that is nearly full already.
+fn start(random: &mut Random, terrain: &Terrain, arrays: usize) -> Result<Pair, String> {
+    if arrays > 100 || random.chance(20) {
+        let need = arrays - random.below(arrays.min(3));
+        let list = filling(random, terrain, need);
+        return Ok(Pair::seen(&scattered(random, &list, arrays), Side::Back));
+    }
+    let litter = random.word();
+    let mut pair = Pair::seen(&vec![litter; ARRAY_WORDS * (arrays + 1)], Side::Back);
+    pair.clear()?;
+    Ok(pair)
+}
+
+fn held(pair: &Pair) -> RouteList {
+    pair.memory.list().expect("a room's words stay a table").clone()
+}
+
+fn run_feed(random: &mut Random, terrain: &Terrain, pair: &mut Pair, tally: &mut Tally) -> Result<Vec<Prefix>, String> {
+    let mood = Mood::any(random);
+    let count = if pair.words.len() > 500_000 { random.within(1..=12) } else { random.within(0..=60) };
+    let side = random.pick(&[Side::Front, Side::Back]);
+    let starved = random.chance(12).then(|| random.below(5 * count + 10));
+    let mut source = Source::new(random, terrain, &held(pair));
+    let feed = source.feed(mood, count);
+    let known = source.known().to_vec();
+    tally.records += pair.run(&feed, starved.unwrap_or(5 * feed.len()), side)?;
+    tally.feeds += 1;
+    Ok(known)
+}
+
+fn update_directly(
+    random: &mut Random,
+    terrain: &Terrain,
+    pair: &mut Pair,
+    tally: &mut Tally,
+) -> Result<Vec<Prefix>, String> {
+    let mood = Mood::any(random);
+    let count = if pair.words.len() > 500_000 { random.within(1..=4) } else { random.within(1..=30) };
+    let wide = random.pick(&[256, 65_536, 1 << 31]);
+    let mut source = Source::new(random, terrain, &held(pair));
+    let records: Vec<Record> = (0..count).map(|_| source.record(mood)).collect();
+    let known = source.known().to_vec();
+    for record in records {
+        tally.updates += 1;
+        // No feed can send these numbers; a caller can.
+        let wider = |number: u32| if random.chance(1) { number + wide } else { number };
+        update(pair, record, wider)?;
+    }
+    pair.stands()?;
+    Ok(known)
+}
+
+/// Makes one record's call directly, its length and hop perhaps widened.
+pub fn update(pair: &mut Pair, record: Record, mut wider: impl FnMut(u32) -> u32) -> Same {
+    match record {
+        Record::Announce { address, length, hop } => pair.announce(address, wider(length), wider(hop)),
+        Record::Withdraw { address, length } => pair.withdraw(address, wider(length)),
+        Record::Lookup { address } => pair.lookup(&[address]),
+        Record::End => Ok(()),
+    }
+}
+
+fn after_burst(random: &mut Random, terrain: &Terrain, pair: &Pair, known: &[Prefix], tally: &mut Tally) -> Same {
+    pair.check()?;
+    let mut addresses: Vec<u32> = (0..12).map(|_| random.word()).collect();
+    addresses.extend((0..12).map(|_| terrain.address(random)));
+    let routes = held(pair);
+    let routes = routes.routes();
+    for _ in 0..12 {
+        addresses.extend(neighbours(random.pick(known)));
+        if !routes.is_empty() {
+            addresses.extend(neighbours(random.pick(routes).prefix));
+        }
+    }
+    pair.lookup(&addresses)?;
+    tally.lookups += addresses.len() as u64;
+    tally.tables += 1;
+    let full = 8 * routes.len() + 1;
+    let (more, fewer) = (full + random.below(40), random.below(full));
+    let room = random.pick(&[full, full, full - 1, more, fewer]);
+    pair.write_out(room, random.pick(&[Side::Front, Side::Back]))
+}
+
+/// The first and last address inside and those beside.
+fn neighbours(prefix: Prefix) -> [u32; 4] {
+    let (first, last) = (prefix.address, prefix.last());
+    [first.wrapping_sub(1), first, last, last.wrapping_add(1)]
+}
+
+/// The written list, run into a cleared table of the same room, gives the list again.
+fn round_trip(pair: &Pair) -> Same {
+    let list = held(pair);
+    if list.routes().len() * pair.words.len() > ROUND_TRIP_WORDS {
+        return Ok(());
+    }
+    pair.write_out(8 * list.routes().len() + 1, Side::Back)?;
+    let mut copy = Pair::seen(&pair.words, Side::Back);
+    copy.clear()?;
+    copy.run(&list.encoding(), 5 * list.routes().len(), Side::Back)?;
+    match held(&copy) == list {
+        true => Ok(()),
+        false => Err("the written list gives another list".into()),
+    }
+}

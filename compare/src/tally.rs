@@ -1,0 +1,64 @@
+//! What was compared, and what differed.
+
+use std::fmt;
+use std::sync::atomic::{AtomicU64, Ordering::Relaxed};
+
+/// Differences after which no more are looked for.
+const ENOUGH: u64 = 10;
+
+/// Counts of what was compared.
+#[derive(Default)]
+pub struct Tally {
+    pub records: u64,
+    pub feeds: u64,
+    pub updates: u64,
+    pub lookups: u64,
+    pub tables: u64,
+    pub damaged: u64,
+    pub differences: u64,
+}
+
+/// How often each refusal, by its number, and each stop was the right answer.
+static REFUSALS: [AtomicU64; 10] = [const { AtomicU64::new(0) }; 10];
+static STOPS: [AtomicU64; 5] = [const { AtomicU64::new(0) }; 5];
+
+pub fn saw_refusal(number: u8) {
+    REFUSALS[usize::from(number)].fetch_add(1, Relaxed);
+}
+
+pub fn saw_stop(number: u8) {
+    STOPS[usize::from(number)].fetch_add(1, Relaxed);
+}
+
+impl Tally {
+    /// Prints how often each refusal and stop was met. A comparison that met one of them never has shown nothing of it.
+    pub fn answers(&mut self) {
+        let counts = |of: &[AtomicU64]| of.iter().map(|count| count.load(Relaxed)).collect::<Vec<u64>>();
+        let (refusals, stops) = (counts(&REFUSALS[1..]), counts(&STOPS));
+        println!("refusals 1 to 9 met {refusals:?} times, stops 0 to 4 {stops:?} times");
+        if !self.enough() && (refusals.contains(&0) || stops.contains(&0)) {
+            println!("difference: one of them was never met");
+            self.differences += 1;
+        }
+    }
+
+    /// Prints a difference, with what finds it again.
+    pub fn case(&mut self, part: &str, case: u64, result: Result<(), String>) {
+        if let Err(difference) = result {
+            println!("difference in {part} case {case}: {difference}");
+            self.differences += 1;
+        }
+    }
+
+    pub fn enough(&self) -> bool {
+        self.differences >= ENOUGH
+    }
+}
+
+impl fmt::Display for Tally {
+    fn fmt(&self, f: &mut fmt::Formatter<'_>) -> fmt::Result {
+        let Tally { records, feeds, updates, lookups, tables, damaged, differences } = self;
+        write!(f, "{records} records in {feeds} feeds, {updates} direct updates, {lookups} lookups, ")?;
+        write!(f, "{tables} tables, {damaged} damaged memories: {differences} differences")
+    }
+}

@@ -1,0 +1,64 @@
+-- The C face's promises from those of the calls below it. Assumes nothing.
+use mathlib.Core.Path.{_≡_, refl, sym, ap, _∙_}
+use mathlib.Core.Logic.{_≢_}
+use mathlib.Core.Bool.{true, false}
+use mathlib.Core.List.{List, _++_}
+use Prim.Native.Nat.{ℕ, _+_, _*_}
+use native.Mathlib.Omega.{arith}
+use lib.ListN.{length, drop}
+use Rattle.routes.specs.Answers.{Update, refused, isRefused}
+use Rattle.routes.specs.Seen.{Answer, gives, refuses, Seen, countOn, frontOn}
+use Rattle.arrays.specs.Table.{seen}
+use Rattle.audit.specs.declared.Cleared.{Cleared}
+use Rattle.audit.specs.Told.{toldClear, Clears as Below}
+use Rattle.update.specs.declared.Updated.{Updated as Answered}
+use Rattle.update.specs.Update.{told, Updates as Made}
+use Rattle.writing.specs.declared.Counted.{Counted}
+use Rattle.writing.specs.declared.Counted.the-variants.{Bytes, Refused}
+use Rattle.writing.specs.Told.{toldCount, Fills, front-length, front-none, refused-kept, empty-exactly}
+use Rattle.feed.specs.declared.Ran.{Ran as Outcome}
+use Rattle.feed.specs.declared.Ran.the-variants.{Stopped, Refused as Unfit}
+use Rattle.feed.specs.Runs.{told as toldRun, reported, Runs as Run}
+use Rattle.toggleash.specs.Face.{refusal, updated, wrote, ran, Clears, Updates, Writes, Runs}
+use Rattle.toggleash.specs.declared.Updated.{Updated}
+use Rattle.toggleash.specs.declared.Written.{Written}
+use Rattle.toggleash.specs.declared.Ran.{Ran as Fields}
+
+pub cleared : (ws vs : List ℕ) (r : Cleared) (n : ℕ) → Below 4 ws vs r → n ≡ refusal (toldClear r) → Clears ws vs n
+cleared ws vs r n b e =
+    record { answer = e ∙ ap refusal (b .answer); left = b .left; kept = λ m q. b .kept m (b .answer ∙ q) }
+
+pub made : (ws vs : List ℕ) (u : Update) (r : Answered) (x : Updated) → Made ws vs u r → x ≡ updated (told r) → Updates ws vs u x
+made ws vs u r x m e =
+    record { answer = e ∙ ap updated (m .answer); list = m .list; kept = λ n q. m .kept (ap isRefused (m .answer ∙ q)) }
+
+-- ---- writing out
+
+module _ (ws b c : List ℕ) (n : ℕ) (f : Fills (seen 4 ws) b n c) where
+  front : c ≡ frontOn (seen 4 ws) (length b) ++ drop (length (frontOn (seen 4 ws) (length b))) b
+  front = f .list ∙ ap (λ (k : ℕ). frontOn (seen 4 ws) (length b) ++ drop k b) (f .count)
+
+  pub written-some : n ≢ 0 → Writes ws b c (record { refusal = 0; bytes = n })
+  written-some h = record { answer = go (countOn (seen 4 ws) (length b)) refl; front = front }
+    where
+      go : (a : Answer ℕ) → countOn (seen 4 ws) (length b) ≡ a → record { refusal = 0; bytes = n } ≡ wrote (countOn (seen 4 ws) (length b))
+      go (gives m) e = let q : n ≡ m = f .count ∙ front-length (seen 4 ws) (length b) m e in rw (e, q)
+      go (refuses m) e = absurd (h (f .count ∙ ap length (front-none (seen 4 ws) (length b) m e)))
+
+  pub written-told : (r : Counted) (k : ℕ) (x : Written) → k ≡ length b → toldCount r ≡ countOn (seen 4 ws) k → x ≡ wrote (toldCount r) → Writes ws b c x
+  written-told r k x e t w = record { answer = w ∙ ap wrote (t ∙ ap (countOn (seen 4 ws)) e); front = front }
+
+-- ---- the run
+
+told-refused : (r : Outcome) (n : ℕ) → toldRun r ≡ refuses n → r ≡ Unfit n
+told-refused (Stopped x) n e = absurd (let z : _≡_ {A = ℕ} 0 1 = cc in omega arith)
+told-refused (Unfit m) n e = ap Unfit (cc)
+
+pub ran-so : (ws feed b vs c : List ℕ) (r : Outcome) (x : Fields) → Run ws feed b vs c r → x ≡ ran (toldRun r) → Runs ws feed b vs c x
+ran-so ws feed b vs c r x p e =
+    record {
+      answer = e ∙ ap ran (p .answer);
+      list = p .list;
+      replies = p .replies;
+      kept = λ n q. p .kept n (told-refused r n (p .answer ∙ ap reported q));
+    }

@@ -1,0 +1,21 @@
+-- `toggleash::toggleash_announce` meets its contract, from what the announcement promises. Assumes nothing.
+use Rattle.toggleash.proofs.Laws.{made}
+use borrow.Author.Needs.{needs}
+use Rattle.toggleash.proofs.toggleash_announce.Statement.{statement}
+use Rattle.toggleash.proofs.toggleash_announce.Tie as tie
+
+announce-requires : tie.Need-announce-requires
+announce-requires c κs = search needs
+
+change-requires : tie.Need-change-requires
+change-requires c κs = search needs
+
+same-length : tie.Need-same-length
+same-length c = search needs
+
+returns : tie.Need-returns
+returns c = made _ _ _ (c .before .before .before .announce .result) _ (c .before .before .before .announce .ensures) (c .change .ensures)
+
+pub toggleash-announce-spec : {M : Type 1} → statement M
+toggleash-announce-spec =
+    tie.close (tie.spec announce-requires change-requires same-length returns)

@@ -1,0 +1,18 @@
+-- `toggleash::toggleash_check` meets its contract: its fields are those of what the check tells. Assumes nothing.
+use mathlib.Core.Path.{_≡_, sym, ap, _∙_}
+use Rattle.toggleash.specs.Face.{counted}
+use borrow.Author.Needs.{needs}
+use Rattle.toggleash.proofs.toggleash_check.Statement.{statement}
+use Rattle.toggleash.proofs.toggleash_check.Tie as tie
+
+check-requires : tie.Need-check-requires
+check-requires c κs = search needs
+
+counts-requires : tie.Need-counts-requires
+counts-requires c κs = search needs
+
+returns : tie.Need-returns
+returns c = c .counts .ensures ∙ ap counted (c .before .check .ensures)
+
+pub toggleash-check-spec : {M : Type 1} → statement M
+toggleash-check-spec = tie.close (tie.spec check-requires counts-requires returns)

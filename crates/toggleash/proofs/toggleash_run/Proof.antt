@@ -1,0 +1,24 @@
+-- `toggleash::toggleash_run` meets its contract, from what the run promises. Assumes nothing.
+use Rattle.toggleash.proofs.Laws.{ran-so}
+use borrow.Author.Needs.{needs}
+use Rattle.toggleash.proofs.toggleash_run.Statement.{statement}
+use Rattle.toggleash.proofs.toggleash_run.Tie as tie
+
+run-requires : tie.Need-run-requires
+run-requires c κs = search needs
+
+report-requires : tie.Need-report-requires
+report-requires c κs = search needs
+
+same-length : tie.Need-same-length
+same-length c = search needs
+
+same-length-2 : tie.Need-same-length-2
+same-length-2 c = search needs
+
+returns : tie.Need-returns
+returns c = ran-so _ _ _ _ _ (c .before .before .before .before .before .run .result) _ (c .before .before .before .before .before .run .ensures) (c .report .ensures)
+
+pub toggleash-run-spec : {M : Type 1} → statement M
+toggleash-run-spec =
+    tie.close (tie.spec run-requires report-requires same-length same-length-2 returns)

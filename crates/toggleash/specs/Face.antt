@@ -1,0 +1,68 @@
+-- What the C face's numbers say: the refusal's number, or 0 and the values; every field not meant is 0. Assumes nothing.
+use mathlib.Core.Path.{_≡_}
+use mathlib.Core.List.{List, _++_}
+use Prim.Native.Nat.{ℕ}
+use lib.ListN.{length, drop}
+use Rattle.routes.specs.Answers.{Update, Reply, done, found, none, refused, isRefused}
+use Rattle.routes.specs.Seen.{Answer, gives, refuses, Counts, answerOn, afterOn, clearOn, clearedOn, countOn, frontOn, runOn, ranOn, repliedOn}
+use Rattle.arrays.specs.Table.{seen}
+use Rattle.feed.specs.declared.Report.{Report}
+use Rattle.feed.specs.Runs.{reported}
+use Rattle.toggleash.specs.declared.Counted.{Counted}
+use Rattle.toggleash.specs.declared.Found.{Found}
+use Rattle.toggleash.specs.declared.Updated.{Updated}
+use Rattle.toggleash.specs.declared.Written.{Written}
+use Rattle.toggleash.specs.declared.Ran.{Ran as Fields}
+
+abbrev pub refusal : Answer (Unit {0}) → ℕ
+refusal (gives u) = 0
+refusal (refuses n) = n
+
+abbrev pub counted : Answer Counts → Counted
+counted (gives c) = record { refusal = 0; routes = c .routes; arrays = c .arrays }
+counted (refuses n) = record { refusal = n; routes = 0; arrays = 0 }
+
+-- no lookup is answered by `done`
+abbrev pub looked : Reply → Found
+looked (done h c) = record { refusal = 0; found = 0; hop = 0; length = 0 }
+looked (found h l) = record { refusal = 0; found = 1; hop = h; length = l }
+looked none = record { refusal = 0; found = 0; hop = 0; length = 0 }
+looked (refused n) = record { refusal = n; found = 0; hop = 0; length = 0 }
+
+-- no update is answered by `found` or `none`
+abbrev pub updated : Reply → Updated
+updated (done h c) = record { refusal = 0; hop = h; cells = c }
+updated (found h l) = record { refusal = 0; hop = 0; cells = 0 }
+updated none = record { refusal = 0; hop = 0; cells = 0 }
+updated (refused n) = record { refusal = n; hop = 0; cells = 0 }
+
+abbrev pub wrote : Answer ℕ → Written
+wrote (gives n) = record { refusal = 0; bytes = n }
+wrote (refuses n) = record { refusal = n; bytes = 0 }
+
+abbrev pub ran : Answer Report → Fields
+ran (gives r) =
+    record { refusal = 0; stop = r .stop; consumed = r .consumed; written = r .written; accepted = r .accepted; refused = r .refused }
+ran (refuses n) = record { refusal = n; stop = 0; consumed = 0; written = 0; accepted = 0; refused = 0 }
+
+-- ---- what the calls that write promise of the lent memory
+
+pub record Clears (ws vs : List ℕ) (r : ℕ) : Type 0 where
+  pub answer : r ≡ refusal (clearOn (length ws))
+  pub left : seen 4 vs ≡ clearedOn (length ws)
+  pub kept : (n : ℕ) → clearOn (length ws) ≡ refuses n → vs ≡ ws
+
+pub record Updates (ws vs : List ℕ) (u : Update) (r : Updated) : Type 0 where
+  pub answer : r ≡ updated (answerOn 32 (seen 4 ws) u)
+  pub list : seen 4 vs ≡ afterOn 32 (seen 4 ws) u
+  pub kept : (n : ℕ) → answerOn 32 (seen 4 ws) u ≡ refused n → vs ≡ ws
+
+pub record Writes (ws b c : List ℕ) (r : Written) : Type 0 where
+  pub answer : r ≡ wrote (countOn (seen 4 ws) (length b))
+  pub front : c ≡ frontOn (seen 4 ws) (length b) ++ drop (length (frontOn (seen 4 ws) (length b))) b
+
+pub record Runs (ws feed b vs c : List ℕ) (r : Fields) : Type 0 where
+  pub answer : r ≡ ran (reported (runOn (seen 4 ws) feed b))
+  pub list : seen 4 vs ≡ ranOn (seen 4 ws) feed b
+  pub replies : c ≡ repliedOn (seen 4 ws) feed b
+  pub kept : (n : ℕ) → runOn (seen 4 ws) feed b ≡ refuses n → vs ≡ ws

@@ -1,0 +1,224 @@
+// The C face: each call of the library with plain numbers, exported under the names of bindings/c/toggleash.h. A slice passes as
+// a pointer and a length. No call asks anything of its caller, since nothing would check it.
+ghost use mathlib.Core.Path.{_≡_};
+ghost use lib.ListN.{length};
+ghost use Rattle.routes.specs.Answers.{announce as announced, withdraw as withdrawn};
+ghost use Rattle.routes.specs.Seen.{lookupOn, checkOn};
+ghost use Rattle.arrays.specs.Table.{seen};
+ghost use Rattle.lookup.specs.Walk.{walk};
+ghost use Rattle.update.specs.Update.{told};
+ghost use Rattle.writing.specs.Told.{toldCount};
+ghost use Rattle.feed.specs.Runs.{told as toldRun};
+ghost use Rattle.audit.specs.Told.{toldClear, toldCheck};
+ghost use Rattle.lookup.specs.Told.{told as toldMatch};
+ghost use Rattle.toggleash.specs.Face.{refusal as refusalOf, counted, looked, updated, wrote, ran, Clears, Updates, Writes, Runs};
+
+#[repr(C)]
+pub struct Counted {
+    pub refusal: u32,
+    pub routes: u32,
+    pub arrays: u32,
+}
+
+#[repr(C)]
+pub struct Found {
+    pub refusal: u32,
+    pub found: u32,
+    pub hop: u32,
+    pub length: u32,
+}
+
+#[repr(C)]
+pub struct Updated {
+    pub refusal: u32,
+    pub hop: u32,
+    pub cells: u32,
+}
+
+#[repr(C)]
+pub struct Written {
+    pub refusal: u32,
+    pub bytes: u64,
+}
+
+#[repr(C)]
+pub struct Ran {
+    pub refusal: u32,
+    pub stop: u32,
+    pub consumed: u64,
+    pub written: u64,
+    pub accepted: u64,
+    pub refused: u64,
+}
+
+// ---- answers in plain numbers
+
+fn number(answer: audit::Cleared) -> u32
+    ensures { λ r. ⌜ r ≡ refusalOf (toldClear answer) ⌝ }
+{
+    match answer {
+        audit::Cleared::Done => 0,
+        audit::Cleared::Refused(n) => n,
+    }
+}
+
+fn counts(answer: audit::Checked) -> Counted
+    ensures { λ r. ⌜ r ≡ counted (toldCheck answer) ⌝ }
+{
+    match answer {
+        audit::Checked::Counts(routes, arrays) => Counted {
+            refusal: 0,
+            routes: routes,
+            arrays: arrays,
+        },
+        audit::Checked::Refused(n) => Counted {
+            refusal: n,
+            routes: 0,
+            arrays: 0,
+        },
+    }
+}
+
+fn finding(answer: lookup::Match) -> Found
+    ensures { λ r. ⌜ r ≡ looked (toldMatch answer) ⌝ }
+{
+    match answer {
+        lookup::Match::Found(hop, length) => Found {
+            refusal: 0,
+            found: 1,
+            hop: hop,
+            length: length,
+        },
+        lookup::Match::Nothing => Found {
+            refusal: 0,
+            found: 0,
+            hop: 0,
+            length: 0,
+        },
+        lookup::Match::Refused(n) => Found {
+            refusal: n,
+            found: 0,
+            hop: 0,
+            length: 0,
+        },
+    }
+}
+
+fn change(answer: update::Updated) -> Updated
+    ensures { λ r. ⌜ r ≡ updated (told answer) ⌝ }
+{
+    match answer {
+        update::Updated::Done(hop, cells) => Updated {
+            refusal: 0,
+            hop: hop,
+            cells: cells,
+        },
+        update::Updated::Refused(n) => Updated {
+            refusal: n,
+            hop: 0,
+            cells: 0,
+        },
+    }
+}
+
+fn size(answer: writing::Counted) -> Written
+    ensures { λ r. ⌜ r ≡ wrote (toldCount answer) ⌝ }
+{
+    match answer {
+        writing::Counted::Bytes(n) => Written {
+            refusal: 0,
+            bytes: n as u64,
+        },
+        writing::Counted::Refused(n) => Written {
+            refusal: n,
+            bytes: 0,
+        },
+    }
+}
+
+fn report(answer: feed::Ran) -> Ran
+    ensures { λ r. ⌜ r ≡ ran (toldRun answer) ⌝ }
+{
+    match answer {
+        feed::Ran::Stopped(r) => Ran {
+            refusal: 0,
+            stop: r.stop,
+            consumed: r.consumed as u64,
+            written: r.written as u64,
+            accepted: r.accepted as u64,
+            refused: r.refused as u64,
+        },
+        feed::Ran::Refused(n) => Ran {
+            refusal: n,
+            stop: 0,
+            consumed: 0,
+            written: 0,
+            accepted: 0,
+            refused: 0,
+        },
+    }
+}
+
+// ---- the calls
+
+#[no_mangle]
+pub extern "C" fn toggleash_clear(words: &mut [u32]) -> u32
+    ensures { λ r. ⌜ Clears (now (words .entry)) (now (words .exit)) r ⌝ }
+{
+    number(audit::clear(words))
+}
+
+#[no_mangle]
+pub extern "C" fn toggleash_check(words: &[u32]) -> Counted
+    ensures { λ r. ⌜ r ≡ counted (checkOn 32 (seen 4 (now (words .entry)))) ⌝ }
+{
+    counts(audit::check(words))
+}
+
+#[no_mangle]
+pub extern "C" fn toggleash_lookup(words: &[u32], address: u32) -> Found
+    ensures { λ r. ⌜ r ≡ looked (lookupOn 32 (seen 4 (now (words .entry))) (walk 4 (now (words .entry)) address) address) ⌝ }
+{
+    finding(lookup::lookup(words, address))
+}
+
+#[no_mangle]
+pub extern "C" fn toggleash_announce(
+    words: &mut [u32],
+    address: u32,
+    length: u32,
+    hop: u32,
+) -> Updated
+    ensures { λ r. ⌜ Updates (now (words .entry)) (now (words .exit)) (announced address length hop) r ⌝ }
+{
+    change(update::announce(words, address, length, hop))
+}
+
+#[no_mangle]
+pub extern "C" fn toggleash_withdraw(words: &mut [u32], address: u32, length: u32) -> Updated
+    ensures { λ r. ⌜ Updates (now (words .entry)) (now (words .exit)) (withdrawn address length) r ⌝ }
+{
+    change(update::withdraw(words, address, length))
+}
+
+#[no_mangle]
+pub extern "C" fn toggleash_write_out(words: &[u32], buffer: &mut [u8]) -> Written
+    ensures { λ r. ⌜ Writes (now (words .entry)) (now (buffer .entry)) (now (buffer .exit)) r ⌝ }
+{
+    // One check suffices where there is something to write: nothing is written exactly where the count refuses.
+    let n = writing::fill(words, buffer);
+    if n != 0 {
+        return Written {
+            refusal: 0,
+            bytes: n as u64,
+        };
+    }
+    size(writing::count(words, buffer.len()))
+}
+
+#[no_mangle]
+pub extern "C" fn toggleash_run(words: &mut [u32], feed: &[u8], reply: &mut [u8]) -> Ran
+    ensures { λ r. ⌜ Runs (now (words .entry)) (now (feed .entry)) (now (reply .entry)) (now (words .exit)) (now (reply .exit)) r ⌝ }
+{
+    report(feed::run(words, feed, reply))
+}

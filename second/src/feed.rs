@@ -1,0 +1,136 @@
+//! Feeds, replies and the run.
+
+use crate::list::Route;
+use crate::memory::{Memory, Update};
+use crate::refusal::Refusal;
+
+/// The free reply bytes that every record but end asks for, whatever its reply takes.
+const REPLY_ROOM: usize = 5;
+
+/// One record of a feed.
+#[derive(Clone, Copy, Debug, PartialEq, Eq)]
+pub enum Record {
+    End,
+    Announce { address: u32, length: u32, hop: u32 },
+    Withdraw { address: u32, length: u32 },
+    Lookup { address: u32 },
+}
+
+/// What a record but end is answered.
+#[derive(Clone, Copy, Debug, PartialEq, Eq)]
+pub enum Answer {
+    Done(Update),
+    Found(Route),
+    None,
+    Refused(Refusal),
+}
+
+/// Why a run ended.
+#[derive(Clone, Copy, Debug, PartialEq, Eq)]
+#[repr(u8)]
+pub enum Stop {
+    End = 0,
+    NoByteLeft = 1,
+    UnknownKind = 2,
+    BodyShort = 3,
+    ReplyFull = 4,
+}
+
+/// The answer of a run.
+#[derive(Clone, Copy, Debug, PartialEq, Eq)]
+pub struct Ran {
+    pub stop: Stop,
+    pub consumed: usize,
+    pub written: usize,
+    pub accepted: usize,
+    pub refused: usize,
+}
+
+/// The bytes of a record with its kind, for the kinds of a feed.
+pub fn record_size(kind: u8) -> Option<usize> {
+    match kind {
+        0 => Some(1),
+        1 => Some(8),
+        2 => Some(6),
+        3 => Some(5),
+        _ => None,
+    }
+}
+
+/// The first record and its size, or the stop that the feed itself gives.
+fn first_record(feed: &[u8]) -> Result<(Record, usize), Stop> {
+    let &kind = feed.first().ok_or(Stop::NoByteLeft)?;
+    let size = record_size(kind).ok_or(Stop::UnknownKind)?;
+    let body = feed.get(1..size).ok_or(Stop::BodyShort)?;
+    let number = |from: usize, to: usize| body[from..to].iter().fold(0, |n, &byte| n << 8 | u32::from(byte));
+    let record = match kind {
+        0 => Record::End,
+        1 => Record::Announce { address: number(0, 4), length: number(4, 5), hop: number(5, 7) },
+        2 => Record::Withdraw { address: number(0, 4), length: number(4, 5) },
+        _ => Record::Lookup { address: number(0, 4) },
+    };
+    Ok((record, size))
+}
+
+impl Answer {
+    /// The reply as bytes.
+    pub fn encoding(self) -> Vec<u8> {
+        let two = |number: u32| (number as u16).to_be_bytes();
+        match self {
+            Answer::Done(update) => [&[16][..], &two(update.hop), &two(update.cells)].concat(),
+            Answer::Found(route) => [&[17][..], &two(route.hop), &[route.prefix.length as u8]].concat(),
+            Answer::None => vec![18],
+            Answer::Refused(refusal) => vec![19, refusal.number()],
+        }
+    }
+}
+
+impl Memory {
+    /// What one record does; end does nothing.
+    fn take(&mut self, record: Record) -> Option<Answer> {
+        let done = |result: Result<Update, Refusal>| result.map_or_else(Answer::Refused, Answer::Done);
+        match record {
+            Record::End => None,
+            Record::Announce { address, length, hop } => Some(done(self.announce(address, length, hop))),
+            Record::Withdraw { address, length } => Some(done(self.withdraw(address, length))),
+            Record::Lookup { address } => Some(match self.lookup(address) {
+                Ok(Some(route)) => Answer::Found(route),
+                Ok(None) => Answer::None,
+                Err(refusal) => Answer::Refused(refusal),
+            }),
+        }
+    }
+
+    /// Takes the records of a feed in order and replies to each.
+    pub fn run(&mut self, feed: &[u8], reply: &mut [u8]) -> Result<Ran, Refusal> {
+        self.run_and_tell(feed, reply, |_, _| ())
+    }
+
+    /// A run that also tells each record with its answer.
+    pub fn run_and_tell(
+        &mut self,
+        feed: &[u8],
+        reply: &mut [u8],
+        mut tell: impl FnMut(Record, Answer),
+    ) -> Result<Ran, Refusal> {
+        self.list()?;
+        let mut ran = Ran { stop: Stop::End, consumed: 0, written: 0, accepted: 0, refused: 0 };
+        loop {
+            let (record, size) = match first_record(&feed[ran.consumed..]) {
+                Ok(first) => first,
+                Err(stop) => return Ok(Ran { stop, ..ran }),
+            };
+            if record != Record::End && reply.len() - ran.written < REPLY_ROOM {
+                return Ok(Ran { stop: Stop::ReplyFull, ..ran });
+            }
+            ran.consumed += size;
+            let Some(answer) = self.take(record) else { return Ok(ran) };
+            let bytes = answer.encoding();
+            reply[ran.written..ran.written + bytes.len()].copy_from_slice(&bytes);
+            ran.written += bytes.len();
+            ran.accepted += usize::from(matches!(answer, Answer::Done(_)));
+            ran.refused += usize::from(matches!(answer, Answer::Refused(_)));
+            tell(record, answer);
+        }
+    }
+}

@@ -1,0 +1,69 @@
+//! Words laid out for a list, with array numbers that the caller chooses: tables that updates alone might never reach.
+
+use std::collections::BTreeMap;
+
+use super::{best_of_slots, tag_below, CELLS, ROOT_TAG};
+use crate::list::{mask, Prefix, RouteList};
+use crate::memory::ARRAY_WORDS;
+
+/// Lays the list out in a table of `arrays` arrays. The arrays but the root, in the order of level and head, get the
+/// numbers in turn, which must be distinct, from 2 to `arrays`, and enough.
+pub fn lay(list: &RouteList, arrays: usize, numbers: &[usize]) -> Vec<u32> {
+    let mut words = vec![0; ARRAY_WORDS * (arrays + 1)];
+    words[ARRAY_WORDS] = ROOT_TAG;
+    let numbered = number(list, numbers);
+    for (&(level, head), &a) in &numbered {
+        hang(&mut words, numbered.get(&parent(level, head)).copied().unwrap_or(1), a, level, head);
+    }
+    for route in list.routes() {
+        let own = (route.prefix.level(), route.prefix.head());
+        words[ARRAY_WORDS * numbered.get(&own).copied().unwrap_or(1) + slot(route.prefix)] = route.hop;
+    }
+    let used = [1].into_iter().chain(numbered.values().copied());
+    for a in used {
+        words[0] += 1;
+        words[1 + (a - 1) / 8] += 1;
+        fill_bests(&mut words[ARRAY_WORDS * a..ARRAY_WORDS * (a + 1)]);
+    }
+    words
+}
+
+/// The number of each array below the root, by its level and head.
+fn number(list: &RouteList, numbers: &[usize]) -> BTreeMap<(u32, u32), usize> {
+    let mut heads = BTreeMap::new();
+    for route in list.routes() {
+        for level in 1..=route.prefix.level() {
+            heads.insert((level, route.prefix.address & mask(8 * level)), 0);
+        }
+    }
+    assert!(heads.len() <= numbers.len(), "fewer numbers than arrays");
+    for (number, &given) in heads.values_mut().zip(numbers) {
+        *number = given;
+    }
+    heads
+}
+
+fn parent(level: u32, head: u32) -> (u32, u32) {
+    (level - 1, head & mask(8 * (level - 1)))
+}
+
+/// Links array `a` from its parent and tags it. Parents come first in the order of levels, so theirs is set already.
+fn hang(words: &mut [u32], parent: usize, a: usize, level: u32, head: u32) {
+    let cell = (head >> (32 - 8 * level) & 255) as usize;
+    words[ARRAY_WORDS * parent + CELLS + 2 * cell + 1] = a as u32;
+    words[ARRAY_WORDS * a] = tag_below(parent, cell, words[ARRAY_WORDS * parent]);
+}
+
+/// Where in its array a prefix stands.
+fn slot(prefix: Prefix) -> usize {
+    let bits = prefix.length - 8 * prefix.level();
+    let value = u64::from(prefix.address - prefix.head()) >> (32 - prefix.length);
+    (1 << bits) + value as usize
+}
+
+fn fill_bests(block: &mut [u32]) {
+    let level = block[0] % 32 - 1;
+    for cell in 0..256 {
+        block[CELLS + 2 * cell] = best_of_slots(|slot| block[slot], level, cell);
+    }
+}

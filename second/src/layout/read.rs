@@ -1,0 +1,98 @@
+//! Which words are a table, and the list that they stand for.
+
+use super::{best_of_slots, tag_below, Arrays, LEVELS, ROOT_TAG};
+use crate::list::{Prefix, RouteList};
+use crate::memory::{Counts, Memory};
+use crate::refusal::Refusal;
+
+/// The words as a size and, where they are a table, its list.
+pub fn read(words: &[u32]) -> Memory {
+    let list = Arrays::new(words).filter(is_table).map(|arrays| {
+        let mut list = RouteList::default();
+        collect(&arrays, 1, 0, 0, &mut list);
+        list
+    });
+    Memory::new(words.len(), list)
+}
+
+/// The answer of the check.
+pub fn check(words: &[u32]) -> Result<Counts, Refusal> {
+    read(words).check()
+}
+
+fn is_table(arrays: &Arrays) -> bool {
+    let all = 1..=arrays.count();
+    header_right(arrays)
+        && arrays.tag(1) == ROOT_TAG
+        && all.clone().all(|a| free_is_zero(arrays, a) && tag_right(arrays, a) && links_right(arrays, a))
+        && all.clone().all(|a| arrays.tag(a) == 0 || (slots_right(arrays, a) && bests_right(arrays, a)))
+}
+
+/// The counts of used arrays, in all and by groups of eight, and zeros after them.
+fn header_right(arrays: &Arrays) -> bool {
+    let mut expected = [0; 1024];
+    for a in (1..=arrays.count()).filter(|&a| arrays.tag(a) != 0) {
+        expected[0] += 1;
+        expected[1 + (a - 1) / 8] += 1;
+    }
+    arrays.header() == expected
+}
+
+fn free_is_zero(arrays: &Arrays, a: usize) -> bool {
+    arrays.tag(a) != 0 || arrays.block(a).iter().all(|&word| word == 0)
+}
+
+/// A used array but the root hangs where its tag says, and holds something.
+fn tag_right(arrays: &Arrays, a: usize) -> bool {
+    let tag = arrays.tag(a);
+    if a == 1 || tag == 0 {
+        return true;
+    }
+    let hangs = match arrays.held(tag / 8192) {
+        Some(parent) => arrays.link(parent, (tag / 32 % 256) as usize) == a as u32,
+        None => false,
+    };
+    hangs && ((2..512).any(|slot| arrays.slot(a, slot) != 0) || (0..256).any(|cell| arrays.link(a, cell) != 0))
+}
+
+/// Each link leads to an array whose tag names that cell, one level down, and none leaves the last level.
+fn links_right(arrays: &Arrays, a: usize) -> bool {
+    let tag = arrays.tag(a);
+    (0..256).all(|cell| match arrays.link(a, cell) {
+        0 => true,
+        link => match arrays.held(link) {
+            Some(below) => tag % 32 < LEVELS && arrays.tag(below) == tag_below(a, cell, tag),
+            None => false,
+        },
+    })
+}
+
+fn slots_right(arrays: &Arrays, a: usize) -> bool {
+    let in_range = (1..512).all(|slot| arrays.slot(a, slot) < 65_536);
+    in_range && (a == 1 || arrays.slot(a, 1) == 0)
+}
+
+/// The level comes from a tag that hangs below the root, so it is one of the four.
+fn bests_right(arrays: &Arrays, a: usize) -> bool {
+    let level = arrays.tag(a) % 32 - 1;
+    (0..256).all(|cell| arrays.best(a, cell) == best_of_slots(|slot| arrays.slot(a, slot), level, cell))
+}
+
+/// Adds the routes of array `a`, whose head is `head`, and of all that hangs below it.
+fn collect(arrays: &Arrays, a: usize, level: u32, head: u32, list: &mut RouteList) {
+    for slot in 1..512_usize {
+        let hop = arrays.slot(a, slot);
+        if hop != 0 {
+            let bits = slot.ilog2();
+            let value = slot as u32 - (1 << bits);
+            let length = 8 * level + bits;
+            let address = (u64::from(value) << (32 - length)) as u32;
+            list.add(Prefix { address: head | address, length }, hop);
+        }
+    }
+    for cell in 0..256 {
+        if let Some(below) = arrays.held(arrays.link(a, cell)) {
+            collect(arrays, below, level + 1, head | (cell as u32) << (24 - 8 * level), list);
+        }
+    }
+}

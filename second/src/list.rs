@@ -1,0 +1,169 @@
+//! Prefixes, routes and the route list, in the order of writing out.
+
+use std::ops::Range;
+
+/// The bits that a prefix of this length fixes. A shift by 32 is not a number, so length 0 is a case of its own.
+pub fn mask(length: u32) -> u32 {
+    match length {
+        0 => 0,
+        _ => u32::MAX << (32 - length),
+    }
+}
+
+/// An address with a length from 0 to 32, all bits after the length being 0.
+///
+/// The derived order is that of writing out: lower address first, at equal address shorter length first.
+#[derive(Clone, Copy, Debug, PartialEq, Eq, PartialOrd, Ord, Hash)]
+pub struct Prefix {
+    pub address: u32,
+    pub length: u32,
+}
+
+impl Prefix {
+    /// The prefix of that length which holds the address.
+    pub fn around(address: u32, length: u32) -> Prefix {
+        Prefix { address: address & mask(length), length }
+    }
+
+    pub fn matches(self, address: u32) -> bool {
+        address & mask(self.length) == self.address
+    }
+
+    /// The last address inside.
+    pub fn last(self) -> u32 {
+        self.address | !mask(self.length)
+    }
+
+    /// Level 0 holds lengths 0 to 8, and each further level eight lengths more.
+    pub fn level(self) -> u32 {
+        match self.length {
+            0..=8 => 0,
+            9..=16 => 1,
+            17..=24 => 2,
+            _ => 3,
+        }
+    }
+
+    /// The first 8 * level bits, which name the array that the prefix belongs to.
+    pub fn head(self) -> u32 {
+        self.address & mask(8 * self.level())
+    }
+
+    fn same_array(self, other: Prefix) -> bool {
+        self.level() == other.level() && self.head() == other.head()
+    }
+
+    /// The cells of its own array that the prefix covers.
+    pub fn cells(self) -> Range<usize> {
+        let cell = |address: u32| (address >> (24 - 8 * self.level()) & 255) as usize;
+        cell(self.address)..cell(self.last()) + 1
+    }
+}
+
+/// A prefix with its hop.
+#[derive(Clone, Copy, Debug, PartialEq, Eq)]
+pub struct Route {
+    pub prefix: Prefix,
+    pub hop: u32,
+}
+
+/// Routes in the order of writing out, each prefix at most once.
+#[derive(Clone, Debug, Default, PartialEq, Eq)]
+pub struct RouteList {
+    routes: Vec<Route>,
+}
+
+impl RouteList {
+    pub fn routes(&self) -> &[Route] {
+        &self.routes
+    }
+
+    fn find(&self, prefix: Prefix) -> Result<usize, usize> {
+        self.routes.binary_search_by_key(&prefix, |route| route.prefix)
+    }
+
+    pub fn holds(&self, prefix: Prefix) -> bool {
+        self.find(prefix).is_ok()
+    }
+
+    /// Adds a route; false, and no change, if the prefix is held.
+    pub fn add(&mut self, prefix: Prefix, hop: u32) -> bool {
+        match self.find(prefix) {
+            Ok(_) => false,
+            Err(at) => {
+                self.routes.insert(at, Route { prefix, hop });
+                true
+            }
+        }
+    }
+
+    /// Removes the route of this prefix and gives its hop.
+    pub fn remove(&mut self, prefix: Prefix) -> Option<u32> {
+        let at = self.find(prefix).ok()?;
+        Some(self.routes.remove(at).hop)
+    }
+
+    /// The matching route of the greatest length.
+    pub fn longest_match(&self, address: u32) -> Option<Route> {
+        (0..=32).rev().find_map(|length| {
+            let at = self.find(Prefix::around(address, length)).ok()?;
+            Some(self.routes[at])
+        })
+    }
+
+    /// The number of arrays that the list needs.
+    pub fn need(&self) -> usize {
+        arrays_needed(self.routes.iter().map(|route| route.prefix))
+    }
+
+    /// The number of arrays that the list would need with this prefix in it.
+    pub fn need_with(&self, prefix: Prefix) -> usize {
+        let at = self.find(prefix).unwrap_or_else(|at| at);
+        let (before, after) = self.routes.split_at(at);
+        let prefixes = before.iter().map(|route| route.prefix);
+        arrays_needed(prefixes.chain([prefix]).chain(after.iter().map(|route| route.prefix)))
+    }
+
+    /// How many cells of its array the prefix covers that no longer route of the same array covers.
+    pub fn open_cells(&self, prefix: Prefix) -> usize {
+        let first = self.routes.partition_point(|route| route.prefix.address < prefix.address);
+        let inside = self.routes[first..].iter().map(|route| route.prefix);
+        let mut covered = [false; 256];
+        for other in inside.take_while(|other| other.address <= prefix.last()) {
+            if other.length > prefix.length && other.same_array(prefix) {
+                covered[other.cells()].fill(true);
+            }
+        }
+        prefix.cells().filter(|&cell| !covered[cell]).count()
+    }
+
+    /// The list as a feed of announcements and an end.
+    pub fn encoding(&self) -> Vec<u8> {
+        let mut bytes = Vec::with_capacity(8 * self.routes.len() + 1);
+        for route in &self.routes {
+            bytes.push(1);
+            bytes.extend(route.prefix.address.to_be_bytes());
+            bytes.push(route.prefix.length as u8);
+            bytes.extend((route.hop as u16).to_be_bytes());
+        }
+        bytes.push(0);
+        bytes
+    }
+}
+
+/// One array, and one for each distinct head of 8, 16 and 24 bits among the longer prefixes.
+/// In ascending order equal heads follow one another, so comparing with the last one counts the distinct.
+fn arrays_needed(ascending: impl Iterator<Item = Prefix>) -> usize {
+    let mut needed = 1;
+    let mut last = [None; 3];
+    for prefix in ascending {
+        for (bits, last) in [8, 16, 24].into_iter().zip(&mut last) {
+            let head = Some(prefix.address & mask(bits));
+            if prefix.length > bits && *last != head {
+                *last = head;
+                needed += 1;
+            }
+        }
+    }
+    needed
+}

@@ -1,0 +1,53 @@
+//! The program of document 01: a feed in, lines out.
+
+use std::fmt::Write;
+use std::net::Ipv4Addr;
+
+use crate::feed::{Answer, Record};
+use crate::memory::{Memory, ARRAY_WORDS};
+
+/// The longest feed that the program takes.
+pub const MOST_INPUT: usize = 4_096;
+const REPLY_BYTES: usize = 4_096;
+const ARRAYS: usize = 7;
+
+/// All that the program prints for an input.
+pub fn output(input: &[u8]) -> String {
+    if input.len() > MOST_INPUT {
+        return "too long\n".to_string();
+    }
+    let mut memory = Memory::new(ARRAY_WORDS * (ARRAYS + 1), None);
+    memory.clear().expect("seven arrays are a right size");
+    let mut text = String::new();
+    let mut reply = [0; REPLY_BYTES];
+    let ran = memory
+        .run_and_tell(input, &mut reply, |record, answer| {
+            writeln!(text, "{} {}", sent(record), answered(answer)).expect("a String takes every text");
+        })
+        .expect("a cleared table is one");
+    let counts = memory.check().expect("a run leaves a table");
+    let (routes, arrays) = (counts.routes, counts.arrays);
+    let (accepted, refused) = (ran.accepted, ran.refused);
+    format!(
+        "{text}routes {routes} arrays {arrays} accepted {accepted} refused {refused}\nstopped {} at {}\n",
+        ran.stop as u8, ran.consumed
+    )
+}
+
+fn sent(record: Record) -> String {
+    match record {
+        Record::End => "end".to_string(),
+        Record::Announce { address, length, .. } => format!("announce {}/{length}", Ipv4Addr::from(address)),
+        Record::Withdraw { address, length } => format!("withdraw {}/{length}", Ipv4Addr::from(address)),
+        Record::Lookup { address } => format!("lookup {}", Ipv4Addr::from(address)),
+    }
+}
+
+fn answered(answer: Answer) -> String {
+    match answer {
+        Answer::Done(update) => format!("via {} cells {}", update.hop, update.cells),
+        Answer::Found(route) => format!("via {} length {}", route.hop, route.prefix.length),
+        Answer::None => "none".to_string(),
+        Answer::Refused(refusal) => format!("refused {}", refusal.number()),
+    }
+}

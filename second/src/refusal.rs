@@ -1,0 +1,32 @@
+//! The refusals of document 01 with their numbers.
+
+/// Why a call refused.
+#[derive(Clone, Copy, Debug, PartialEq, Eq)]
+#[repr(u8)]
+pub enum Refusal {
+    /// The number of words is not a multiple of 1,024 from 2,048 to 4,195,328.
+    WordCount = 1,
+    /// The words are not a table.
+    NotATable = 2,
+    /// The length is over 32.
+    LengthOver32 = 3,
+    /// A bit after the length is set.
+    StrayBit = 4,
+    /// The hop is 0 or over 65,535.
+    HopOutOfRange = 5,
+    /// The prefix is already held.
+    AlreadyHeld = 6,
+    /// The prefix is not held.
+    NotHeld = 7,
+    /// The list with the route added needs more arrays than there are.
+    NoRoom = 8,
+    /// The buffer is too short for the written list.
+    BufferShort = 9,
+}
+
+impl Refusal {
+    /// The number that document 01 gives it.
+    pub fn number(self) -> u8 {
+        self as u8
+    }
+}

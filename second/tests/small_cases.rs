@@ -1,0 +1,181 @@
+//! The small cases of document 01, the 52-byte example, and the stops and refusals of the run.
+
+use second::feed::Stop;
+use second::{program, Counts, Memory, Refusal, Update};
+
+fn table(arrays: usize) -> Memory {
+    let mut memory = Memory::new(1024 * (arrays + 1), None);
+    memory.clear().unwrap();
+    memory
+}
+
+fn ip(a: u8, b: u8, c: u8, d: u8) -> u32 {
+    u32::from_be_bytes([a, b, c, d])
+}
+
+fn cells(update: Result<Update, Refusal>) -> u32 {
+    update.unwrap().cells
+}
+
+fn arrays(memory: &Memory) -> u32 {
+    memory.check().unwrap().arrays
+}
+
+#[test]
+fn p1_empty_finds_none() {
+    assert_eq!(table(7).lookup(0), Ok(None));
+}
+
+#[test]
+fn p2_default_route() {
+    let mut memory = table(7);
+    assert_eq!(cells(memory.announce(0, 0, 9)), 256);
+    assert_eq!(arrays(&memory), 1);
+    let found = memory.lookup(u32::MAX).unwrap().unwrap();
+    assert_eq!((found.hop, found.prefix.length), (9, 0));
+}
+
+#[test]
+fn p3_half() {
+    assert_eq!(cells(table(7).announce(ip(128, 0, 0, 0), 1, 1)), 128);
+}
+
+#[test]
+fn p4_p5_shorter_after_longer() {
+    let mut memory = table(7);
+    memory.announce(ip(10, 0, 0, 0), 8, 1).unwrap();
+    assert_eq!(cells(memory.clone().announce(ip(10, 0, 0, 0), 7, 2)), 1);
+    memory.announce(ip(11, 0, 0, 0), 8, 1).unwrap();
+    assert_eq!(cells(memory.announce(ip(10, 0, 0, 0), 7, 2)), 0);
+}
+
+#[test]
+fn p6_p7_four_arrays() {
+    let mut memory = table(7);
+    assert_eq!(cells(memory.announce(ip(10, 1, 1, 128), 25, 1)), 128);
+    assert_eq!(arrays(&memory), 4);
+    memory.announce(ip(10, 1, 4, 0), 22, 1).unwrap();
+    assert_eq!(arrays(&memory), 4);
+}
+
+#[test]
+fn p8_one_address() {
+    let mut memory = table(7);
+    assert_eq!(cells(memory.announce(u32::MAX, 32, 1)), 1);
+    assert_eq!(arrays(&memory), 4);
+}
+
+#[test]
+fn p9_around_a_longer() {
+    let mut memory = table(7);
+    memory.announce(ip(10, 1, 4, 0), 22, 2).unwrap();
+    assert_eq!(cells(memory.announce(ip(10, 1, 0, 0), 20, 3)), 12);
+}
+
+#[test]
+fn p10_p11_order_of_refusals() {
+    assert_eq!(table(7).announce(0, 33, 0), Err(Refusal::LengthOver32));
+    assert_eq!(table(7).announce(ip(10, 0, 0, 1), 24, 0), Err(Refusal::StrayBit));
+    let mut foreign = Memory::new(2048, None);
+    assert_eq!(foreign.announce(0, 0, 0), Err(Refusal::HopOutOfRange));
+    assert_eq!(foreign.announce(0, 0, 65_536), Err(Refusal::HopOutOfRange));
+    assert_eq!(foreign.announce(0, 0, 1), Err(Refusal::NotATable));
+    assert_eq!(foreign.withdraw(1, 0), Err(Refusal::StrayBit));
+    let mut misfit = Memory::new(2047, None);
+    assert_eq!(misfit.announce(0, 33, 0), Err(Refusal::WordCount));
+    assert_eq!(misfit.withdraw(0, 33), Err(Refusal::WordCount));
+}
+
+#[test]
+fn p12_one_array() {
+    let mut memory = table(1);
+    assert!(memory.announce(ip(10, 0, 0, 0), 8, 1).is_ok());
+    assert_eq!(memory.announce(ip(10, 0, 0, 0), 9, 1), Err(Refusal::NoRoom));
+}
+
+#[test]
+fn four_arrays_are_used_again() {
+    let mut memory = table(4);
+    memory.announce(ip(10, 1, 1, 128), 25, 1).unwrap();
+    assert_eq!(memory.announce(ip(10, 1, 2, 0), 25, 1), Err(Refusal::NoRoom));
+    assert_eq!(memory.withdraw(ip(10, 1, 1, 128), 25), Ok(Update { hop: 1, cells: 128 }));
+    assert!(memory.announce(ip(10, 1, 2, 0), 25, 1).is_ok());
+}
+
+#[test]
+fn held_and_not_held_come_before_room() {
+    let mut memory = table(1);
+    memory.announce(0, 0, 7).unwrap();
+    assert_eq!(memory.announce(0, 0, 8), Err(Refusal::AlreadyHeld));
+    assert_eq!(memory.withdraw(0, 1), Err(Refusal::NotHeld));
+    assert_eq!(memory.check(), Ok(Counts { routes: 1, arrays: 1 }));
+}
+
+#[test]
+fn writing_out() {
+    let mut memory = table(7);
+    let mut buffer = [0xEE; 20];
+    assert_eq!(memory.write_out(&mut buffer[..0]), Err(Refusal::BufferShort));
+    assert_eq!(memory.write_out(&mut buffer), Ok(1));
+    assert_eq!(buffer[..2], [0, 0xEE]);
+    memory.announce(ip(10, 0, 0, 0), 8, 258).unwrap();
+    memory.announce(ip(10, 0, 0, 0), 7, 3).unwrap();
+    assert_eq!(memory.write_out(&mut buffer[..16]), Err(Refusal::BufferShort));
+    assert_eq!(memory.write_out(&mut buffer), Ok(17));
+    assert_eq!(buffer, [1, 10, 0, 0, 0, 7, 0, 3, 1, 10, 0, 0, 0, 8, 1, 2, 0, 0xEE, 0xEE, 0xEE]);
+}
+
+#[test]
+fn stops_in_their_order() {
+    let stop = |feed: &[u8], room: usize| {
+        let ran = table(1).run(feed, &mut vec![0; room]).unwrap();
+        (ran.stop, ran.consumed, ran.written)
+    };
+    assert_eq!(stop(&[], 0), (Stop::NoByteLeft, 0, 0));
+    assert_eq!(stop(&[4], 0), (Stop::UnknownKind, 0, 0));
+    assert_eq!(stop(&[16, 0, 1, 0, 1], 9), (Stop::UnknownKind, 0, 0));
+    assert_eq!(stop(&[3, 0, 0, 0], 0), (Stop::BodyShort, 0, 0));
+    assert_eq!(stop(&[3, 0, 0, 0, 0], 4), (Stop::ReplyFull, 0, 0));
+    assert_eq!(stop(&[3, 0, 0, 0, 0, 0, 9], 5), (Stop::End, 6, 1));
+    assert_eq!(stop(&[0, 0], 0), (Stop::End, 1, 0));
+    assert_eq!(stop(&[3, 0, 0, 0, 0, 3, 0, 0, 0, 0], 5), (Stop::ReplyFull, 5, 1));
+    assert_eq!(Memory::new(2048, None).run(&[0], &mut []), Err(Refusal::NotATable));
+    assert_eq!(Memory::new(0, None).run(&[0], &mut []), Err(Refusal::WordCount));
+}
+
+const EXAMPLE: &str = "01 0A000000 08 0001, 01 0A010400 16 0002, 01 0A010000 14 0003, 03 0A010509, \
+                       02 0A010400 16, 03 0A010509, 02 0A010400 17, 03 0B000001, 00";
+
+const EXAMPLE_OUTPUT: &str = "\
+announce 10.0.0.0/8 via 1 cells 1
+announce 10.1.4.0/22 via 2 cells 4
+announce 10.1.0.0/20 via 3 cells 12
+lookup 10.1.5.9 via 2 length 22
+withdraw 10.1.4.0/22 via 2 cells 4
+lookup 10.1.5.9 via 3 length 20
+withdraw 10.1.4.0/23 refused 7
+lookup 11.0.0.1 none
+routes 2 arrays 3 accepted 4 refused 1
+stopped 0 at 52
+";
+
+fn bytes(hex: &str) -> Vec<u8> {
+    let digits: Vec<u32> = hex.chars().filter_map(|digit| digit.to_digit(16)).collect();
+    digits.chunks(2).map(|pair| (pair[0] * 16 + pair[1]) as u8).collect()
+}
+
+#[test]
+fn the_example_feed() {
+    let feed = bytes(EXAMPLE);
+    assert_eq!(feed.len(), 52);
+    assert_eq!(program::output(&feed), EXAMPLE_OUTPUT);
+    let ran = table(7).run(&feed, &mut [0; 4096]).unwrap();
+    assert_eq!((ran.written, ran.accepted, ran.refused), (31, 4, 1));
+}
+
+#[test]
+fn inputs_at_the_limit() {
+    assert_eq!(program::output(&[]), "routes 0 arrays 1 accepted 0 refused 0\nstopped 1 at 0\n");
+    assert_eq!(program::output(&[9; 4096]), "routes 0 arrays 1 accepted 0 refused 0\nstopped 2 at 0\n");
+    assert_eq!(program::output(&[0; 4097]), "too long\n");
+}
