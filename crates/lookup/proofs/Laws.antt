@@ -17,17 +17,6 @@ use Rattle.arrays.specs.Table.{seen}
 use Rattle.lookup.specs.Walk.{byteAt, outside, deeper, turn, walkFrom, walk, walked}
 use Rattle.lookup.specs.Longest.{walked-seen}
 
--- ---- the size
-
-pub misfit-part : (n : ℕ) → n % 1024 ≢ 0 → true ≡ misfits n
-misfit-part n h = rw (ne-eqb (n % 1024) 0 h)
-
-pub misfit-low : (n : ℕ) → n % 1024 ≡ 0 → n < 2048 → true ≡ misfits n
-misfit-low n e h = rw (eq-eqb (n % 1024) 0 e, lt-ltb n 2048 h)
-
-pub misfit-last : (n : ℕ) → n % 1024 ≡ 0 → 2048 ≤ n → ltb 4195328 n ≡ misfits n
-misfit-last n e h = rw (eq-eqb (n % 1024) 0 e, le-ltb n 2048 h)
-
 -- ---- the range of a best
 
 pub strange-high : (b : ℕ) → 65535 < b / 256 → true ≡ outside 32 b

@@ -2,7 +2,7 @@
 ghost use mathlib.Core.Path.{_≡_};
 ghost use Prim.Native.Nat.{_+_, _*_, _-_, _/_, _<_};
 ghost use lib.ListN.{length};
-ghost use Rattle.routes.specs.Seen.{misfits, lookupOn};
+ghost use Rattle.routes.specs.Seen.{lookupOn};
 ghost use Rattle.routes.specs.Match.{none};
 ghost use Rattle.routes.specs.Answers.{matched};
 ghost use Rattle.arrays.specs.Table.{seen};
@@ -15,19 +15,6 @@ pub enum Match {
     Found(u32, u32),
     Nothing,
     Refused(u32),
-}
-
-// The number of words is not that of a table.
-fn misfit(n: usize) -> bool
-    ensures { λ r. ⌜ r ≡ misfits n ⌝ }
-{
-    if n % 1024 != 0 {
-        return true;
-    }
-    if n < 2048 {
-        return true;
-    }
-    n > 4195328
 }
 
 // A best that is neither 0 nor a hop and a length. It does not branch on 0: no processor foresees which cells have a best, and
@@ -96,7 +83,7 @@ pub fn lookup(words: &[u32], address: u32) -> Match
     ensures { λ r. ⌜ told r ≡ lookupOn 32 (seen 4 (now (words .entry))) (walk 4 (now (words .entry)) address) address ⌝ }
     ensures any_words { λ r. ⌜ told r ≡ walked 4 (now (words .entry)) address ⌝ }
 {
-    if misfit(words.len()) {
+    if audit::misfit(words.len()) {
         return Match::Refused(1);
     }
     descend(words, address)
