@@ -1,0 +1,70 @@
+-- Words seen as a table, and what is known of its list and of its room; words that were cleared; a run that was not refused.
+-- Assumes nothing.
+use mathlib.Core.Path.{_≡_, sym, ap, _∙_}
+use mathlib.Core.Bool.{true, false}
+use mathlib.Core.List.{List, []}
+use Prim.Native.Nat.{ℕ, _+_, _-_, _*_, _/_, _≤_}
+use native.Mathlib.Omega.{arith}
+use lib.Dec.{lit<, lit≤}
+use lib.ListN.{length}
+use Rattle.laws.specs.Cases.{bool}
+use Rattle.routes.specs.Route.{Route, IsList}
+use Rattle.routes.specs.Room.{need}
+use Rattle.routes.specs.Seen.{gives, refuses, table, misfits}
+use Rattle.arrays.specs.Words.{arraysOf, arrayCount}
+use Rattle.arrays.specs.Table.{seen}
+use Rattle.arrays.specs.Listed.{table-list}
+use Rattle.arrays.specs.Stock.{table-need, used-full}
+use Rattle.arrays.specs.View.{Is, table-of, table-fits, fits-no-misfit}
+use Rattle.audit.specs.Told.{Clears}
+use Rattle.audit.specs.declared.Cleared.{Cleared}
+use Rattle.audit.specs.declared.Cleared.the-variants.{Done}
+use Rattle.feed.specs.Runs.{told}
+use Rattle.feed.specs.declared.Report.{Report}
+use Rattle.feed.specs.declared.Ran.{Ran}
+use Rattle.feed.specs.declared.Ran.the-variants.{Stopped, Refused}
+
+-- ---- a table
+
+-- the list is a route list, its arrays fit, and A is read from the number of words
+pub record Held (A : ℕ) (rs : List Route) (ws : List ℕ) : Type 0 where
+  pub list : IsList 32 rs
+  pub room : need 32 rs ≤ A
+  pub arrays : length ws / 1024 - 1 ≡ A
+  pub size : misfits (length ws) ≡ false
+
+pub held : (A : ℕ) (rs : List Route) (ws : List ℕ) → seen 4 ws ≡ table A rs → Held A rs ws
+held A rs ws e =
+    let i = table-of 4 ws (lit≤ tt) (lit< tt) A rs e in
+    let n = table-need 4 ws (i .table) in
+    record {
+      list = rw (i .list) (table-list 4 ws (i .table));
+      room = rw (i .list) (omega (arith, n, i .table .header .count, used-full (arraysOf ws) 0 (arrayCount ws), i .arrays));
+      arrays = sym (i .arrays);
+      size = fits-no-misfit (length ws) (table-fits 4 ws (i .table));
+    }
+
+-- ---- cleared words
+
+-- words that clear took are a table of no routes, with as many arrays as their number says
+pub cleared-done : (A : ℕ) (ws vs : List ℕ) → length ws ≡ 1024 * (A + 1) → Clears 4 ws vs Done → seen 4 vs ≡ table A []
+cleared-done A ws vs n c =
+    bool (misfits (length ws))
+    (λ e. absurd (let d : gives tt ≡ refuses 1 = rw e at (c .answer) in let z : _≡_ {A = ℕ} 0 1 = cc in omega arith))
+    (λ e. (rw e at (c .left)) ∙ ap (λ (k : ℕ). table k []) (count n))
+  where
+    count : length ws ≡ 1024 * (A + 1) → length ws / 1024 - 1 ≡ A
+    count n = omega arith
+
+-- as many words as a table has are taken, and are then a table of the same room
+pub cleared-alike : (A : ℕ) (rs : List Route) (ws lent vs : List ℕ) (r : Cleared) → seen 4 ws ≡ table A rs → length lent ≡ length ws → Clears 4 lent vs r → seen 4 vs ≡ table A []
+cleared-alike A rs ws lent vs r e n c =
+    let h = held A rs ws e in
+    (rw (n, h .size, h .arrays) at (c .left))
+
+-- ---- a run
+
+-- what is told of one that was not refused is its report
+pub stopped : (r : Ran) (p : Report) → told r ≡ gives p → r ≡ Stopped p
+stopped (Stopped q) p e = cc
+stopped (Refused n) p e = absurd (let z : _≡_ {A = ℕ} 0 1 = cc in omega arith)

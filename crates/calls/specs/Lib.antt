@@ -1,0 +1,6 @@
+pub mod Held
+pub mod Series
+pub mod Rows
+pub mod Round
+pub mod Both
+pub mod Sharp

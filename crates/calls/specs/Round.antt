@@ -1,0 +1,73 @@
+-- The round trip over the calls: a table written out, and the bytes run with reply room enough on cleared words of the same number,
+-- give that table again. Assumes nothing.
+--
+--     words, a table ── write_out ──▶ front ── run ──▶ words′, seen as the words are
+--     as many words ─── clear ──────▶ cleared ──┘
+use mathlib.Core.Path.{_≡_, sym, ap, _∙_}
+use mathlib.Core.List.{List, []}
+use Prim.Native.Nat.{ℕ, _+_, _*_, _≤_}
+use lib.ListN.{length, take}
+use lib.Seq.{take-append-seam}
+use borrow.Author.Tests.{le-ltb}
+use Rattle.routes.specs.Route.{Route}
+use Rattle.routes.specs.Answers.{replies}
+use Rattle.routes.specs.Bytes.{announced, written, repliesBytes}
+use Rattle.routes.specs.Seen.{Seen, table, frontOn}
+use Rattle.laws.specs.Round.{round-trip}
+use Rattle.arrays.specs.Table.{seen}
+use Rattle.audit.specs.Told.{Clears}
+use Rattle.audit.specs.declared.Cleared.{Cleared}
+use Rattle.writing.specs.Told.{Fills}
+use Rattle.feed.specs.Runs.{Runs}
+use Rattle.feed.specs.declared.Ran.{Ran}
+use Rattle.feed.specs.declared.Ran.the-variants.{Stopped}
+use Rattle.calls.specs.Held.{held, cleared-alike, stopped}
+
+-- the calls, each as its contract allows
+pub record Trip (A : ℕ) (rs : List Route) : Type 0 where
+  pub words : List ℕ
+  pub table : seen 4 words ≡ table A rs
+  -- written out into a buffer that is large enough
+  pub buffer : List ℕ
+  pub fits : 8 * length rs + 1 ≤ length buffer
+  pub front : List ℕ
+  pub wrote : front ≡ frontOn (seen 4 words) (length buffer)
+  -- as many words, cleared
+  pub lent : List ℕ
+  pub same : length lent ≡ length words
+  pub cleared : List ℕ
+  pub answer : Cleared
+  pub clears : Clears 4 lent cleared answer
+  -- the front run on them, with reply room enough
+  pub reply : List ℕ
+  pub enough : 5 * length rs ≤ length reply
+  pub words′ : List ℕ
+  pub reply′ : List ℕ
+  pub ran : Ran
+  pub runs : Runs cleared front reply words′ reply′ ran
+
+-- the same list, each of its records accepted, at an end
+pub record Again {A : ℕ} {rs : List Route} (t : Trip A rs) : Type 0 where
+  pub list : seen 4 (t .words′) ≡ seen 4 (t .words)
+  pub answer : t .ran ≡ Stopped (record {
+    stop = 0;
+    consumed = 8 * length rs + 1;
+    written = length (repliesBytes (replies 32 A [] (announced rs)));
+    accepted = length rs;
+    refused = 0;
+  })
+
+pub again : {A : ℕ} {rs : List Route} (t : Trip A rs) → Again t
+again {A} {rs} t =
+    let h = held A rs (t .words) (t .table) in
+    let e : seen 4 (t .cleared) ≡ table A [] = cleared-alike A rs (t .words) (t .lent) (t .cleared) (t .answer) (t .table) (t .same) (t .clears) in
+    let f : t .front ≡ written rs = t .wrote ∙ rw (t .table, le-ltb (length (t .buffer)) (8 * length rs + 1) (t .fits)) in
+    let o = round-trip A rs (length (t .reply)) (h .list) (h .room) (t .enough) in
+    record {
+      list = t .runs .list ∙ rw (e, f, o) (sym (t .table));
+      answer = stopped (t .ran) _ (t .runs .answer ∙ rw (e, f, o));
+    }
+
+-- the front is also what fill leaves at the start of the buffer
+pub filled-front : (s : Seen) (b : List ℕ) (n : ℕ) (c : List ℕ) → Fills s b n c → take n c ≡ frontOn s (length b)
+filled-front s b n c f = rw (f .list, f .count) (take-append-seam (frontOn s (length b)) _)

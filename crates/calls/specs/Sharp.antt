@@ -1,0 +1,100 @@
+-- How sharp the contracts are, for each public call: two outcomes that its contract allows on the same input agree, in the answer and in
+-- what the lent words are seen to be, and byte for byte; refused, they agree in every word. Assumes nothing.
+--
+--     what no contract fixes: the layout of words that stand for one list, so words are compared by what they are seen to be, and no
+--     later call tells two layouts apart (layout-unseen); and, at write_out, the buffer past the part that it returns (fill fixes it)
+use mathlib.Core.Path.{_≡_, sym, _∙_}
+use mathlib.Core.Bool.{true}
+use mathlib.Core.List.{List}
+use Prim.Native.Nat.{ℕ}
+use lib.ListN.{length}
+use Rattle.routes.specs.Route.{Route}
+use Rattle.routes.specs.Answers.{Update, Record, Reply, isRefused}
+use Rattle.routes.specs.Seen.{table, lookupOn, checkOn, countOn, frontOn}
+use Rattle.arrays.specs.Table.{listOf, seen}
+use Rattle.arrays.specs.View.{seen-table}
+use Rattle.audit.specs.Told.{toldCheck, Clears}
+use Rattle.audit.specs.Sharp as audit
+use Rattle.audit.specs.declared.Cleared.{Cleared}
+use Rattle.audit.specs.declared.Checked.{Checked}
+use Rattle.lookup.specs.Told as lookup
+use Rattle.lookup.specs.Walk.{walk}
+use Rattle.lookup.specs.declared.Match.{Match}
+use Rattle.update.specs.Update.{told, Updates, Applies}
+use Rattle.update.specs.declared.Updated.{Updated}
+use Rattle.update.specs.declared.Updated.the-variants as updated
+use Rattle.writing.specs.Told as writing
+use Rattle.writing.specs.declared.Counted.{Counted}
+use Rattle.feed.specs.Runs.{Runs}
+use Rattle.feed.specs.Sharp as feed
+use Rattle.feed.specs.declared.Ran.{Ran}
+use Rattle.calls.specs.Series.{Series, all-answered}
+
+-- ---- clear, check
+
+pub clear-agrees : (ws vs vs′ : List ℕ) (r r′ : Cleared) → Clears 4 ws vs r → Clears 4 ws vs′ r′ → audit.Agree 4 vs vs′ r r′
+clear-agrees ws vs vs′ r r′ p q = audit.clear-sharp 4 ws vs vs′ r r′ p q
+
+pub check-agrees : (ws : List ℕ) (r r′ : Checked) → toldCheck r ≡ checkOn 32 (seen 4 ws) → toldCheck r′ ≡ checkOn 32 (seen 4 ws) → r ≡ r′
+check-agrees ws r r′ p q = audit.check-sharp (checkOn 32 (seen 4 ws)) r r′ p q
+
+-- ---- lookup: on a table by its list, on other words by the layout's walk over them
+
+pub lookup-agrees : (ws : List ℕ) (a : ℕ) (r r′ : Match) → lookup.told r ≡ lookupOn 32 (seen 4 ws) (walk 4 ws a) a → lookup.told r′ ≡ lookupOn 32 (seen 4 ws) (walk 4 ws a) a → r ≡ r′
+lookup-agrees ws a r r′ p q = lookup.lookup-one ws a r r′ p q
+
+-- ---- announce, withdraw
+
+pub record Agree (vs : List ℕ) (r : Updated) (vs′ : List ℕ) (r′ : Updated) : Type 0 where
+  pub answer : r ≡ r′
+  pub list : seen 4 vs ≡ seen 4 vs′
+  pub words : isRefused (told r) ≡ true → vs ≡ vs′
+
+told-one : (r r′ : Updated) → told r ≡ told r′ → r ≡ r′
+told-one (updated.Done h c) (updated.Done h′ c′) e = cc
+told-one (updated.Done h c) (updated.Refused n) e = cc
+told-one (updated.Refused n) (updated.Done h c) e = cc
+told-one (updated.Refused n) (updated.Refused n′) e = cc
+
+pub update-agrees : (ws : List ℕ) (u : Update) (vs : List ℕ) (r : Updated) (vs′ : List ℕ) (r′ : Updated) → Updates ws vs u r → Updates ws vs′ u r′ → Agree vs r vs′ r′
+update-agrees ws u vs r vs′ r′ p q =
+    let e : r ≡ r′ = told-one r r′ (p .answer ∙ sym (q .answer)) in
+    record { answer = e; list = p .list ∙ sym (q .list); words = λ z. p .kept z ∙ sym (q .kept (rw e at z)) }
+
+-- the work after the check, on a table
+pub work-agrees : (ws : List ℕ) (u : Update) (vs : List ℕ) (r : Updated) (vs′ : List ℕ) (r′ : Updated) → Applies 4 ws vs u r → Applies 4 ws vs′ u r′ → Agree vs r vs′ r′
+work-agrees ws u vs r vs′ r′ p q =
+    let e : r ≡ r′ = told-one r r′ (p .answer ∙ sym (q .answer)) in
+    let n : length vs ≡ length vs′ = p .size ∙ sym (q .size) in
+    let l : listOf 4 vs ≡ listOf 4 vs′ = p .list ∙ rw e (sym (q .list)) in
+    record {
+      answer = e;
+      list = seen-table 4 vs (p .table) ∙ rw (n, l) (sym (seen-table 4 vs′ (q .table)));
+      words = λ z. p .kept z ∙ sym (q .kept (rw e at z));
+    }
+
+-- ---- count, fill, write_out
+
+pub count-agrees : (ws : List ℕ) (room : ℕ) (r r′ : Counted) → writing.toldCount r ≡ countOn (seen 4 ws) room → writing.toldCount r′ ≡ countOn (seen 4 ws) room → r ≡ r′
+count-agrees ws room r r′ p q = writing.count-sharp (seen 4 ws) room r r′ p q
+
+pub fill-agrees : (ws b : List ℕ) (n n′ : ℕ) (c c′ : List ℕ) → writing.Fills (seen 4 ws) b n c → writing.Fills (seen 4 ws) b n′ c′ → (n ≡ n′) × (c ≡ c′)
+fill-agrees ws b n n′ c c′ p q = writing.fills-sharp (seen 4 ws) b n n′ c c′ p q
+
+pub write-out-agrees : (ws b front front′ : List ℕ) → front ≡ frontOn (seen 4 ws) (length b) → front′ ≡ frontOn (seen 4 ws) (length b) → front ≡ front′
+write-out-agrees ws b front front′ p q = p ∙ sym q
+
+-- ---- run
+
+pub run-agrees : (ws bytes b vs c : List ℕ) (r : Ran) (vs′ c′ : List ℕ) (r′ : Ran) → Runs ws bytes b vs c r → Runs ws bytes b vs′ c′ r′ → feed.Agree vs c r vs′ c′ r′
+run-agrees ws bytes b vs c r vs′ c′ r′ p q = feed.sharp ws bytes b vs c r vs′ c′ r′ p q
+
+-- ---- the layout
+
+-- tables of one list answer any calls alike, and are left alike, however they are laid out
+pub layout-unseen : (A : ℕ) (rs : List Route) {ws ws′ vs vs′ : List ℕ} {xs : List Record} {ys ys′ : List Reply} → seen 4 ws ≡ table A rs → seen 4 ws′ ≡ table A rs
+    → Series ws xs ys vs → Series ws′ xs ys′ vs′ → (ys ≡ ys′) × (seen 4 vs ≡ seen 4 vs′)
+layout-unseen A rs t t′ s s′ =
+    let p = all-answered A rs t s in
+    let q = all-answered A rs t′ s′ in
+    (p .answers ∙ sym (q .answers), p .list ∙ sym (q .list))
