@@ -4,3 +4,4 @@ pub mod Rows
 pub mod Round
 pub mod Both
 pub mod Sharp
+pub mod Face

@@ -4,12 +4,11 @@
 --     what no contract fixes: the layout of words that stand for one list, so words are compared by what they are seen to be, and no
 --     later call tells two layouts apart (layout-unseen); and, at write_out, the buffer past the part that it returns (fill fixes it)
 use mathlib.Core.Path.{_≡_, sym, _∙_}
-use mathlib.Core.Bool.{true}
 use mathlib.Core.List.{List}
 use Prim.Native.Nat.{ℕ}
 use lib.ListN.{length}
 use Rattle.routes.specs.Route.{Route}
-use Rattle.routes.specs.Answers.{Update, Record, Reply, isRefused}
+use Rattle.routes.specs.Answers.{Update, Record, Reply}
 use Rattle.routes.specs.Seen.{table, lookupOn, checkOn, countOn, frontOn}
 use Rattle.arrays.specs.Table.{listOf, seen}
 use Rattle.arrays.specs.View.{seen-table}
@@ -21,6 +20,7 @@ use Rattle.lookup.specs.Told as lookup
 use Rattle.lookup.specs.Walk.{walk}
 use Rattle.lookup.specs.declared.Match.{Match}
 use Rattle.update.specs.Update.{told, Updates, Applies}
+use Rattle.update.specs.Sharp as update
 use Rattle.update.specs.declared.Updated.{Updated}
 use Rattle.update.specs.declared.Updated.the-variants as updated
 use Rattle.writing.specs.Told as writing
@@ -45,31 +45,24 @@ lookup-agrees ws a r r′ p q = lookup.lookup-one ws a r r′ p q
 
 -- ---- announce, withdraw
 
-pub record Agree (vs : List ℕ) (r : Updated) (vs′ : List ℕ) (r′ : Updated) : Type 0 where
-  pub answer : r ≡ r′
-  pub list : seen 4 vs ≡ seen 4 vs′
-  pub words : isRefused (told r) ≡ true → vs ≡ vs′
+pub update-agrees : (ws : List ℕ) (u : Update) (vs vs′ : List ℕ) (r r′ : Updated) → Updates ws vs u r → Updates ws vs′ u r′ → update.Agree vs vs′ r r′
+update-agrees ws u vs vs′ r r′ p q = update.sharp ws vs vs′ u r r′ p q
 
+-- the work after the check, on a table
 told-one : (r r′ : Updated) → told r ≡ told r′ → r ≡ r′
 told-one (updated.Done h c) (updated.Done h′ c′) e = cc
 told-one (updated.Done h c) (updated.Refused n) e = cc
 told-one (updated.Refused n) (updated.Done h c) e = cc
 told-one (updated.Refused n) (updated.Refused n′) e = cc
 
-pub update-agrees : (ws : List ℕ) (u : Update) (vs : List ℕ) (r : Updated) (vs′ : List ℕ) (r′ : Updated) → Updates ws vs u r → Updates ws vs′ u r′ → Agree vs r vs′ r′
-update-agrees ws u vs r vs′ r′ p q =
-    let e : r ≡ r′ = told-one r r′ (p .answer ∙ sym (q .answer)) in
-    record { answer = e; list = p .list ∙ sym (q .list); words = λ z. p .kept z ∙ sym (q .kept (rw e at z)) }
-
--- the work after the check, on a table
-pub work-agrees : (ws : List ℕ) (u : Update) (vs : List ℕ) (r : Updated) (vs′ : List ℕ) (r′ : Updated) → Applies 4 ws vs u r → Applies 4 ws vs′ u r′ → Agree vs r vs′ r′
-work-agrees ws u vs r vs′ r′ p q =
+pub work-agrees : (ws : List ℕ) (u : Update) (vs vs′ : List ℕ) (r r′ : Updated) → Applies 4 ws vs u r → Applies 4 ws vs′ u r′ → update.Agree vs vs′ r r′
+work-agrees ws u vs vs′ r r′ p q =
     let e : r ≡ r′ = told-one r r′ (p .answer ∙ sym (q .answer)) in
     let n : length vs ≡ length vs′ = p .size ∙ sym (q .size) in
     let l : listOf 4 vs ≡ listOf 4 vs′ = p .list ∙ rw e (sym (q .list)) in
     record {
       answer = e;
-      list = seen-table 4 vs (p .table) ∙ rw (n, l) (sym (seen-table 4 vs′ (q .table)));
+      seen = seen-table 4 vs (p .table) ∙ rw (n, l) (sym (seen-table 4 vs′ (q .table)));
       words = λ z. p .kept z ∙ sym (q .kept (rw e at z));
     }
 

@@ -1,0 +1,64 @@
+-- How sharp the contracts of the C face are: its calls answer in plain numbers, and two outcomes that a contract allows agree as in
+-- Sharp. Assumes nothing.
+use mathlib.Core.Path.{_≡_, sym, _∙_}
+use mathlib.Core.List.{List}
+use Prim.Native.Nat.{ℕ}
+use lib.ListN.{length}
+use Rattle.routes.specs.Answers.{Update, Reply, refused}
+use Rattle.routes.specs.Seen.{Answer, refuses, answerOn, lookupOn, clearOn, checkOn, runOn}
+use Rattle.arrays.specs.Table.{seen}
+use Rattle.lookup.specs.Walk.{walk}
+use Rattle.toggleash.specs.Face.{Clears, Updates, Writes, Runs, counted, looked}
+use Rattle.toggleash.specs.declared.Counted.{Counted}
+use Rattle.toggleash.specs.declared.Found.{Found}
+use Rattle.toggleash.specs.declared.Updated.{Updated}
+use Rattle.toggleash.specs.declared.Written.{Written}
+use Rattle.toggleash.specs.declared.Ran.{Ran as Fields}
+
+-- one answer, one view of the words left, and one content of them where the call refused
+pub record Agree {T : Type 0} (Refused : Type 0) (vs vs′ : List ℕ) (r r′ : T) : Type 0 where
+  pub answer : r ≡ r′
+  pub seen : seen 4 vs ≡ seen 4 vs′
+  pub words : Refused → vs ≡ vs′
+
+-- refused by some number
+pub record By {T : Type 0} (a : Answer T) : Type 0 where
+  pub number : ℕ
+  pub is : a ≡ refuses number
+
+pub record ByReply (y : Reply) : Type 0 where
+  pub number : ℕ
+  pub is : y ≡ refused number
+
+pub clear-agrees : (ws vs vs′ : List ℕ) (r r′ : ℕ) → Clears ws vs r → Clears ws vs′ r′ → Agree (By (clearOn (length ws))) vs vs′ r r′
+clear-agrees ws vs vs′ r r′ p q = record {
+  answer = p .answer ∙ sym (q .answer);
+  seen = p .left ∙ sym (q .left);
+  words = λ b. p .kept (b .number) (b .is) ∙ sym (q .kept (b .number) (b .is));
+}
+
+pub check-agrees : (ws : List ℕ) (r r′ : Counted) → r ≡ counted (checkOn 32 (seen 4 ws)) → r′ ≡ counted (checkOn 32 (seen 4 ws)) → r ≡ r′
+check-agrees ws r r′ p q = p ∙ sym q
+
+pub lookup-agrees : (ws : List ℕ) (a : ℕ) (r r′ : Found) → r ≡ looked (lookupOn 32 (seen 4 ws) (walk 4 ws a) a) → r′ ≡ looked (lookupOn 32 (seen 4 ws) (walk 4 ws a) a) → r ≡ r′
+lookup-agrees ws a r r′ p q = p ∙ sym q
+
+pub update-agrees : (ws : List ℕ) (u : Update) (vs vs′ : List ℕ) (r r′ : Updated) → Updates ws vs u r → Updates ws vs′ u r′ → Agree (ByReply (answerOn 32 (seen 4 ws) u)) vs vs′ r r′
+update-agrees ws u vs vs′ r r′ p q = record {
+  answer = p .answer ∙ sym (q .answer);
+  seen = p .list ∙ sym (q .list);
+  words = λ b. p .kept (b .number) (b .is) ∙ sym (q .kept (b .number) (b .is));
+}
+
+pub write-out-agrees : (ws b c c′ : List ℕ) (r r′ : Written) → Writes ws b c r → Writes ws b c′ r′ → (r ≡ r′) × (c ≡ c′)
+write-out-agrees ws b c c′ r r′ p q = (p .answer ∙ sym (q .answer), p .front ∙ sym (q .front))
+
+pub run-agrees : (ws bytes b vs vs′ c c′ : List ℕ) (r r′ : Fields) → Runs ws bytes b vs c r → Runs ws bytes b vs′ c′ r′ → Agree (By (runOn (seen 4 ws) bytes b)) vs vs′ r r′ × (c ≡ c′)
+run-agrees ws bytes b vs vs′ c c′ r r′ p q = (
+  record {
+    answer = p .answer ∙ sym (q .answer);
+    seen = p .list ∙ sym (q .list);
+    words = λ d. p .kept (d .number) (d .is) ∙ sym (q .kept (d .number) (d .is));
+  },
+  p .replies ∙ sym (q .replies),
+)
