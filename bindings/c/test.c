@@ -54,7 +54,9 @@ static void ran(const char *what, toggleash_ran r, uint32_t refusal, uint32_t st
 static void updates(void) {
     same("clear", 0, toggleash_clear(words, ROOM));
     update("announce", toggleash_announce(words, ROOM, 0x0A010180, 25, 65535), 0, 65535, 128);
-    update("announce held", toggleash_announce(words, ROOM, 0x0A010180, 25, 2), 6, 0, 0);
+    update("announce held", toggleash_announce(words, ROOM, 0x0A010180, 25, 2), 0, 2, 128);
+    update("announce held, same hop", toggleash_announce(words, ROOM, 0x0A010180, 25, 2), 0, 2, 0);
+    update("announce held, first hop", toggleash_announce(words, ROOM, 0x0A010180, 25, 65535), 0, 65535, 128);
     update("announce, no room", toggleash_announce(words, ROOM, 0x0A010200, 25, 2), 8, 0, 0);
     update("announce, length", toggleash_announce(words, ROOM, 0, 33, 0), 3, 0, 0);
     update("announce, stray bit", toggleash_announce(words, ROOM, 0x0A000001, 24, 0), 4, 0, 0);

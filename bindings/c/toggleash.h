@@ -21,12 +21,11 @@
  *   3  length is over 32
  *   4  a bit of the address after the first `length` is set
  *   5  hop is 0 or over 65,535
- *   6  the prefix is already held; its hop stays
  *   7  the prefix is not held
- *   8  the list with the route added needs more arrays than the words have
+ *   8  the prefix is not held, and the list with the route added needs more arrays than the words have
  *   9  the buffer is too short for the written list
  *
- * Where several apply, the first in this order is given: 1, 3, 4, 5, 2, 6 or 7, 8 or 9.
+ * There is no 6. Where several apply, the first in this order is given: 1, 3, 4, 5, 2, 7, 8 or 9.
  */
 #ifndef TOGGLEASH_H
 #define TOGGLEASH_H
@@ -60,7 +59,8 @@ typedef struct {
 typedef struct {
     uint32_t refusal;
     uint32_t hop;   /* the hop announced, or the one that the withdrawn route had */
-    uint32_t cells; /* cells of the route's array that it covers and no longer route of that array does, 0 to 256 */
+    uint32_t cells; /* cells of the route's array that it covers and no longer route of that array does, 0 to 256; 0 where
+                       an announcement finds its prefix held with the same hop */
 } toggleash_update;
 
 /* What writing out wrote. */
@@ -89,7 +89,8 @@ toggleash_counts toggleash_check(const uint32_t *words, size_t n);
  * what its walk gives, or 2. */
 toggleash_answer toggleash_lookup(const uint32_t *words, size_t n, uint32_t address);
 
-/* Adds a route. Refuses by 1, 3, 4, 5, 2, 6 or 8. Any length and hop may be given. */
+/* Adds a route, or gives a held prefix this hop, for which there is always room. Refuses by 1, 3, 4, 5, 2 or 8. Any length
+ * and hop may be given. */
 toggleash_update toggleash_announce(uint32_t *words, size_t n, uint32_t address, uint32_t length, uint32_t hop);
 
 /* Removes a route. Refuses by 1, 3, 4, 2 or 7. Any length may be given. */

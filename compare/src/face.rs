@@ -74,9 +74,11 @@ fn refused_fields() -> Same {
         same(|| "withdraw".into(), ffi::toggleash_withdraw(first, n, 0, 0), update(7))?;
         let held = Update { hop: 5, cells: 256, ..update(0) };
         same(|| "announce".into(), ffi::toggleash_announce(first, n, 0, 0, 5), held)?;
+        let again = Update { cells: 0, ..held };
+        same(|| "announce again".into(), ffi::toggleash_announce(first, n, 0, 0, 5), again)?;
         let found = Answer { found: 1, hop: 5, ..Answer::default() };
         same(|| "lookup".into(), ffi::toggleash_lookup(first, n, 7), found)?;
-        for (refusal, address, length, hop) in [(3, 1, 33, 0), (4, 1, 0, 0), (5, 0, 0, 0), (6, 0, 0, 9), (8, 0, 9, 1)] {
+        for (refusal, address, length, hop) in [(3, 1, 33, 0), (4, 1, 0, 0), (5, 0, 0, 0), (8, 0, 9, 1)] {
             let got = ffi::toggleash_announce(first, n, address, length, hop);
             same(|| format!("announce refused {refusal}"), got, update(refusal))?;
         }

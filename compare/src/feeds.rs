@@ -118,12 +118,20 @@ impl<'a> Source<'a> {
         }
     }
 
+    /// Often the prefix's own, so that second announcements meet the same hop and another one.
+    fn hop(&mut self, prefix: Prefix) -> u32 {
+        match self.random.chance(30) {
+            true => 1 + (prefix.address ^ prefix.length) % 65_535,
+            false => hop(self.random),
+        }
+    }
+
     pub fn record(&mut self, mood: Mood) -> Record {
         let roll = self.random.below(100);
         if roll < mood.announce {
             let prefix = self.prefix(15);
             let (address, length) = self.maybe_malformed(prefix);
-            let hop = if self.random.chance(2) { 0 } else { hop(self.random) };
+            let hop = if self.random.chance(2) { 0 } else { self.hop(prefix) };
             Record::Announce { address, length, hop }
         } else if roll < mood.announce + mood.withdraw {
             let prefix = self.prefix(75);

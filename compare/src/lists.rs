@@ -44,7 +44,7 @@ impl Growing {
     pub fn list(&self) -> RouteList {
         let mut list = RouteList::default();
         for (&prefix, &hop) in &self.routes {
-            list.add(prefix, hop);
+            list.set(prefix, hop);
         }
         list
     }

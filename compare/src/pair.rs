@@ -102,11 +102,13 @@ impl Pair {
     pub fn announce(&mut self, address: u32, length: u32, hop: u32) -> Same {
         let what = || format!("announce {}/{length} via {hop}", Ipv4Addr::from(address));
         let before = self.words.to_vec();
+        let prefix = Prefix { address, length };
+        let again = self.memory.list().is_ok_and(|list| list.hop(prefix) == Some(hop));
         begin_call("announce");
         let told = library(toggleash::announce(&mut self.words, address.into(), length, hop));
         let expected = list(self.memory.announce(address, length, hop));
         same_update(what, told, expected)?;
-        self.changed(what, told.is_ok().then_some(Prefix { address, length }), &before)
+        self.changed(what, (told.is_ok() && !again).then_some(prefix), &before)
     }
 
     pub fn withdraw(&mut self, address: u32, length: u32) -> Same {
@@ -119,7 +121,7 @@ impl Pair {
         self.changed(what, told.is_ok().then_some(Prefix { address, length }), &before)
     }
 
-    /// Only the words changed that the update of this prefix may change, or none if it was refused.
+    /// Only the words changed that the update of this prefix may change; none if it was refused or the hop held already.
     fn changed(&self, what: impl Fn() -> String, updated: Option<Prefix>, before: &[u32]) -> Same {
         match updated {
             Some(prefix) => confined(what, prefix, before, &self.words),

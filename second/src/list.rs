@@ -82,17 +82,19 @@ impl RouteList {
         self.routes.binary_search_by_key(&prefix, |route| route.prefix)
     }
 
-    pub fn holds(&self, prefix: Prefix) -> bool {
-        self.find(prefix).is_ok()
+    /// The hop that the prefix is held with.
+    pub fn hop(&self, prefix: Prefix) -> Option<u32> {
+        let at = self.find(prefix).ok()?;
+        Some(self.routes[at].hop)
     }
 
-    /// Adds a route; false, and no change, if the prefix is held.
-    pub fn add(&mut self, prefix: Prefix, hop: u32) -> bool {
+    /// Holds the prefix with this hop; gives the hop that it was held with before.
+    pub fn set(&mut self, prefix: Prefix, hop: u32) -> Option<u32> {
         match self.find(prefix) {
-            Ok(_) => false,
+            Ok(at) => Some(std::mem::replace(&mut self.routes[at].hop, hop)),
             Err(at) => {
                 self.routes.insert(at, Route { prefix, hop });
-                true
+                None
             }
         }
     }

@@ -81,14 +81,14 @@ impl Memory {
             return Err(Refusal::HopOutOfRange);
         }
         let list = self.list_mut()?;
-        if list.holds(prefix) {
-            return Err(Refusal::AlreadyHeld);
-        }
-        if list.need_with(prefix) > room {
+        if list.hop(prefix).is_none() && list.need_with(prefix) > room {
             return Err(Refusal::NoRoom);
         }
-        list.add(prefix, hop);
-        Ok(Update { hop, cells: list.open_cells(prefix) as u32 })
+        let cells = match list.set(prefix, hop) {
+            Some(before) if before == hop => 0,
+            _ => list.open_cells(prefix),
+        };
+        Ok(Update { hop, cells: cells as u32 })
     }
 
     pub fn withdraw(&mut self, address: u32, length: u32) -> Result<Update, Refusal> {

@@ -14,8 +14,6 @@ pub enum Refusal {
     StrayBit = 4,
     /// The hop is 0 or over 65,535.
     HopOutOfRange = 5,
-    /// The prefix is already held.
-    AlreadyHeld = 6,
     /// The prefix is not held.
     NotHeld = 7,
     /// The list with the route added needs more arrays than there are.

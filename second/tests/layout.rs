@@ -17,7 +17,7 @@ fn sample() -> RouteList {
         (0xFFFF_FFFF, 32, 7),
     ];
     for (address, length, hop) in routes {
-        assert!(list.add(Prefix { address, length }, hop));
+        assert_eq!(list.set(Prefix { address, length }, hop), None);
     }
     list
 }

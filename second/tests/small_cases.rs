@@ -103,12 +103,19 @@ fn four_arrays_are_used_again() {
 }
 
 #[test]
-fn held_and_not_held_come_before_room() {
-    let mut memory = table(1);
-    memory.announce(0, 0, 7).unwrap();
-    assert_eq!(memory.announce(0, 0, 8), Err(Refusal::AlreadyHeld));
-    assert_eq!(memory.withdraw(0, 1), Err(Refusal::NotHeld));
-    assert_eq!(memory.check(), Ok(Counts { routes: 1, arrays: 1 }));
+fn a_second_announcement_replaces() {
+    let mut memory = table(3);
+    memory.announce(ip(10, 1, 0, 0), 20, 1).unwrap();
+    memory.announce(ip(10, 1, 4, 0), 22, 2).unwrap();
+    assert_eq!(memory.announce(ip(11, 0, 0, 0), 9, 1), Err(Refusal::NoRoom));
+    assert_eq!(memory.announce(ip(10, 1, 0, 0), 20, 3), Ok(Update { hop: 3, cells: 12 }));
+    assert_eq!(memory.announce(ip(10, 1, 0, 0), 20, 3), Ok(Update { hop: 3, cells: 0 }));
+    assert_eq!(memory.announce(ip(10, 1, 0, 0), 20, 0), Err(Refusal::HopOutOfRange));
+    let hop = |address| memory.lookup(address).unwrap().unwrap().hop;
+    assert_eq!((hop(ip(10, 1, 5, 9)), hop(ip(10, 1, 8, 1))), (2, 3));
+    assert_eq!(memory.check(), Ok(Counts { routes: 2, arrays: 3 }));
+    assert_eq!(memory.withdraw(ip(10, 1, 0, 0), 20), Ok(Update { hop: 3, cells: 12 }));
+    assert_eq!(memory.withdraw(ip(10, 1, 0, 0), 20), Err(Refusal::NotHeld));
 }
 
 #[test]

@@ -5,7 +5,7 @@ use std::fmt;
 
 /// Why a call refused. A refused call has changed nothing that was lent to it.
 ///
-/// Where several apply, the first in this order is given: 1, 3, 4, 5, 2, 6 or 7, 8 or 9.
+/// Where several apply, the first in this order is given: 1, 3, 4, 5, 2, 7, 8 or 9. There is no 6.
 #[derive(Clone, Copy, Debug, PartialEq, Eq, Hash)]
 #[repr(u8)]
 pub enum Refusal {
@@ -19,24 +19,21 @@ pub enum Refusal {
     StrayBit = 4,
     /// 5: the hop is 0 or over 65,535.
     HopOutOfRange = 5,
-    /// 6: the prefix is already held; its hop stays.
-    AlreadyHeld = 6,
     /// 7: the prefix is not held.
     NotHeld = 7,
-    /// 8: the list with the route added needs more arrays than the words have.
+    /// 8: the prefix is not held, and the list with the route added needs more arrays than the words have.
     NoRoom = 8,
     /// 9: the buffer is too short for the written list.
     BufferShort = 9,
 }
 
 impl Refusal {
-    const ALL: [Refusal; 9] = [
+    const ALL: [Refusal; 8] = [
         Refusal::WordCount,
         Refusal::NotATable,
         Refusal::LengthOver32,
         Refusal::StrayBit,
         Refusal::HopOutOfRange,
-        Refusal::AlreadyHeld,
         Refusal::NotHeld,
         Refusal::NoRoom,
         Refusal::BufferShort,
@@ -53,7 +50,7 @@ impl Refusal {
     /// use toggleash::Refusal;
     ///
     /// assert_eq!(Refusal::from_number(8), Some(Refusal::NoRoom));
-    /// assert_eq!(Refusal::from_number(0), None);
+    /// assert_eq!(Refusal::from_number(6), None);
     /// ```
     pub fn from_number(number: u32) -> Option<Refusal> {
         Refusal::ALL.into_iter().find(|refusal| u32::from(refusal.number()) == number)
@@ -68,7 +65,6 @@ impl fmt::Display for Refusal {
             Refusal::LengthOver32 => "the length is over 32",
             Refusal::StrayBit => "a bit after the length is set",
             Refusal::HopOutOfRange => "the hop is 0 or over 65,535",
-            Refusal::AlreadyHeld => "the prefix is already held",
             Refusal::NotHeld => "the prefix is not held",
             Refusal::NoRoom => "the table has no room for the route",
             Refusal::BufferShort => "the buffer is too short for the written list",
@@ -102,7 +98,8 @@ pub struct Match {
 pub struct Update {
     /// The hop announced, or the one that the withdrawn route had.
     pub hop: u32,
-    /// The cells of the route's array that it covers and no longer route of that array does, from 0 to 256.
+    /// The cells of the route's array that it covers and no longer route of that array does, from 0 to 256; 0 where an
+    /// announcement finds its prefix held with the same hop.
     pub cells: u32,
 }
 

@@ -94,7 +94,8 @@ pub fn lookup(words: &[u32], address: Ipv4Addr) -> Result<Option<Match>, Refusal
     Ok((answer.found != 0).then_some(Match { hop: answer.hop, length: answer.length }))
 }
 
-/// Adds a route. Any length and hop may be given; those that no route has are refused.
+/// Adds a route, or gives a held prefix this hop, for which there is always room. Any length and hop may be given; those
+/// that no route has are refused.
 ///
 /// ```
 /// use std::net::Ipv4Addr;
@@ -104,7 +105,8 @@ pub fn lookup(words: &[u32], address: Ipv4Addr) -> Result<Option<Match>, Refusal
 /// let mut words = vec![0; 2_048];
 /// clear(&mut words)?;
 /// assert_eq!(announce(&mut words, Ipv4Addr::UNSPECIFIED, 0, 9), Ok(Update { hop: 9, cells: 256 }));
-/// assert_eq!(announce(&mut words, Ipv4Addr::UNSPECIFIED, 0, 9), Err(Refusal::AlreadyHeld));
+/// assert_eq!(announce(&mut words, Ipv4Addr::UNSPECIFIED, 0, 8), Ok(Update { hop: 8, cells: 256 }));
+/// assert_eq!(announce(&mut words, Ipv4Addr::UNSPECIFIED, 0, 8), Ok(Update { hop: 8, cells: 0 }));
 /// assert_eq!(announce(&mut words, Ipv4Addr::new(10, 0, 0, 0), 9, 9), Err(Refusal::NoRoom));
 /// assert_eq!(announce(&mut words, Ipv4Addr::new(10, 0, 0, 0), 33, 9), Err(Refusal::LengthOver32));
 /// # Ok(())
@@ -113,7 +115,7 @@ pub fn lookup(words: &[u32], address: Ipv4Addr) -> Result<Option<Match>, Refusal
 ///
 /// # Errors
 /// In this order [`Refusal::WordCount`], [`Refusal::LengthOver32`], [`Refusal::StrayBit`],
-/// [`Refusal::HopOutOfRange`], [`Refusal::NotATable`], [`Refusal::AlreadyHeld`], [`Refusal::NoRoom`].
+/// [`Refusal::HopOutOfRange`], [`Refusal::NotATable`], [`Refusal::NoRoom`].
 pub fn announce(words: &mut [u32], address: Ipv4Addr, length: u32, hop: u32) -> Result<Update, Refusal> {
     updated(unsafe { ffi::toggleash_announce(words.as_mut_ptr(), words.len(), address.into(), length, hop) })
 }

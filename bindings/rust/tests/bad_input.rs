@@ -3,7 +3,7 @@
 use std::net::Ipv4Addr;
 
 use toggleash::{announce, check, clear, lookup, run, withdraw, words_for, write_out};
-use toggleash::{Counts, Refusal, Stop};
+use toggleash::{Counts, Refusal, Stop, Update};
 
 const ZERO: Ipv4Addr = Ipv4Addr::UNSPECIFIED;
 const TEN: Ipv4Addr = Ipv4Addr::new(10, 0, 0, 0);
@@ -68,7 +68,10 @@ fn lengths_and_hops() {
         assert_eq!(refused(&mut words, |w| announce(w, TEN, 8, hop)), Refusal::HopOutOfRange, "{hop}");
     }
     assert_eq!(announce(&mut words, TEN, 8, 65_535).unwrap().hop, 65_535);
-    assert_eq!(refused(&mut words, |w| announce(w, TEN, 8, 1)), Refusal::AlreadyHeld);
+    assert_eq!(announce(&mut words, TEN, 8, 1), Ok(Update { hop: 1, cells: 1 }));
+    let held = words.clone();
+    assert_eq!(announce(&mut words, TEN, 8, 1), Ok(Update { hop: 1, cells: 0 }));
+    assert_eq!(words, held);
     assert_eq!(refused(&mut words, |w| withdraw(w, TEN, 9)), Refusal::NotHeld);
 }
 
@@ -87,10 +90,12 @@ fn words_that_are_no_table() {
 
 #[test]
 fn refusals_speak() {
-    for number in 1..=9 {
+    for number in [1, 2, 3, 4, 5, 7, 8, 9] {
         let refusal = Refusal::from_number(number).unwrap();
         assert_eq!(u32::from(refusal.number()), number);
         assert!(refusal.to_string().starts_with(&format!("refused {number}: ")));
     }
-    assert_eq!((Refusal::from_number(0), Refusal::from_number(10)), (None, None));
+    for number in [0, 6, 10, 256 + 1] {
+        assert_eq!(Refusal::from_number(number), None);
+    }
 }

@@ -44,9 +44,9 @@ module _ (W A : ℕ) where
       rw (
         le-ltb W (y .len) (p .wf .fits),
         p .wf .clean,
+        hop-above 0 (key y) (key y) xs w (omega arith),
         ne-eqb (y .hop) 0 (λ e. (let z = p .wf .some in omega arith)),
         le-ltb 65535 (y .hop) (p .low),
-        hop-above 0 (key y) (key y) xs w (omega arith),
         le-ltb A (need W (insert y xs)) g,
       )
 

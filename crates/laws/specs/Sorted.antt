@@ -119,3 +119,9 @@ ext lo (x ∷ xs) (y ∷ ys) f g p q h =
     (λ t _. hop-below (suc (key x)) k xs (f .1) (omega arith) ∙ sym (hop-below (suc (key y)) k ys (g .1) (omega arith)))
     (λ n _. sym (hop-skip x xs k n) ∙ h k ∙ hop-skip y ys k (omega arith)))))
     (λ l _ _. (let z = hop-below (key x) (key y) (x ∷ xs) (le-refl _, f .1) l in absurd (omega arith)))
+
+-- a route that is held already changes nothing
+pub insert-held : (r : Route) (rs : List Route) → From 0 rs → All Good rs → Good r → hopAt rs (key r) ≡ r .hop → insert r rs ≡ rs
+insert-held r rs f p g h =
+    ext 0 (insert r rs) rs (insert-from 0 r rs (omega arith) f) f (all-insert Good r rs g p) p (λ k.
+    same (key r) k (λ e _. rw (← e) (insert-same r rs ∙ sym h)) (λ n _. insert-other r rs k n))

@@ -44,7 +44,7 @@ plain-done (refused n) = refl
 
 -- what the hop x held says to an update that is not faulty, cells and room excepted
 abbrev by : ℕ → Update → Reply
-by x (announce a l h) = refuse 6 (not (eqb x 0)) (done h 0)
+by x (announce a l h) = done h 0
 by x (withdraw a l) = refuse 7 (eqb x 0) (done x 0)
 
 module _ (W : ℕ) where
@@ -188,7 +188,7 @@ module _ (W : ℕ) where
         let g : Good (route a l h) = good-hop a l h e c in
         let i : need W (insert (route a l h) rs) ≤ need W N = need-le W N (insert (route a l h) rs) (under-insert N rs a l h g (f .good) m (rw (e, d)) (f .under)) (W / 8 - 1) in
         rw (e, d, c, le-ltb A (need W (insert (route a l h) rs)) (omega arith))
-        (bool (not (eqb (hopAt rs (a * 256 + l)) 0)) (λ b. rw b) (λ b. rw b)))))
+        (bool (eqb (hopAt rs (a * 256 + l)) 0) (λ b. rw b) (λ b. rw b)))))
     answer-plain A N rs (withdraw a l) r m f =
         bool (tooLong W l) (λ e. rw e) (λ e.
         bool (stray W a l) (λ d. rw (e, d)) (λ d.

@@ -1,5 +1,5 @@
 -- What any lent words are seen to be, and what each call then answers and leaves: by this view, and by nothing of the layout.
--- The order of refusals is 1, 3, 4, 5, 2, 6 or 7, 8 or 9. Assumes nothing.
+-- The order of refusals is 1, 3, 4, 5, 2, 7, 8 or 9. Assumes nothing.
 use mathlib.Core.Bool.{Bool, true, false, cond, not, _||_}
 use mathlib.Core.List.{List, [], _∷_, _++_}
 use Prim.Native.Nat.{ℕ, _+_, _-_, _*_, _/_, _%_}

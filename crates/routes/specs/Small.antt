@@ -72,8 +72,14 @@ further =
     ∷ row 1 [] (put (ip 10 0 0 0) 8 65536) (refused 5) 1
     ∷ row 1 [] (put (ip 10 0 0 0) 8 65535) (done 65535 1) 1
     ∷ row 1 (announce (ip 10 0 0 0) 8 5 ∷ []) (put (ip 10 0 0 0) 8 65536) (refused 5) 1
-    -- 6 before 8, and 7
-    ∷ row 1 (announce (ip 10 0 0 0) 8 5 ∷ []) (put (ip 10 0 0 0) 8 6) (refused 6) 1
+    -- a second announcement replaces: its cells with another hop, none with the same, and room even where every array is used
+    ∷ row 1 (announce (ip 10 0 0 0) 8 5 ∷ []) (put (ip 10 0 0 0) 8 6) (done 6 1) 1
+    ∷ row 1 (announce (ip 10 0 0 0) 8 5 ∷ []) (put (ip 10 0 0 0) 8 5) (done 5 0) 1
+    ∷ row 3 (announce (ip 10 1 0 0) 20 5 ∷ announce (ip 10 1 4 0) 22 6 ∷ []) (put (ip 10 1 0 0) 20 7) (done 7 12) 3
+    ∷ row 3 (announce (ip 10 1 0 0) 20 5 ∷ announce (ip 10 1 4 0) 22 6 ∷ announce (ip 10 1 0 0) 20 7 ∷ []) (lookup (ip 10 1 5 9)) (found 6 22) 3
+    ∷ row 3 (announce (ip 10 1 0 0) 20 5 ∷ announce (ip 10 1 4 0) 22 6 ∷ announce (ip 10 1 0 0) 20 7 ∷ []) (lookup (ip 10 1 8 9)) (found 7 20) 3
+    ∷ row 3 (announce (ip 10 1 0 0) 20 5 ∷ announce (ip 10 1 0 0) 20 7 ∷ []) (update (withdraw (ip 10 1 0 0) 20)) (done 7 16) 1
+    -- 7
     ∷ row 1 (announce (ip 10 0 0 0) 8 5 ∷ []) (update (withdraw (ip 10 0 0 0) 7)) (refused 7) 1
     -- a withdrawal with a length of 33, and with a bit after the length
     ∷ row 1 [] (update (withdraw (ip 10 0 0 0) 33)) (refused 3) 1

@@ -2,7 +2,7 @@
 -- Assumes nothing.
 use mathlib.Core.Path.{_≡_, refl, sym, ap, ap₂, _∙_}
 use mathlib.Core.Logic.{_⊎_, _≢_, inl, inr, ⊎-elim}
-use mathlib.Core.Bool.{false, not, false≢true}
+use mathlib.Core.Bool.{false, false≢true}
 use mathlib.Core.List.{List}
 use Prim.Native.Nat.{ℕ, zero, suc, _+_, _-_, _*_, _/_, _^_, _≤_, _<_}
 use native.Mathlib.Omega.{arith}
@@ -14,8 +14,10 @@ use Rattle.routes.specs.Route.{Route, route, insert}
 use Rattle.routes.specs.Route as list
 use Rattle.routes.specs.Room.{needTo, need}
 use Rattle.routes.specs.Cells.{cells}
-use Rattle.routes.specs.Answers.{Update, announce, done, refused, verdict}
-use Rattle.laws.specs.Collect.{routes, routeOf}
+use Rattle.routes.specs.Answers.{Update, announce, done, refused, lacking, verdict}
+use Rattle.laws.specs.Cases.{bool, same}
+use Rattle.laws.specs.Sorted.{insert-same, insert-held}
+use Rattle.laws.specs.Collect.{routes, routeOf, routes-from, routes-goods}
 use Rattle.array.specs.Block.{Right}
 use Rattle.arrays.specs.Arrays.{Arrays, node, held, HasSlot, HasLink}
 use Rattle.arrays.specs.Words.{arraysOf, arrayCount, Almost}
@@ -38,7 +40,7 @@ use Rattle.update.specs.Spared.{spared-hung}
 
 -- a refusal leaves the words
 pub refuses : (L : ℕ) (ws : List ℕ) (u : Update) (n : ℕ) → Table L ws → refused n ≡ verdict (8 * L) (arrayCount ws) (listOf L ws) u → Applies L ws ws u (Refused n)
-refuses L ws u n ok e = record { answer = e; table = ok; size = refl; list = refl; kept = λ _. refl; frame = λ c h n w b. refl }
+refuses L ws u n ok e = record { answer = e; table = ok; size = refl; list = refl; kept = λ _. refl; still = λ _. refl; frame = λ c h n w b. refl }
 
 -- what is held alike is one list
 pub same-list : (W : ℕ) (f g : ℕ → ℕ → ℕ) → ((v l : ℕ) → f v l ≡ g v l) → routes W f ≡ routes W g
@@ -54,11 +56,27 @@ count-of zero ws ok = absurd (omega (arith, ok .shape .some-level))
 count-of (suc J) ws ok = let e : suc J - 1 ≡ J = omega arith in rw e (count-need Right J ws ok)
 
 module _ {L : ℕ} {ws : List ℕ} {a l k d x j b : ℕ} (s : Sought L ws a l k d x j b) (h : ℕ) where
-  -- 6: the prefix is held
-  pub announce-held : hopFound ws b j k d x ≢ 0 → Applies L ws ws (announce a l h) (Refused 6)
-  announce-held n = refuses L ws (announce a l h) 6 (s .ok) (rw (ne-eqb (list.held (listOf L ws) a l) 0 (λ z. n (sought-held s ∙ z))))
+  wide : 8 * L < 256
+  wide = omega (arith, s .ok .shape .levels)
 
-  module _ (free : hopFound ws b j k d x ≡ 0) (hop : 1 ≤ h) where
+  -- this hop is held already: the list with the route is the list
+  pub announce-same : hopFound ws b j k d x ≡ h → 1 ≤ h → Applies L ws ws (announce a l h) (Done h 0)
+  announce-same e hop =
+      let q : list.held (listOf L ws) a l ≡ h = sym (sought-held s) ∙ e in
+      record {
+        answer = rw (ne-eqb (list.held (listOf L ws) a l) 0 (λ z. omega arith), eq-eqb h (list.held (listOf L ws) a l) (sym q));
+        table = s .ok;
+        size = refl;
+        list =
+            sym (insert-held (route a l h) (listOf L ws) (routes-from (8 * L) wide (held (arraysOf ws))) (routes-goods (8 * L) wide (held (arraysOf ws)))
+            (record { pos = hop; short = omega (arith, wide, s .prefix .fits) }) q);
+        kept = λ _. refl;
+        still = λ _. refl;
+        frame = λ c h n w b. refl;
+      }
+
+  -- it is not: the prefix is not held, or held with another hop
+  module _ (other : hopFound ws b j k d x ≢ h) (hop : 1 ≤ h) where
     same-route : routeOf (8 * L - (8 * k + d)) (front L a k * 2 ^ d + x) (8 * k + d) h ≡ route a l h
     same-route = stands-route L a l k d x (s .stands) (s .prefix) (s .inside) h
 
@@ -71,15 +89,14 @@ module _ {L : ℕ} {ws : List ℕ} {a l k d x j b : ℕ} (s : Sought L ws a l k 
         (stands-head L a l k d x (s .stands) (s .prefix) (s .inside)) (stands-small L a l k d x (s .stands) (s .prefix) (s .inside)) (L - 1) (omega (arith, s .ok .shape .some-level)) hop
         ∙ ap₂ _+_ (sym (count-of L ws (s .ok))) (stops-missing L ws a (s .ok .shape) k j b (s .stands .top) (s .stops))
 
-    not-held : not (eqb (list.held (listOf L ws) a l) 0) ≡ false
-    not-held = rw (eq-eqb (list.held (listOf L ws) a l) 0 (sym (sought-held s) ∙ free))
-
     module _ (vs : List ℕ) (r : ℕ) (o : Opened L ws vs a j k r) where
-      -- 8: there is no room
+      -- 8: there is no room. The path lacks an array then, so the prefix is not held
       pub announce-full : r ≡ 0 → Applies L ws vs (announce a l h) (Refused 8)
       announce-full z =
           let w = o .none z in
-          rw (w .0) (refuses L ws (announce a l h) 8 (s .ok) (rw (not-held, needs, lt-ltb (arrayCount ws) (getD ws 0 0 + (k - j)) (w .1))))
+          let free : hopFound ws b j k d x ≡ 0 = same j k (λ e _. absurd (omega (arith, w .1, s .ok .header .count, used-full (arraysOf ws) 0 (arrayCount ws)))) (λ _ t. rw t) in
+          rw (w .0) (refuses L ws (announce a l h) 8 (s .ok)
+          (rw (eq-eqb (list.held (listOf L ws) a l) 0 (sym (sought-held s) ∙ free), needs, lt-ltb (arrayCount ws) (getD ws 0 0 + (k - j)) (w .1))))
 
       -- the path is open, and its last array has a seat for the route
       module _ (some : r ≢ 0) where
@@ -103,6 +120,11 @@ module _ {L : ℕ} {ws : List ℕ} {a l k d x j b : ℕ} (s : Sought L ws a l k 
             let e : arrayCount vs ≡ arrayCount ws = ap (λ (z : ℕ). z / 1024 - 1) (g .size) in
             omega (arith, needs, g .count, g .ok .header .count, used-full (arraysOf vs) 0 (arrayCount vs))
 
+        roomy : lacking (8 * L) (arrayCount ws) (listOf L ws) a l h ≡ false
+        roomy =
+            let e = le-ltb (arrayCount ws) (need (8 * L) (insert (route a l h) (listOf L ws))) room in
+            bool (eqb (list.held (listOf L ws) a l) 0) (λ t. rw (t, e)) (λ t. rw t)
+
         module _ (us : List ℕ) (c : ℕ) (p : Seated vs us r d x h c) where
           -- the array is not empty
           filled : 2 ≤ r → HasSlot (arraysOf us) r ⊎ HasLink (arraysOf us) r
@@ -116,21 +138,22 @@ module _ {L : ℕ} {ws : List ℕ} {a l k d x j b : ℕ} (s : Sought L ws a l k 
           slotted : Slotted (arraysOf vs) (arraysOf us) r (2 ^ d + x) h
           slotted = reslot-slotted Right best-local L r vs us r (2 ^ d + x) h (g .some) (p .slot)
 
+          with-route : listOf L us ≡ insert (route a l h) (listOf L ws)
+          with-route =
+              slotted-insert (arrayCount vs) L (arraysOf vs) (arraysOf us) r (front L a k) k d x h (g .ok .shape) place
+              slotted (8 * L) wide (omega (arith, s .stands .top, s .stands .deep)) hop
+              ∙ ap₂ insert same-route same-before
+
           pub announce-done : Applies L ws us (announce a l h) (Done h c)
           announce-done = record {
             answer =
-                rw (not-held, le-ltb (arrayCount ws) (need (8 * L) (insert (route a l h) (listOf L ws))) room)
+                rw (roomy, ne-eqb h (list.held (listOf L ws) a l) (λ z. other (sought-held s ∙ sym z)))
                 (ap (done h) (p .count ∙ cells-exposed L (arraysOf vs) r (front L a k) k wide (s .stands .top) (g .leads) (g .some) (place .head) d x h (place .deep) (place .own) (place .small)
                 ∙ ap₂ (cells (8 * L)) same-route same-before));
             table = almost-whole Right L r us almost filled;
             size = p .slot .size ∙ g .size;
-            list =
-                slotted-insert (arrayCount vs) L (arraysOf vs) (arraysOf us) r (front L a k) k d x h (g .ok .shape) place
-                slotted (8 * L) wide (omega (arith, s .stands .top, s .stands .deep)) hop
-                ∙ ap₂ insert same-route same-before;
+            list = with-route;
             kept = λ e. absurd (false≢true e);
+            still = λ e. absurd (other (sought-held s ∙ ap (λ (rs : List Route). list.held rs a l) (sym e ∙ with-route) ∙ insert-same (route a l h) (listOf L ws)));
             frame = λ c h n. spared-hung (s .ok .shape) (s .stands .top) (s .stops) g (p .slot) slotted c h (rw (stands-level L a l k d x (s .stands)) at n);
           }
-            where
-              wide : 8 * L < 256
-              wide = omega (arith, s .ok .shape .levels)

@@ -9,7 +9,7 @@ use lib.Dec.{eqb}
 use lib.ListN.{length}
 use borrow.Author.Tests.{ne-eqb}
 use Rattle.laws.specs.Cases.{bool, less, same}
-use Rattle.routes.specs.Route.{tooLong, stray, badHop}
+use Rattle.routes.specs.Route.{Route, tooLong, stray, badHop}
 use Rattle.routes.specs.Answers.{Update, announce, withdraw, Reply, refused, faulty, verdict, answer}
 use Rattle.routes.specs.Seen.{Seen, misfit, foreign, table, misfits, answerOn, afterOn}
 use Rattle.arrays.specs.Words.{arrayCount}
@@ -23,7 +23,7 @@ use Rattle.update.specs.Update.{faultOf, Updates, Applies}
 
 -- a refusal that leaves the words
 refuses : (ws : List ℕ) (u : Update) (n : ℕ) → answerOn 32 (seen 4 ws) u ≡ refused n → Updates ws ws u (Refused n)
-refuses ws u n e = record { answer = sym e; list = stays (seen 4 ws) e; kept = λ _. refl; frame = λ c h n w b. refl }
+refuses ws u n e = record { answer = sym e; list = stays (seen 4 ws) e; kept = λ _. refl; still = λ _. refl; frame = λ c h n w b. refl }
   where
     stays : (s : Seen) → answerOn 32 s u ≡ refused n → s ≡ afterOn 32 s u
     stays misfit e = refl
@@ -94,8 +94,12 @@ applied ws vs u r t f p = record {
   answer = rw (seen-table 4 ws t) (p .answer ∙ sym none);
   list = rw (seen-table 4 vs (p .table), seen-table 4 ws t, none) (ap₂ table (ap (λ (n : ℕ). n / 1024 - 1) (p .size)) (p .list ∙ rw (p .answer)));
   kept = p .kept;
+  still = λ e. p .still (held-in (rw (seen-table 4 vs (p .table), seen-table 4 ws t) at e));
   frame = p .frame;
 }
   where
+    held-in : {A B : ℕ} {xs ys : List Route} → table A xs ≡ table B ys → xs ≡ ys
+    held-in e = cc
+
     none : faulty 32 u (verdict 32 (arrayCount ws) (listOf 4 ws) u) ≡ verdict 32 (arrayCount ws) (listOf 4 ws) u
     none = faulty-by 32 u (verdict 32 (arrayCount ws) (listOf 4 ws) u) ∙ rw f

@@ -1,5 +1,5 @@
--- What announce and withdraw promise. An answer is a reply of document 01; the words are seen before and after; what is refused changes
--- nothing. Assumes nothing.
+-- What announce and withdraw promise. An answer is a reply of document 01; the words are seen before and after; what is refused, or
+-- leaves the list as it is, changes nothing. Assumes nothing.
 use mathlib.Core.Path.{_≡_}
 use mathlib.Core.Bool.{true, cond}
 use mathlib.Core.List.{List}
@@ -44,6 +44,7 @@ pub record Updates (ws vs : List ℕ) (u : Update) (r : Updated) : Type 0 where
   pub answer : told r ≡ answerOn 32 (seen 4 ws) u
   pub list : seen 4 vs ≡ afterOn 32 (seen 4 ws) u
   pub kept : isRefused (told r) ≡ true → vs ≡ ws
+  pub still : seen 4 vs ≡ seen 4 ws → vs ≡ ws
   pub frame : (c : ℕ) → 1 ≤ c → ¬ Touches 4 u ws vs c → Alike ws vs c
 
 -- ---- the same of a table, once the update itself is without fault
@@ -55,6 +56,7 @@ pub record Applies (L : ℕ) (ws vs : List ℕ) (u : Update) (r : Updated) : Typ
   pub size : length vs ≡ length ws
   pub list : listOf L vs ≡ cond (isDone (told r)) (changed u (listOf L ws)) (listOf L ws)
   pub kept : isRefused (told r) ≡ true → vs ≡ ws
+  pub still : listOf L vs ≡ listOf L ws → vs ≡ ws
   pub frame : (c : ℕ) → 1 ≤ c → ¬ Touches L u ws vs c → Alike ws vs c
 
 -- the number of the first fault of an update itself, 0 where it has none

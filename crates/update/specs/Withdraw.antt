@@ -13,7 +13,8 @@ use Rattle.routes.specs.Route.{Route, route, key, remove}
 use Rattle.routes.specs.Route as list
 use Rattle.routes.specs.Cells.{cells}
 use Rattle.routes.specs.Answers.{withdraw, done}
-use Rattle.laws.specs.Collect.{routeOf}
+use Rattle.laws.specs.Sorted.{remove-same}
+use Rattle.laws.specs.Collect.{routeOf, routes-from}
 use Rattle.array.specs.Block.{Right}
 use Rattle.arrays.specs.Arrays.{held}
 use Rattle.arrays.specs.Words.{arraysOf, arrayCount, slotsOf}
@@ -90,12 +91,9 @@ module _ {L : ℕ} {ws : List ℕ} {a l k d x j b : ℕ} (s : Sought L ws a l k 
             ∙ ap (λ (r : Route). cells (8 * L) r (listOf L ws)) same-route));
         table = pu .ok;
         size = pu .freed .size ∙ p .slot .size;
-        list =
-            same-list (8 * L) (held (arraysOf us)) (held (arraysOf vs)) (pu .freed .held)
-            ∙ slotted-remove (arrayCount ws) L (arraysOf ws) (arraysOf vs) b (front L a k) k d x 0 (s .ok .shape) place
-            slotted (8 * L) wide (omega (arith, s .stands .top, s .stands .deep)) refl
-            ∙ ap (λ (r : Route). remove (key r) (listOf L ws)) same-route;
+        list = without-route;
         kept = λ e. absurd (false≢true e);
+        still = λ e. absurd (some (sought-held s ∙ ap (λ (rs : List Route). list.held rs a l) (sym e ∙ without-route) ∙ remove-same 0 (a * 256 + l) (listOf L ws) (routes-from (8 * L) wide (held (arraysOf ws)))));
         frame = λ c h n. spared-freed (withdraw-loose .ok .shape) (pu .ok .shape) (s .stands .top) on (p .slot) slotted (pu .freed) deep c h (rw (stands-level L a l k d x (s .stands)) at n);
       }
         where
@@ -108,3 +106,10 @@ module _ {L : ℕ} {ws : List ℕ} {a l k d x j b : ℕ} (s : Sought L ws a l k 
 
           same-route : routeOf (8 * L - (8 * k + d)) (front L a k * 2 ^ d + x) (8 * k + d) 0 ≡ route a l 0
           same-route = stands-route L a l k d x (s .stands) (s .prefix) (s .inside) 0
+
+          without-route : listOf L us ≡ remove (a * 256 + l) (listOf L ws)
+          without-route =
+              same-list (8 * L) (held (arraysOf us)) (held (arraysOf vs)) (pu .freed .held)
+              ∙ slotted-remove (arrayCount ws) L (arraysOf ws) (arraysOf vs) b (front L a k) k d x 0 (s .ok .shape) place
+              slotted (8 * L) wide (omega (arith, s .stands .top, s .stands .deep)) refl
+              ∙ ap (λ (r : Route). remove (key r) (listOf L ws)) same-route

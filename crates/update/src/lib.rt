@@ -79,7 +79,7 @@ fn clear(words: &mut [u32], a: usize, p: paths::Place) -> array::Taken
     array::take(&mut words[from..to], k, d, x)
 }
 
-// A route announced to a table.
+// A route announced to a table. A hop that is held already changes no word; another replaces the one held, in the array that is there.
 pub fn announce_in(words: &mut [u32], address: u32, length: u32, hop: u32) -> Updated
     requires { ⌜ Table 4 (now words) × IsPrefix 4 address length × (1 ≤ hop) × (hop ≤ 65535) ⌝ }
     ensures { λ r. ⌜ Applies 4 (now (words .entry)) (now (words .exit)) (announced address length hop) r ⌝ }
@@ -87,8 +87,8 @@ pub fn announce_in(words: &mut [u32], address: u32, length: u32, hop: u32) -> Up
     let p = paths::place_of(address, length);
     let k = p.level;
     let s = paths::walk_down(words, address, k);
-    if paths::hop_at(words, s, p) != 0 {
-        return Updated::Refused(6);
+    if paths::hop_at(words, s, p) == hop {
+        return Updated::Done(hop, 0);
     }
     let b = s.array;
     let j = s.level;
@@ -117,7 +117,7 @@ pub fn withdraw_in(words: &mut [u32], address: u32, length: u32) -> Updated
     Updated::Done(t.hop, t.cells)
 }
 
-// A route announced: refused by the first of 1, 3, 4, 5, 2, 6 and 8 that applies, or held afterwards.
+// A route announced: refused by the first of 1, 3, 4, 5, 2 and 8 that applies, or held afterwards.
 pub fn announce(words: &mut [u32], address: u32, length: u32, hop: u32) -> Updated
     ensures { λ r. ⌜ Updates (now (words .entry)) (now (words .exit)) (announced address length hop) r ⌝ }
 {

@@ -87,7 +87,7 @@ fn collect(arrays: &Arrays, a: usize, level: u32, head: u32, list: &mut RouteLis
             let value = slot as u32 - (1 << bits);
             let length = 8 * level + bits;
             let address = (u64::from(value) << (32 - length)) as u32;
-            list.add(Prefix { address: head | address, length }, hop);
+            list.set(Prefix { address: head | address, length }, hop);
         }
     }
     for cell in 0..256 {

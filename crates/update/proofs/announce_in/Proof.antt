@@ -1,11 +1,12 @@
--- `update::announce_in` meets its contract. The walk tells where the prefix stands and whether it is held; `open` refuses for room or hangs
--- the arrays that the path lacks, the last of them the one that may be empty; the slot set in it makes a table again. Assumes nothing.
+-- `update::announce_in` meets its contract. The walk tells where the prefix stands and which hop it has; `open` refuses for room or hangs
+-- the arrays that the path lacks, none where the prefix is held, the last of them the one that may be empty; the slot set in it makes a
+-- table again. Assumes nothing.
 use mathlib.Core.Path.{sym, _∙_}
 use native.Mathlib.Omega.{arith}
 use lib.Dec.{lit≤}
 use borrow.Author.Needs.{needs}
 use Rattle.paths.specs.Held.{Sought, stands-small}
-use Rattle.update.specs.Announce.{announce-held, announce-full, announce-seat, announce-done}
+use Rattle.update.specs.Announce.{announce-same, announce-full, announce-seat, announce-done}
 use Rattle.update.proofs.announce_in.Statement.{statement}
 use Rattle.update.proofs.announce_in.Tie as tie
 
@@ -36,7 +37,7 @@ same-length c = search needs
 
 returns : tie.Need-returns
 returns c =
-    announce-held (sought (c .before)) (c .before .before .before .before .before .before .before .args .hop) (λ z. c .if1 .taken (c .before .hop-at .ensures ∙ z))
+    announce-same (sought (c .before)) (c .before .before .before .before .before .before .before .args .hop) (sym (c .before .hop-at .ensures) ∙ c .if1 .taken) (c .before .before .before .before .before .before .before .pre .2)
 
 open-requires : tie.Need-open-requires
 open-requires c κs = search needs
@@ -48,13 +49,13 @@ returns-2 : tie.Need-returns-2
 returns-2 c =
     let w = c .before .before .before .before .before .before in
     let o = c .before .before .before .«open» in
-    announce-full (sought w) (c .before .before .before .before .before .before .before .before .before .before .before .before .args .hop) (sym (w .hop-at .ensures) ∙ c .before .before .before .before .before .if1 .left) (c .before .before .before .before .before .before .before .before .before .before .before .before .pre .2) (o .last .0) (o .result) (o .ensures) (c .if2 .taken)
+    announce-full (sought w) (c .before .before .before .before .before .before .before .before .before .before .before .before .args .hop) (λ z. c .before .before .before .before .before .if1 .left (w .hop-at .ensures ∙ z)) (c .before .before .before .before .before .before .before .before .before .before .before .before .pre .2) (o .last .0) (o .result) (o .ensures) (c .if2 .taken)
 
 set-requires : tie.Need-set-requires
 set-requires c κs =
     let w = c .before .before .before .before .before .before .before in
     let o = c .before .before .before .before .«open» in (
-      announce-seat (sought w) (c .before .before .before .before .before .before .before .before .before .before .before .before .before .args .hop) (sym (w .hop-at .ensures) ∙ c .before .before .before .before .before .before .if1 .left) (c .before .before .before .before .before .before .before .before .before .before .before .before .before .pre .2) (o .last .0) (o .result) (o .ensures) (c .before .if2 .left) (lit≤ tt),
+      announce-seat (sought w) (c .before .before .before .before .before .before .before .before .before .before .before .before .before .args .hop) (λ z. c .before .before .before .before .before .before .if1 .left (w .hop-at .ensures ∙ z)) (c .before .before .before .before .before .before .before .before .before .before .before .before .before .pre .2) (o .last .0) (o .result) (o .ensures) (c .before .if2 .left) (lit≤ tt),
       c .before .before .before .before .before .before .before .before .before .before .before .before .before .pre .2,
       omega (arith, c .before .before .before .before .before .before .before .before .before .before .before .before .before .pre .3),
     )
@@ -66,7 +67,7 @@ returns-3 : tie.Need-returns-3
 returns-3 c =
     let w = c .before .before .before .before .before .before .before .before .before .before in
     let o = c .before .before .before .before .before .before .before .«open» in
-    announce-done (sought w) (c .before .before .before .before .before .before .before .before .before .before .before .before .before .before .before .before .args .hop) (sym (w .hop-at .ensures) ∙ c .before .before .before .before .before .before .before .before .before .if1 .left) (c .before .before .before .before .before .before .before .before .before .before .before .before .before .before .before .before .pre .2) (o .last .0) (o .result) (o .ensures) (c .before .before .before .before .if2 .left)
+    announce-done (sought w) (c .before .before .before .before .before .before .before .before .before .before .before .before .before .before .before .before .args .hop) (λ z. c .before .before .before .before .before .before .before .before .before .if1 .left (w .hop-at .ensures ∙ z)) (c .before .before .before .before .before .before .before .before .before .before .before .before .before .before .before .before .pre .2) (o .last .0) (o .result) (o .ensures) (c .before .before .before .before .if2 .left)
     (c .before .before .set .last .0) (c .before .before .set .result) (c .before .before .set .ensures)
 
 pub announce-in-spec : {M : Type 1} → statement M
