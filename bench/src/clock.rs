@@ -30,8 +30,8 @@ impl<'a> Way<'a> {
 }
 
 /// Measures the ways in turn, round after round, and prints the median time of each beside the ratio of the first,
-/// which is the library's. All ways must give the same number.
-pub fn measure(title: &str, rounds: usize, count: usize, mut ways: Vec<Way>) {
+/// which is the library's. All ways must give the same number. The medians are given too.
+pub fn measure(title: &str, rounds: usize, count: usize, mut ways: Vec<Way>) -> Vec<f64> {
     println!("{title}");
     let mut times = vec![Vec::new(); ways.len()];
     for round in 0..=rounds {
@@ -51,6 +51,7 @@ pub fn measure(title: &str, rounds: usize, count: usize, mut ways: Vec<Way>) {
     for (way, time) in ways.iter().zip(&medians) {
         println!("  {:<42}{time:>14.1} ns {:>10.3}", way.name, medians[0] / time);
     }
+    medians
 }
 
 fn median(times: &mut [f64]) -> f64 {

@@ -17,10 +17,10 @@ pub fn sparse(random: &mut Random, arrays: usize) -> Load {
     load("random list", &filled(random, arrays))
 }
 
-/// The same and then random routes inside the arrays, until there are so many.
+/// The same and then random routes, spread evenly over the arrays and in each over its lengths, until there are so many.
 pub fn dense(random: &mut Random, arrays: usize, routes: usize) -> Load {
     let mut growing = filled(random, arrays);
-    let heads: Vec<(u32, u32)> = growing.heads().collect();
+    let heads: Vec<(u32, u32)> = growing.heads().chain([(0, 0)]).collect();
     while growing.count() < routes {
         let (level, head) = random.pick(&heads);
         let length = 8 * level + random.within(1..=8) as u32;

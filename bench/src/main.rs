@@ -1,5 +1,5 @@
-//! Measures the library beside other ways of doing the same, all in one run: `bench/run`, or `bench/run --quick` for a
-//! rough look. A line gives the median time of one call and how much of it the library takes.
+//! Measures the library beside other ways of doing the same, all in one run: `bench/run`, `bench/run --quick` for a
+//! rough look, or `bench/run --runs` for the updates inside a run alone. A line gives the median time of one call and how much of it the library takes.
 
 mod clock;
 mod lists;
@@ -30,24 +30,34 @@ struct Scale {
 }
 
 fn main() {
-    let scale = match std::env::args().nth(1).as_deref() {
-        None => Scale { addresses: 10_000_000, rounds: 5 },
-        Some("--quick") => Scale { addresses: 500_000, rounds: 3 },
-        Some(_) => panic!("usage: bench/run [--quick]"),
+    let full = Scale { addresses: 10_000_000, rounds: 5 };
+    let (scale, all) = match std::env::args().nth(1).as_deref() {
+        None => (full, true),
+        Some("--quick") => (Scale { addresses: 500_000, rounds: 3 }, true),
+        Some("--runs") => (full, false),
+        Some(_) => panic!("usage: bench/run [--quick | --runs]"),
     };
     let mut random = Random::for_case(1, "bench", 0);
     let lpm = Lpm::open(2 * ROUTES as u32, 2 * ARRAYS as u32);
     println!("one call, median of {} rounds; last column: the library's time over this one's", scale.rounds);
-    for load in [lists::sparse(&mut random, ARRAYS), lists::dense(&mut random, ARRAYS, ROUTES)] {
-        lookups(&mut random, &scale, &load, lpm.as_ref());
-        updates(&mut random, &scale, &load, ARRAYS, lpm.as_ref());
-        whole(&scale, &load);
+    if all {
+        calls(&mut random, &scale, lpm.as_ref());
     }
-    for arrays in [7, 64] {
-        updates(&mut random, &scale, &lists::sparse(&mut Random::for_case(1, "small", 0), arrays), arrays, None);
-    }
+    inside_runs(&mut random, &scale, lpm.as_ref());
     if lpm.is_none() {
         println!("rte_lpm took no part: libdpdk-dev is not installed, or it did not start");
+    }
+}
+
+/// Each call by itself.
+fn calls(random: &mut Random, scale: &Scale, lpm: Option<&Lpm>) {
+    for load in [lists::sparse(random, ARRAYS), lists::dense(random, ARRAYS, ROUTES)] {
+        lookups(random, scale, &load, lpm);
+        updates(random, scale, &load, ARRAYS, lpm);
+        whole(scale, &load);
+    }
+    for arrays in [7, 64] {
+        updates(random, scale, &lists::sparse(&mut Random::for_case(1, "small", 0), arrays), arrays, None);
     }
 }
 
@@ -108,6 +118,69 @@ fn updates(random: &mut Random, scale: &Scale, load: &Load, arrays: usize, lpm: 
         ways.push(Way::new("DPDK's rte_lpm_delete, rte_lpm_add", || lpm.flap(&routes)));
     }
     measure(&title("update", load, "taken out and put back"), scale.rounds, 2 * count, ways);
+}
+
+/// Updates inside a run, for few arrays and many: where each update checks the table again, as single calls do, and where
+/// the run's start alone does. The last lines give updates a second.
+fn inside_runs(random: &mut Random, scale: &Scale, lpm: Option<&Lpm>) {
+    let dense =
+        [1, 64, ARRAYS].map(|arrays| Flaps::new(lists::dense(random, arrays, 16 * arrays), arrays, random, scale));
+    let sparse = [64, ARRAYS].map(|arrays| Flaps::new(lists::sparse(random, arrays), arrays, random, scale));
+    let mut rows = Vec::new();
+    for mut flaps in [Vec::from(dense), Vec::from(sparse)] {
+        let title = format!("the start checks, {}s, one run for each number of arrays", flaps[0].load.name);
+        let ways = flaps.iter_mut().map(|flaps| Way::new("toggleash_run", || flaps.run())).collect();
+        let after = measure(&title, scale.rounds, scale.addresses / 50, ways);
+        for (flaps, after) in flaps.iter_mut().zip(after) {
+            rows.push((flaps.load.name, flaps.arrays, [flaps.checked(scale), after, flaps.by_lpm(scale, lpm)]));
+        }
+    }
+    println!("updates a second inside a run");
+    println!("  {:<14}{:>6}{:>22}{:>20}{:>14}", "", "arrays", "each update checks", "the start checks", "rte_lpm");
+    for (name, arrays, times) in rows {
+        let [before, after, lpm] = times.map(|time| 1e9 / time);
+        println!("  {name:<14}{arrays:>6}{before:>22.0}{after:>20.0}{lpm:>14.0}");
+    }
+}
+
+/// Routes of a table that are taken out and put back.
+struct Flaps {
+    load: Load,
+    arrays: usize,
+    words: Vec<u32>,
+    routes: Vec<Route>,
+    feed: Vec<u8>,
+    reply: Vec<u8>,
+}
+
+impl Flaps {
+    fn new(load: Load, arrays: usize, random: &mut Random, scale: &Scale) -> Flaps {
+        let words = table(&load.list, arrays);
+        let routes: Vec<Route> = (0..scale.addresses / 100).map(|_| random.pick(load.list.routes())).collect();
+        let feed = routes.iter().flat_map(take_and_put).collect();
+        let reply = vec![0; 10 * routes.len()];
+        Flaps { load, arrays, words, routes, feed, reply }
+    }
+
+    fn run(&mut self) -> u64 {
+        accepted(toggleash::run(&mut self.words, &self.feed, &mut self.reply))
+    }
+
+    /// Nanoseconds of an update by single calls. These and rte_lpm take fewer of the routes, as they are slow.
+    fn checked(&mut self, scale: &Scale) -> f64 {
+        let routes = &self.routes[..(scale.addresses / 200 / self.arrays).clamp(4, 2_000)];
+        let ways = vec![Way::new("toggleash_withdraw, toggleash_announce", || flap(&mut self.words, routes))];
+        measure(&title("each update checks", &self.load, "single calls"), scale.rounds, 2 * routes.len(), ways)[0]
+    }
+
+    /// Nanoseconds of an update by rte_lpm, infinitely many where there is none.
+    fn by_lpm(&self, scale: &Scale, lpm: Option<&Lpm>) -> f64 {
+        let Some(lpm) = lpm else { return f64::INFINITY };
+        let routes = &self.routes[..(20 * self.arrays).min(self.routes.len())];
+        lpm.fill(&self.load.list);
+        let ways = vec![Way::new("DPDK's rte_lpm_delete, rte_lpm_add", || lpm.flap(routes))];
+        measure(&title("the same routes", &self.load, "rte_lpm"), scale.rounds, 2 * routes.len(), ways)[0]
+    }
 }
 
 fn accepted(ran: Result<toggleash::Ran, toggleash::Refusal>) -> u64 {

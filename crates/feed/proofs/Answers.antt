@@ -12,7 +12,8 @@ use Rattle.routes.specs.Bytes.{twoAt, fourAt}
 use Rattle.routes.specs.Runs.{size}
 use Rattle.routes.specs.Seen.{Seen, misfit, foreign, table, answerOn, afterOn, lookupOn}
 use Rattle.laws.specs.Turns.{size-pos}
-use Rattle.arrays.specs.Table.{seen}
+use Rattle.arrays.specs.Table.{Table, seen}
+use Rattle.arrays.specs.View.{seen-cases}
 use Rattle.update.specs.Update.{Updates, told as toldUpdate}
 use Rattle.update.specs.declared.Updated.{Updated}
 use Rattle.feed.specs.Turns.{IsTable, roomIn, listIn, told, Answered, announceAt, withdrawAt, lookupAt, here, Asks, one}
@@ -24,6 +25,11 @@ pub table-eq : (s : Seen) → IsTable s → s ≡ table (roomIn s) (listIn s)
 table-eq misfit t = absurd t
 table-eq foreign t = absurd t
 table-eq (table A rs) t = refl
+
+-- seen as one, they are one
+pub is-table : (ws : List ℕ) → IsTable (seen 4 ws) → Table 4 ws
+is-table ws t =
+    seen-cases 4 ws (omega arith) (omega arith) (λ _ e. absurd (rw e at t)) (λ _ _ e. absurd (rw e at t)) (λ _ _ k _. k)
 
 update-on : (s : Seen) (u : Update) → IsTable s → answerOn 32 s u ≡ reply 32 (roomIn s) (listIn s) (update u)
 update-on misfit u t = absurd t

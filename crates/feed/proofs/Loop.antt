@@ -15,13 +15,13 @@ use lib.Dec.{eqb}
 use Rattle.routes.specs.Answers.{reply, isDone, isRefused}
 use Rattle.routes.specs.Bytes.{replyBytes}
 use Rattle.routes.specs.Runs.{State, Ran as Outcome, size, tally, finish, halts, taken, runs, run}
-use Rattle.routes.specs.Seen.{Seen, misfit, foreign, table, gives, refuses, Counts, checkOn}
+use Rattle.routes.specs.Seen.{Seen, misfit, foreign, table, gives}
 use Rattle.laws.specs.Turns.{Clear, size-pos, halts-clear, runs-on, runs-stop, runs-enough}
 use Rattle.laws.specs.Encoded.{reply-short}
 use Rattle.arrays.specs.Table.{seen}
-use Rattle.audit.specs.Told.{toldCheck}
-use Rattle.audit.specs.declared.Checked.{Checked}
-use Rattle.audit.specs.declared.Checked.the-variants.{Counts as Counted, Refused as Failed}
+use Rattle.arrays.specs.View.{seen-table, seen-cases}
+use Rattle.update.specs.Update.{refusalOf}
+use Rattle.update.specs.Refuse.{refusal-size, refusal-foreign, refusal-none, passed}
 use Rattle.feed.specs.Runs.{reportOf, Runs}
 use Rattle.feed.specs.Turns.{IsTable, roomIn, listIn, told, one, Answered, here, Wrote, stateOf, Placed, Takes, Took}
 use Rattle.feed.specs.declared.Reply.{Reply}
@@ -195,20 +195,15 @@ module _ (ws₀ feed b₀ ws b : List ℕ) (p : Progress) (stop : ℕ) (g : Goin
       → Runs ws₀ feed b₀ ws b (Stopped (record { stop = stop; consumed = p .at + n; written = p .out; accepted = p .accepted; refused = p .refused }))
   stopped t n h e = runs-as (seen 4 ws₀) refl t _ (rw (e, ended h) (report (eqb stop 0)))
 
--- ---- the check at the start
+-- ---- the test at the start
 
-check-refused : (s : Seen) (ws feed b : List ℕ) (n : ℕ) → seen 4 ws ≡ s → refuses n ≡ checkOn 32 s → Runs ws feed b ws b (Refused n)
-check-refused misfit ws feed b n e k = record { answer = rw e (cc); list = rw e; replies = rw e; kept = λ _ _. refl }
-check-refused foreign ws feed b n e k = record { answer = rw e (cc); list = rw e; replies = rw e; kept = λ _ _. refl }
-check-refused (table A rs) ws feed b n e k = let z : _≡_ {A = ℕ} 0 1 = cc in absurd (omega arith)
+module _ (ws : List ℕ) (n : ℕ) (first : n ≡ refusalOf ws 0) where
+  pub run-refused : (feed b : List ℕ) → n ≢ 0 → Runs ws feed b ws b (Refused n)
+  run-refused feed b z =
+      seen-cases 4 ws (omega arith) (omega arith)
+      (λ m e. (let q : n ≡ 1 = first ∙ sym (refusal-size ws 0 m) in record { answer = rw (e, q); list = rw e; replies = rw e; kept = λ _ _. refl }))
+      (λ m t e. (let q : n ≡ 2 = first ∙ sym (refusal-foreign ws 0 m refl t) in record { answer = rw (e, q); list = rw e; replies = rw e; kept = λ _ _. refl }))
+      (λ m t _ _. absurd (z (first ∙ sym (refusal-none ws 0 m refl t))))
 
-pub run-refused : (ws feed b : List ℕ) (r : Checked) (n : ℕ) → toldCheck r ≡ checkOn 32 (seen 4 ws) → r ≡ Failed n → Runs ws feed b ws b (Refused n)
-run-refused ws feed b r n k e = check-refused (seen 4 ws) ws feed b n refl (rw e at k)
-
-counted : (s : Seen) (x : Counts) → gives x ≡ checkOn 32 s → IsTable s
-counted misfit x e = let z : _≡_ {A = ℕ} 0 1 = cc in absurd (omega arith)
-counted foreign x e = let z : _≡_ {A = ℕ} 0 1 = cc in absurd (omega arith)
-counted (table A rs) x e = tt
-
-pub run-counted : (ws : List ℕ) (r : Checked) (m n : ℕ) → toldCheck r ≡ checkOn 32 (seen 4 ws) → r ≡ Counted m n → IsTable (seen 4 ws)
-run-counted ws r m n k e = counted (seen 4 ws) (record { routes = m; arrays = n }) (rw e at k)
+  pub run-started : n ≡ 0 → IsTable (seen 4 ws)
+  run-started z = rw (seen-table 4 ws (passed ws 0 (sym first ∙ z) .0)) tt

@@ -1,3 +1,4 @@
 pub mod Runs
 pub mod Turns
 pub mod Sharp
+pub mod Never

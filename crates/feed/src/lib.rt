@@ -45,14 +45,16 @@ pub enum Ran {
     Refused(u32),
 }
 
-// Runs a feed on lent words and writes the replies to the front of lent bytes.
+// Runs a feed on lent words and writes the replies to the front of lent bytes. Only here the words are checked: each record
+// leaves a table a table.
 pub fn run(words: &mut [u32], feed: &[u8], reply: &mut [u8]) -> Ran
     ensures { λ r. ⌜ Runs (now (words .entry)) (now (feed .entry)) (now (reply .entry)) (now (words .exit)) (now (reply .exit)) r ⌝ }
 {
-    match audit::check(words) {
-        audit::Checked::Refused(n) => Ran::Refused(n),
-        audit::Checked::Counts(_, _) => Ran::Stopped(run_table(words, feed, reply)),
+    let n = update::refusal(words, 0);
+    if n != 0 {
+        return Ran::Refused(n);
     }
+    Ran::Stopped(run_table(words, feed, reply))
 }
 
 // The run on words that are a table.
@@ -176,7 +178,7 @@ fn announce(words: &mut [u32], feed: &[u8], at: usize) -> Reply
     let address = numbers::four_at(feed, at + 1);
     let length = feed[at + 5] as u32;
     let hop = numbers::two_at(feed, at + 6);
-    of_update(update::announce(words, address, length, hop))
+    of_update(update::announce_on(words, address, length, hop))
 }
 
 // Answers the withdrawal at `at`.
@@ -186,7 +188,7 @@ fn withdraw(words: &mut [u32], feed: &[u8], at: usize) -> Reply
 {
     let address = numbers::four_at(feed, at + 1);
     let length = feed[at + 5] as u32;
-    of_update(update::withdraw(words, address, length))
+    of_update(update::withdraw_on(words, address, length))
 }
 
 // Answers the lookup at `at`.

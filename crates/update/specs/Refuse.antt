@@ -7,19 +7,19 @@ use Prim.Native.Nat.{ℕ, _-_, _/_, _%_, _^_, _≤_}
 use native.Mathlib.Omega.{arith}
 use lib.Dec.{eqb}
 use lib.ListN.{length}
-use borrow.Author.Tests.{ne-eqb}
+use borrow.Author.Tests.{eq-eqb, ne-eqb}
 use Rattle.laws.specs.Cases.{bool, less, same}
 use Rattle.routes.specs.Route.{Route, tooLong, stray, badHop}
 use Rattle.routes.specs.Answers.{Update, announce, withdraw, Reply, refused, faulty, verdict, answer}
 use Rattle.routes.specs.Seen.{Seen, misfit, foreign, table, misfits, answerOn, afterOn}
 use Rattle.arrays.specs.Words.{arrayCount}
 use Rattle.arrays.specs.Table.{Table, tableB, listOf, seen}
-use Rattle.arrays.specs.View.{no-misfit-fits, seen-misfit, seen-foreign, seen-table, seen-cases}
+use Rattle.arrays.specs.View.{fits-no-misfit, no-misfit-fits, table-fits, seen-misfit, seen-foreign, seen-table, seen-cases}
 use Rattle.arrays.specs.Decides.{table-tells}
 use Rattle.paths.specs.Address.{IsPrefix}
 use Rattle.update.specs.declared.Updated.{Updated}
 use Rattle.update.specs.declared.Updated.the-variants.{Refused}
-use Rattle.update.specs.Update.{faultOf, Updates, Applies}
+use Rattle.update.specs.Update.{faultOf, refusalOf, Updates, Applies}
 
 -- a refusal that leaves the words
 refuses : (ws : List ℕ) (u : Update) (n : ℕ) → answerOn 32 (seen 4 ws) u ≡ refused n → Updates ws ws u (Refused n)
@@ -31,7 +31,7 @@ refuses ws u n e = record { answer = sym e; list = stays (seen 4 ws) e; kept = �
     stays (table A rs) e = rw e
 
 -- 1
-pub refuses-size : (ws : List ℕ) (u : Update) → misfits (length ws) ≡ true → Updates ws ws u (Refused 1)
+refuses-size : (ws : List ℕ) (u : Update) → misfits (length ws) ≡ true → Updates ws ws u (Refused 1)
 refuses-size ws u e = refuses ws u 1 (rw (seen-misfit 4 ws e))
 
 -- 3, 4, 5
@@ -50,7 +50,7 @@ pub fault-hop : (W a l h n : ℕ) → faultOf W (withdraw a l) ≡ 0 → n ≡ c
 fault-hop W a l h n e q =
     bool (tooLong W l) (λ t. absurd (omega (arith, rw t at e))) (λ t. bool (stray W a l) (λ f. absurd (omega (arith, rw (t, f) at e))) (λ f. rw (t, f) q))
 
-pub refuses-fault : (ws : List ℕ) (u : Update) (n : ℕ) → misfits (length ws) ≡ false → n ≡ faultOf 32 u → n ≢ 0 → Updates ws ws u (Refused n)
+refuses-fault : (ws : List ℕ) (u : Update) (n : ℕ) → misfits (length ws) ≡ false → n ≡ faultOf 32 u → n ≢ 0 → Updates ws ws u (Refused n)
 unfolding answer
 refuses-fault ws u n e f z =
     let any : (r : Reply) → faulty 32 u r ≡ refused n = λ r. faulty-by 32 u r ∙ rw (← f, ne-eqb n 0 z) in
@@ -60,14 +60,52 @@ refuses-fault ws u n e f z =
     (λ _ _ s. rw s (any (refused 2)))
     (λ _ _ _ s. rw s (any (verdict 32 (arrayCount ws) (listOf 4 ws) u))))
 
+pub refuses-table : (ws : List ℕ) (u : Update) (n : ℕ) → Table 4 ws → n ≡ faultOf 32 u → n ≢ 0 → Updates ws ws u (Refused n)
+refuses-table ws u n t f z = refuses-fault ws u n (fits-no-misfit (length ws) (table-fits 4 ws t)) f z
+
 -- 2
-pub refuses-foreign : (ws : List ℕ) (u : Update) → misfits (length ws) ≡ false → faultOf 32 u ≡ 0 → tableB 4 ws ≡ false → Updates ws ws u (Refused 2)
+refuses-foreign : (ws : List ℕ) (u : Update) → misfits (length ws) ≡ false → faultOf 32 u ≡ 0 → tableB 4 ws ≡ false → Updates ws ws u (Refused 2)
 refuses-foreign ws u e f b = refuses ws u 2 (rw (seen-foreign 4 ws e b) (faulty-by 32 u (refused 2) ∙ rw f))
+
+-- ---- the first of them
+
+module _ (ws : List ℕ) (f : ℕ) where
+  pub refusal-size : misfits (length ws) ≡ true → 1 ≡ refusalOf ws f
+  refusal-size m = rw m
+
+  module _ (m : misfits (length ws) ≡ false) where
+    pub refusal-fault : f ≢ 0 → f ≡ refusalOf ws f
+    refusal-fault z = rw (m, ne-eqb f 0 z)
+
+    pub refusal-foreign : f ≡ 0 → tableB 4 ws ≡ false → 2 ≡ refusalOf ws f
+    refusal-foreign z b = rw (m, eq-eqb f 0 z, b)
+
+    pub refusal-none : f ≡ 0 → tableB 4 ws ≡ true → 0 ≡ refusalOf ws f
+    refusal-none z b = rw (m, eq-eqb f 0 z, b)
+
+pub refused-by : (ws : List ℕ) (u : Update) (n : ℕ) → n ≡ refusalOf ws (faultOf 32 u) → n ≢ 0 → Updates ws ws u (Refused n)
+refused-by ws u n e z =
+    bool (misfits (length ws))
+    (λ m. rw (e ∙ sym (refusal-size ws (faultOf 32 u) m)) (refuses-size ws u m))
+    (λ m. same (faultOf 32 u) 0
+    (λ f _. bool (tableB 4 ws)
+    (λ b. absurd (z (e ∙ sym (refusal-none ws (faultOf 32 u) m f b))))
+    (λ b. rw (e ∙ sym (refusal-foreign ws (faultOf 32 u) m f b)) (refuses-foreign ws u m f b)))
+    (λ f _. refuses-fault ws u n m (e ∙ sym (refusal-fault ws (faultOf 32 u) m f)) z))
 
 -- ---- the work
 
-pub is-table : (ws : List ℕ) → misfits (length ws) ≡ false → tableB 4 ws ≡ true → Table 4 ws
+is-table : (ws : List ℕ) → misfits (length ws) ≡ false → tableB 4 ws ≡ true → Table 4 ws
 is-table ws e b = table-tells 4 ws (omega arith) (omega arith) (no-misfit-fits (length ws) e) .to b
+
+-- no number before the work, and what that says
+pub passed : (ws : List ℕ) (f : ℕ) → refusalOf ws f ≡ 0 → Table 4 ws × (f ≡ 0)
+passed ws f e =
+    bool (misfits (length ws))
+    (λ m. absurd (omega (arith, refusal-size ws f m)))
+    (λ m. same f 0
+    (λ z _. bool (tableB 4 ws) (λ b. (is-table ws m b, z)) (λ b. absurd (omega (arith, refusal-foreign ws f m z b))))
+    (λ z _. absurd (omega (arith, refusal-fault ws f m z))))
 
 -- no fault, and what that says
 pub sound-prefix : (a l : ℕ) → faultOf 32 (withdraw a l) ≡ 0 → IsPrefix 4 a l

@@ -5,14 +5,15 @@ use mathlib.Core.Bool.{true, cond}
 use mathlib.Core.List.{List}
 use mathlib.Core.Logic.{_⊎_}
 use Prim.Native.Nat.{ℕ, suc, _*_, _≤_}
+use lib.Dec.{eqb}
 use lib.ListN.{length}
 use Rattle.routes.specs.Route.{tooLong, stray, badHop}
 use Rattle.routes.specs.Room.{level}
 use Rattle.routes.specs.Answers.{Update, announce, withdraw, Reply, done, refused, isDone, isRefused, changed, verdict}
-use Rattle.routes.specs.Seen.{answerOn, afterOn}
+use Rattle.routes.specs.Seen.{misfits, answerOn, afterOn}
 use Rattle.arrays.specs.Arrays.{Arrays, node}
 use Rattle.arrays.specs.Words.{arraysOf, arrayCount}
-use Rattle.arrays.specs.Table.{Table, listOf, seen}
+use Rattle.arrays.specs.Table.{Table, tableB, listOf, seen}
 use Rattle.paths.specs.Address.{front}
 use Rattle.paths.specs.Alike.{Alike}
 use Rattle.update.specs.declared.Updated.{Updated}
@@ -63,3 +64,7 @@ pub record Applies (L : ℕ) (ws vs : List ℕ) (u : Update) (r : Updated) : Typ
 abbrev pub faultOf : ℕ → Update → ℕ
 faultOf W (announce a l h) = cond (tooLong W l) 3 (cond (stray W a l) 4 (cond (badHop h) 5 0))
 faultOf W (withdraw a l) = cond (tooLong W l) 3 (cond (stray W a l) 4 0)
+
+-- the first number before the work, 0 where there is none: 1 for the size, the update's own fault f, 2 for words that are no table
+abbrev pub refusalOf : List ℕ → ℕ → ℕ
+refusalOf ws f = cond (misfits (length ws)) 1 (cond (eqb f 0) (cond (tableB 4 ws) 0 2) f)

@@ -6,7 +6,7 @@ ghost use Rattle.arrays.specs.Words.{slotsOf};
 ghost use Rattle.arrays.specs.Table.{Table};
 ghost use Rattle.paths.specs.Address.{IsPrefix};
 ghost use Rattle.update.specs.Seat.{Seat, Seated};
-ghost use Rattle.update.specs.Update.{Updates, Applies, faultOf};
+ghost use Rattle.update.specs.Update.{Updates, Applies, faultOf, refusalOf};
 
 // What an update answers: hop and cells, or the refusal's number.
 pub enum Updated {
@@ -117,19 +117,57 @@ pub fn withdraw_in(words: &mut [u32], address: u32, length: u32) -> Updated
     Updated::Done(t.hop, t.cells)
 }
 
-// A route announced: refused by the first of 1, 3, 4, 5, 2 and 8 that applies, or held afterwards.
-pub fn announce(words: &mut [u32], address: u32, length: u32, hop: u32) -> Updated
+// ---- updates of a table, by callers that know it to be one: a run has checked it and has kept it one since
+
+// A route announced: refused by the first of 3, 4, 5 and 8 that applies, or held afterwards.
+pub fn announce_on(words: &mut [u32], address: u32, length: u32, hop: u32) -> Updated
+    requires { ⌜ Table 4 (now words) ⌝ }
     ensures { λ r. ⌜ Updates (now (words .entry)) (now (words .exit)) (announced address length hop) r ⌝ }
 {
-    if audit::misfit(words.len()) {
-        return Updated::Refused(1);
-    }
     let f = route_fault(address, length, hop);
     if f != 0 {
         return Updated::Refused(f);
     }
+    announce_in(words, address, length, hop)
+}
+
+// A route withdrawn: refused by the first of 3, 4 and 7 that applies, or held no more.
+pub fn withdraw_on(words: &mut [u32], address: u32, length: u32) -> Updated
+    requires { ⌜ Table 4 (now words) ⌝ }
+    ensures { λ r. ⌜ Updates (now (words .entry)) (now (words .exit)) (withdrawn address length) r ⌝ }
+{
+    let f = prefix_fault(address, length);
+    if f != 0 {
+        return Updated::Refused(f);
+    }
+    withdraw_in(words, address, length)
+}
+
+// ---- updates of any words
+
+// The first of 1, an update's own fault (0 for none) and 2 that applies, or 0: then there is no fault and the words are a table.
+pub fn refusal(words: &[u32], fault: u32) -> u32
+    ensures { λ r. ⌜ r ≡ refusalOf (now (words .entry)) fault ⌝ }
+{
+    if audit::misfit(words.len()) {
+        return 1;
+    }
+    if fault != 0 {
+        return fault;
+    }
     if !audit::is_table(words) {
-        return Updated::Refused(2);
+        return 2;
+    }
+    0
+}
+
+// A route announced: refused by the first of 1, 3, 4, 5, 2 and 8 that applies, or held afterwards.
+pub fn announce(words: &mut [u32], address: u32, length: u32, hop: u32) -> Updated
+    ensures { λ r. ⌜ Updates (now (words .entry)) (now (words .exit)) (announced address length hop) r ⌝ }
+{
+    let n = refusal(words, route_fault(address, length, hop));
+    if n != 0 {
+        return Updated::Refused(n);
     }
     announce_in(words, address, length, hop)
 }
@@ -138,15 +176,9 @@ pub fn announce(words: &mut [u32], address: u32, length: u32, hop: u32) -> Updat
 pub fn withdraw(words: &mut [u32], address: u32, length: u32) -> Updated
     ensures { λ r. ⌜ Updates (now (words .entry)) (now (words .exit)) (withdrawn address length) r ⌝ }
 {
-    if audit::misfit(words.len()) {
-        return Updated::Refused(1);
-    }
-    let f = prefix_fault(address, length);
-    if f != 0 {
-        return Updated::Refused(f);
-    }
-    if !audit::is_table(words) {
-        return Updated::Refused(2);
+    let n = refusal(words, prefix_fault(address, length));
+    if n != 0 {
+        return Updated::Refused(n);
     }
     withdraw_in(words, address, length)
 }

@@ -2,7 +2,7 @@
 use native.Mathlib.Omega.{arith}
 use mathlib.Core.Path.{refl}
 use Prim.Native.Nat.{_+_}
-use Rattle.feed.proofs.Answers.{answered-announce}
+use Rattle.feed.proofs.Answers.{is-table, answered-announce}
 use borrow.Author.Needs.{needs}
 use Rattle.feed.proofs.announce.Statement.{statement}
 use Rattle.feed.proofs.announce.Tie as tie
@@ -28,8 +28,8 @@ add-two-at c = search needs
 two-at-requires : tie.Need-two-at-requires
 two-at-requires c κs = search needs
 
-announce-requires : tie.Need-announce-requires
-announce-requires c κs = search needs
+announce-on-requires : tie.Need-announce-on-requires
+announce-on-requires c κs = is-table _ (c .before .before .before .before .before .before .pre .0)
 
 of-update-requires : tie.Need-of-update-requires
 of-update-requires c κs = search needs
@@ -38,7 +38,7 @@ same-length : tie.Need-same-length
 same-length c = search needs
 
 returns : tie.Need-returns
-returns c = answered-announce _ _ _ (c .before .before .before .before .before .before .before .before .before .before .pre .0) (c .before .before .before .before .before .before .before .before .before .before .args .feed .now) (c .before .before .before .before .before .before .before .before .before .before .args .at) _ _ _ _ (c .before .before .before .before .before .before .before .four-at .ensures) refl (c .before .before .before .before .before .two-at .ensures .0) (c .before .before .before .announce .ensures) (c .of-update .ensures)
+returns c = answered-announce _ _ _ (c .before .before .before .before .before .before .before .before .before .before .pre .0) (c .before .before .before .before .before .before .before .before .before .before .args .feed .now) (c .before .before .before .before .before .before .before .before .before .before .args .at) _ _ _ _ (c .before .before .before .before .before .before .before .four-at .ensures) refl (c .before .before .before .before .before .two-at .ensures .0) (c .before .before .before .announce-on .ensures) (c .of-update .ensures)
 
 pub announce-spec : {M : Type 1} → statement M
 announce-spec =
@@ -51,7 +51,7 @@ announce-spec =
     cast-length
     add-two-at
     two-at-requires
-    announce-requires
+    announce-on-requires
     of-update-requires
     same-length
     returns)

@@ -1,26 +1,20 @@
--- The check's answer says whether the words are a table, and with which number the run refuses. Assumes nothing.
-use Rattle.feed.proofs.Loop.{run-refused, run-counted}
+-- The number at the start says whether the words are a table, and by what the run refuses. Assumes nothing.
+use Rattle.feed.proofs.Loop.{run-refused, run-started}
 use borrow.Author.Needs.{needs}
 use Rattle.feed.proofs.run.Statement.{statement}
 use Rattle.feed.proofs.run.Tie as tie
 
-check-requires : tie.Need-check-requires
-check-requires c κs = search needs
-
-enum-known-n : tie.Need-enum-known-n
-enum-known-n c = search needs
-
-enum-told : tie.Need-enum-told
-enum-told c = search needs
-
-run-table-requires : tie.Need-run-table-requires
-run-table-requires c κs = run-counted _ (c .before .before .before .before .check .result) _ _ (c .before .before .before .before .check .ensures) (c .before .before .enum-told .given .1)
+refusal-requires : tie.Need-refusal-requires
+refusal-requires c κs = search needs
 
 same-length : tie.Need-same-length
 same-length c = search needs
 
 returns : tie.Need-returns
-returns c = run-refused _ _ _ (c .before .before .before .check .result) _ (c .before .before .before .check .ensures) (c .before .n .given .1)
+returns c = run-refused _ _ (c .before .refusal .ensures) _ _ (c .if1 .taken)
+
+run-table-requires : tie.Need-run-table-requires
+run-table-requires c κs = run-started _ _ (c .before .before .before .refusal .ensures) (c .before .before .if1 .left)
 
 same-length-2 : tie.Need-same-length-2
 same-length-2 c = search needs
@@ -35,12 +29,10 @@ pub run-spec : {M : Type 1} → statement M
 run-spec =
     tie.close
     (tie.spec
-    check-requires
-    enum-known-n
-    enum-told
-    run-table-requires
+    refusal-requires
     same-length
     returns
+    run-table-requires
     same-length-2
     same-length-3
     returns-2)

@@ -2,7 +2,7 @@
 use native.Mathlib.Omega.{arith}
 use mathlib.Core.Path.{refl}
 use Prim.Native.Nat.{_+_}
-use Rattle.feed.proofs.Answers.{answered-withdraw}
+use Rattle.feed.proofs.Answers.{is-table, answered-withdraw}
 use borrow.Author.Needs.{needs}
 use Rattle.feed.proofs.withdraw.Statement.{statement}
 use Rattle.feed.proofs.withdraw.Tie as tie
@@ -22,8 +22,8 @@ shared-slice-read-length c = search needs
 cast-length : tie.Need-cast-length
 cast-length c = omega (arith, c .shared-slice-known2 .given (c .before .before .before .before .args .at + 5))
 
-withdraw-requires : tie.Need-withdraw-requires
-withdraw-requires c κs = search needs
+withdraw-on-requires : tie.Need-withdraw-on-requires
+withdraw-on-requires c κs = is-table _ (c .before .before .before .before .before .pre .0)
 
 of-update-requires : tie.Need-of-update-requires
 of-update-requires c κs = search needs
@@ -32,7 +32,7 @@ same-length : tie.Need-same-length
 same-length c = search needs
 
 returns : tie.Need-returns
-returns c = answered-withdraw _ _ _ (c .before .before .before .before .before .before .before .before .before .pre .0) (c .before .before .before .before .before .before .before .before .before .args .feed .now) (c .before .before .before .before .before .before .before .before .before .args .at) _ _ _ (c .before .before .before .before .before .before .four-at .ensures) refl (c .before .before .before .withdraw .ensures) (c .of-update .ensures)
+returns c = answered-withdraw _ _ _ (c .before .before .before .before .before .before .before .before .before .pre .0) (c .before .before .before .before .before .before .before .before .before .args .feed .now) (c .before .before .before .before .before .before .before .before .before .args .at) _ _ _ (c .before .before .before .before .before .before .four-at .ensures) refl (c .before .before .before .withdraw-on .ensures) (c .of-update .ensures)
 
 pub withdraw-spec : {M : Type 1} → statement M
 withdraw-spec =
@@ -43,7 +43,7 @@ withdraw-spec =
     add-length
     shared-slice-read-length
     cast-length
-    withdraw-requires
+    withdraw-on-requires
     of-update-requires
     same-length
     returns)

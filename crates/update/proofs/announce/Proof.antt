@@ -1,69 +1,61 @@
--- `update::announce` meets its contract: each test is passed to reach the next, and the work's promise on a table is the call's. Assumes nothing.
-use mathlib.Core.Path.{_≡_, sym, _∙_}
-use mathlib.Core.Bool.{false}
-use lib.ListN.{length as size}
+-- `update::announce` meets its contract: by the number that stands before the work, or by the work's promise on a table. Assumes nothing.
+use mathlib.Core.Path.{_≡_, sym, ap, _∙_}
+use mathlib.Core.List.{List}
+use Prim.Native.Nat.{ℕ}
 use borrow.Author.Needs.{needs}
-use borrow.Author.Tests.{not-true, not-false}
 use Rattle.routes.specs.Answers.{announce as update}
-use Rattle.routes.specs.Seen.{misfits}
-use Rattle.update.specs.Update.{faultOf}
-use Rattle.update.specs.Refuse.{refuses-size, refuses-fault, refuses-foreign, is-table, sound-route, applied}
+use Rattle.arrays.specs.Table.{Table}
+use Rattle.update.specs.Update.{faultOf, refusalOf}
+use Rattle.update.specs.Refuse.{refused-by, passed, sound-route, applied}
 use Rattle.update.proofs.announce.Statement.{statement}
 use Rattle.update.proofs.announce.Tie as tie
 
--- past the first test the size is right, past the second the update has no fault
-fits : (c : tie.Else1) → misfits (size (c .before .before .before .args .words .now)) ≡ false
-fits c = sym (c .before .misfit .ensures) ∙ c .if1 .left
+-- the number is the first of size, fault and table
+first : (c : tie.After-refusal)
+    → c .refusal .result ≡ refusalOf (c .before .before .before .before .args .words .now) (faultOf 32 (update (c .before .before .before .before .args .address) (c .before .before .before .before .args .length) (c .before .before .before .before .args .hop)))
+first c = c .refusal .ensures ∙ ap (refusalOf (c .before .before .before .before .args .words .now)) (c .before .route-fault .ensures)
 
-clean : (c : tie.Else2) → faultOf 32 (update (c .before .before .before .before .before .args .address) (c .before .before .before .before .before .args .length) (c .before .before .before .before .before .args .hop)) ≡ 0
-clean c = sym (c .before .route-fault .ensures) ∙ c .if2 .left
-
-misfit-requires : tie.Need-misfit-requires
-misfit-requires c κs = search needs
-
-returns : tie.Need-returns
-returns c = refuses-size _ _ (sym (c .before .misfit .ensures) ∙ c .if1 .taken)
+-- past the test the words are a table and the update has no fault
+clear : (c : tie.Else1)
+    → Table 4 (c .before .before .before .before .before .args .words .now) × (faultOf 32 (update (c .before .before .before .before .before .args .address) (c .before .before .before .before .before .args .length) (c .before .before .before .before .before .args .hop)) ≡ 0)
+clear c = passed _ _ (sym (first (c .before)) ∙ c .if1 .left)
 
 route-fault-requires : tie.Need-route-fault-requires
 route-fault-requires c κs = search needs
 
-returns-2 : tie.Need-returns-2
-returns-2 c = refuses-fault _ _ _ (fits (c .before .before)) (c .before .route-fault .ensures) (c .if2 .taken)
-
-is-table-requires : tie.Need-is-table-requires
-is-table-requires c κs = fits (c .before .before .before)
+refusal-requires : tie.Need-refusal-requires
+refusal-requires c κs = search needs
 
 same-length : tie.Need-same-length
 same-length c = search needs
 
-returns-3 : tie.Need-returns-3
-returns-3 c = refuses-foreign _ _ (fits (c .before .before .before .before .before)) (clean (c .before .before .before)) (sym (c .before .is-table .ensures) ∙ not-true _ (c .if3 .taken))
+returns : tie.Need-returns
+returns c = refused-by _ _ _ (first (c .before)) (c .if1 .taken)
 
 announce-in-requires : tie.Need-announce-in-requires
 announce-in-requires c κs =
-    let t = is-table (c .before .before .before .before .before .before .before .before .before .args .words .now) (fits (c .before .before .before .before .before .before)) (sym (c .before .before .is-table .ensures) ∙ not-false _ (c .before .if3 .left)) in
-    let s = sound-route (c .before .before .before .before .before .before .before .before .before .args .address) (c .before .before .before .before .before .before .before .before .before .args .length) (c .before .before .before .before .before .before .before .before .before .args .hop) (clean (c .before .before .before .before)) in
-    (t, s .0, s .1, s .2)
+    let t = c .before .before .before .before .before .before in
+    let s = sound-route (t .args .address) (t .args .length) (t .args .hop) (clear (c .before) .1) in
+    (clear (c .before) .0, s .0, s .1, s .2)
 
 same-length-2 : tie.Need-same-length-2
 same-length-2 c = search needs
 
-returns-4 : tie.Need-returns-4
-returns-4 c =
-    let t = is-table (c .before .before .before .before .before .before .before .before .before .before .before .before .args .words .now) (fits (c .before .before .before .before .before .before .before .before .before)) (sym (c .before .before .before .before .before .is-table .ensures) ∙ not-false _ (c .before .before .before .before .if3 .left)) in
-    applied (c .before .before .before .before .before .before .before .before .before .before .before .before .args .words .now) (c .before .before .announce-in .last .0) _ (c .before .before .announce-in .result) t (clean (c .before .before .before .before .before .before .before)) (c .before .before .announce-in .ensures)
+returns-2 : tie.Need-returns-2
+returns-2 c =
+    let t = c .before .before .before .before .before .before .before .before .before in
+    let w = c .before .before .announce-in in
+    let p = clear (c .before .before .before .before) in
+    applied (t .args .words .now) (w .last .0) _ (w .result) (p .0) (p .1) (w .ensures)
 
 pub announce-spec : {M : Type 1} → statement M
 announce-spec =
     tie.close
     (tie.spec
-    misfit-requires
-    returns
     route-fault-requires
-    returns-2
-    is-table-requires
+    refusal-requires
     same-length
-    returns-3
+    returns
     announce-in-requires
     same-length-2
-    returns-4)
+    returns-2)

@@ -1,0 +1,180 @@
+-- No run writes the reply "refused 2": a table's list answers no record by it, and the reply bytes of a run can be read as replies in
+-- one way only, as those answers. Assumes nothing.
+--
+--     reply   16 h h c c   19 7   17 h h l   18     the kind of a reply says where the next begins
+use mathlib.Core.Path.{_≡_, refl, sym, ap, _∙_}
+use mathlib.Core.Logic.{_≢_}
+use mathlib.Core.Bool.{Bool, true, false, cond, not}
+use mathlib.Core.List.{List, [], _∷_, _++_, append-assoc, append-nil}
+use Prim.Native.Nat.{ℕ, zero, suc, _%_}
+use native.Mathlib.Omega.{arith}
+use lib.Dec.{ltb, eqb}
+use lib.ListN.{length, getD, take, drop}
+use lib.Seq.{take-at}
+use Rattle.laws.specs.Cases.{bool}
+use Rattle.routes.specs.Route.{Route, route, tooLong, stray, badHop, held}
+use Rattle.routes.specs.Match.{Match, longest}
+use Rattle.routes.specs.Match as match
+use Rattle.routes.specs.Cells.{cells}
+use Rattle.routes.specs.Answers.{lacking, reloaded, Update, announce, withdraw, Record, update, lookup, Reply, done, found, none, refused, refuse, faulty, verdict, answer, matched, reply}
+use Rattle.routes.specs.Bytes.{replyBytes, repliesBytes}
+use Rattle.routes.specs.Runs.{State, recordAt, halts, taken, runs, fresh, run}
+use Rattle.routes.specs.Seen.{Seen, misfit, foreign, table, runOn, repliedOn}
+use Rattle.arrays.specs.Table.{seen}
+use Rattle.feed.specs.Runs.{told, reported, Runs}
+use Rattle.feed.specs.Sharp.{writtenBy}
+use Rattle.feed.specs.declared.Ran.{Ran}
+use Rattle.feed.specs.declared.Ran.the-variants.{Stopped, Refused}
+
+-- ---- the answers
+
+-- not "refused 2", nor by another number that has the same byte
+abbrev pub Other : Reply → Type 0
+Other (done h c) = Unit {0}
+Other (found h l) = Unit {0}
+Other none = Unit {0}
+Other (refused n) = n % 256 ≢ 2
+
+other-refuse : (n : ℕ) (b : Bool) (r : Reply) → n % 256 ≢ 2 → Other r → Other (refuse n b r)
+other-refuse n true r h o = h
+other-refuse n false r h o = o
+
+other-verdict : (W A : ℕ) (rs : List Route) (u : Update) → Other (verdict W A rs u)
+other-verdict W A rs (announce a l h) =
+    other-refuse 8 (lacking W A rs a l h) (done h (reloaded W rs a l h)) (λ e. omega arith) tt
+other-verdict W A rs (withdraw a l) =
+    other-refuse 7 (eqb (held rs a l) 0) (done (held rs a l) (cells W (route a l 0) rs)) (λ e. omega arith) tt
+
+other-faulty : (W : ℕ) (u : Update) (r : Reply) → Other r → Other (faulty W u r)
+other-faulty W (announce a l h) r o =
+    other-refuse 3 (tooLong W l) _ (λ e. omega arith) (other-refuse 4 (stray W a l) _ (λ e. omega arith) (other-refuse 5 (badHop h) r (λ e. omega arith) o))
+other-faulty W (withdraw a l) r o = other-refuse 3 (tooLong W l) _ (λ e. omega arith) (other-refuse 4 (stray W a l) r (λ e. omega arith) o)
+
+other-matched : (m : Match) → Other (matched m)
+other-matched match.none = tt
+other-matched (match.found h l) = tt
+
+-- whatever the table, the list and the record
+pub reply-other : (W A : ℕ) (rs : List Route) (x : Record) → Other (reply W A rs x)
+unfolding answer
+reply-other W A rs (update u) = other-faulty W u (verdict W A rs u) (other-verdict W A rs u)
+reply-other W A rs (lookup a) = other-matched (longest W a rs)
+
+pub reply-never : (W A : ℕ) (rs : List Route) (x : Record) → reply W A rs x ≢ refused 2
+reply-never W A rs x e = (rw e at (reply-other W A rs x)) refl
+
+-- ---- the replies of a run
+
+abbrev pub Others : List Reply → Type 0
+Others [] = Unit {0}
+Others (y ∷ ys) = Other y × Others ys
+
+others-append : (xs ys : List Reply) → Others xs → Others ys → Others (xs ++ ys)
+others-append [] ys p q = q
+others-append (x ∷ xs) ys p q = (p .0, others-append xs ys (p .1) q)
+
+bytes-append : (xs ys : List Reply) → repliesBytes (xs ++ ys) ≡ repliesBytes xs ++ repliesBytes ys
+bytes-append [] ys = refl
+bytes-append (x ∷ xs) ys = ap (λ zs. replyBytes x ++ zs) (bytes-append xs ys) ∙ sym (append-assoc (replyBytes x) (repliesBytes xs) (repliesBytes ys))
+
+-- bytes are those of replies, none of them "refused 2"
+pub record Replied (bs : List ℕ) : Type 0 where
+  pub replies : List Reply
+  pub bytes : bs ≡ repliesBytes replies
+  pub others : Others replies
+
+-- one reply more
+more : (bs : List ℕ) (y : Reply) → Other y → Replied bs → Replied (bs ++ replyBytes y)
+more bs y o p =
+    record {
+      replies = p .replies ++ (y ∷ []);
+      bytes = ap (λ xs. xs ++ replyBytes y) (p .bytes) ∙ ap (λ zs. repliesBytes (p .replies) ++ zs) (sym (append-nil (replyBytes y))) ∙ sym (bytes-append (p .replies) (y ∷ []));
+      others = others-append (p .replies) (y ∷ []) (p .others) (o, tt);
+    }
+
+runs-replied : (n A : ℕ) (feed : List ℕ) (room : ℕ) (s : State) → Replied (s .replies) → Replied (runs n A feed room s .end .replies)
+unfolding runs
+runs-replied zero A feed room s p = p
+runs-replied (suc n) A feed room s p =
+    bool (eqb h 5)
+    (λ e. rw e (runs-replied n A feed room (taken A feed s) (more (s .replies) (reply 32 A (s .list) x) (reply-other 32 A (s .list) x) p)))
+    (λ e. rw e (bool (eqb h 0) (λ z. rw z p) (λ z. rw z p)))
+  where
+    h : ℕ
+    h = halts feed room (s .consumed) (length (s .replies))
+
+    x : Record
+    x = recordAt feed (s .consumed) (getD feed (s .consumed) 0)
+
+pub run-replied : (A : ℕ) (rs : List Route) (feed : List ℕ) (room : ℕ) → Replied (run A rs feed room .end .replies)
+run-replied A rs feed room = runs-replied (length feed) A feed room (fresh rs) (record { replies = []; bytes = refl; others = tt })
+
+-- ---- bytes read back as replies
+
+-- the bytes of the reply that stands first
+abbrev width : List ℕ → ℕ
+width bs = cond (eqb (getD bs 0 0) 16) 5 (cond (eqb (getD bs 0 0) 17) 4 (cond (eqb (getD bs 0 0) 18) 1 2))
+
+rest : (y : Reply) (bs : List ℕ) → drop (width (replyBytes y ++ bs)) (replyBytes y ++ bs) ≡ bs
+rest (done h c) bs = refl
+rest (found h l) bs = refl
+rest none bs = refl
+rest (refused n) bs = refl
+
+-- the first two bytes are not those of "refused 2"
+abbrev Begins : List ℕ → Type 0
+Begins bs = getD bs 0 0 ≡ 19 → getD bs 1 0 ≢ 2
+
+begins : (y : Reply) (bs : List ℕ) → Other y → Begins (replyBytes y ++ bs)
+begins (done h c) bs o = λ e. absurd (omega arith)
+begins (found h l) bs o = λ e. absurd (omega arith)
+begins none bs o = λ e. absurd (omega arith)
+begins (refused n) bs o = λ _. o
+
+begun : (y : Reply) (bs : List ℕ) → Begins (replyBytes y ++ bs) → Other y
+begun (done h c) bs b = tt
+begun (found h l) bs b = tt
+begun none bs b = tt
+begun (refused n) bs b = b refl
+
+some : (y : Reply) (bs : List ℕ) → replyBytes y ++ bs ≢ []
+some (done h c) bs e = let z : _≡_ {A = ℕ} 16 0 = ap (λ (xs : List ℕ). getD xs 0 0) e in omega arith
+some (found h l) bs e = let z : _≡_ {A = ℕ} 17 0 = ap (λ (xs : List ℕ). getD xs 0 0) e in omega arith
+some none bs e = let z : _≡_ {A = ℕ} 18 0 = ap (λ (xs : List ℕ). getD xs 0 0) e in omega arith
+some (refused n) bs e = let z : _≡_ {A = ℕ} 19 0 = ap (λ (xs : List ℕ). getD xs 0 0) e in omega arith
+
+others-read : (ys zs : List Reply) → Others ys → repliesBytes ys ≡ repliesBytes zs → Others zs
+others-read [] [] o e = tt
+others-read [] (z ∷ zs) o e = absurd (some z (repliesBytes zs) (sym e))
+others-read (y ∷ ys) [] o e = absurd (some y (repliesBytes ys) e)
+others-read (y ∷ ys) (z ∷ zs) o e = (
+  begun z (repliesBytes zs) (rw e at (begins y (repliesBytes ys) (o .0))),
+  others-read ys zs (o .1) (sym (rest y (repliesBytes ys)) ∙ ap (λ (bs : List ℕ). drop (width bs) bs) e ∙ rest z (repliesBytes zs)),
+)
+
+others-at : (xs : List Reply) (y : Reply) (ys : List Reply) → Others (xs ++ (y ∷ ys)) → Other y
+others-at [] y ys o = o .0
+others-at (x ∷ xs) y ys o = others-at xs y ys (o .1)
+
+-- bytes that are those of such replies are not those of replies with "refused 2" among them
+no-second : (bs : List ℕ) → Replied bs → (xs ys : List Reply) → bs ≢ repliesBytes (xs ++ (refused 2 ∷ ys))
+no-second bs p xs ys e = others-at xs (refused 2) ys (others-read (p .replies) (xs ++ (refused 2 ∷ ys)) (p .others) (sym (p .bytes) ∙ e)) refl
+
+-- ---- the bytes that a run writes
+
+written : (s : Seen) (feed b : List ℕ) (r : Ran) → told r ≡ reported (runOn s feed b) → Replied (take (writtenBy r) (repliedOn s feed b))
+written s feed b (Refused n) e = record { replies = []; bytes = refl; others = tt }
+written misfit feed b (Stopped r) e = let z : _≡_ {A = ℕ} 0 1 = cc in absurd (omega arith)
+written foreign feed b (Stopped r) e = let z : _≡_ {A = ℕ} 0 1 = cc in absurd (omega arith)
+written (table A rs) feed b (Stopped r) e =
+    let xs = run A rs feed (length b) .end .replies in
+    let n : r .written ≡ length xs = cc in
+    rw (n, take-at xs (drop (length xs) b) (length xs) refl) (run-replied A rs feed (length b))
+
+-- they are replies, each a list's answer
+pub replied : (ws feed b vs c : List ℕ) (r : Ran) → Runs ws feed b vs c r → Replied (take (writtenBy r) c)
+replied ws feed b vs c r p = rw (p .replies) (written (seen 4 ws) feed b r (p .answer))
+
+-- and in whatever way they are read, "refused 2" is none of them
+pub never : (ws feed b vs c : List ℕ) (r : Ran) → Runs ws feed b vs c r → (xs ys : List Reply) → take (writtenBy r) c ≢ repliesBytes (xs ++ (refused 2 ∷ ys))
+never ws feed b vs c r p = no-second (take (writtenBy r) c) (replied ws feed b vs c r p)

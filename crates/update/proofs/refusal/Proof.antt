@@ -1,0 +1,36 @@
+-- `update::refusal` meets its contract: each test is passed to reach the next. Assumes nothing.
+use mathlib.Core.Path.{_≡_, sym, _∙_}
+use mathlib.Core.Bool.{false}
+use lib.ListN.{length as size}
+use borrow.Author.Needs.{needs}
+use borrow.Author.Tests.{not-true, not-false}
+use Rattle.routes.specs.Seen.{misfits}
+use Rattle.update.specs.Refuse.{refusal-size, refusal-fault, refusal-foreign, refusal-none}
+use Rattle.update.proofs.refusal.Statement.{statement}
+use Rattle.update.proofs.refusal.Tie as tie
+
+-- past the first test the size is right
+fits : (c : tie.Else1) → misfits (size (c .before .before .before .args .words .now)) ≡ false
+fits c = sym (c .before .misfit .ensures) ∙ c .if1 .left
+
+misfit-requires : tie.Need-misfit-requires
+misfit-requires c κs = search needs
+
+returns : tie.Need-returns
+returns c = let a = c .before .before .before .args in refusal-size (a .words .now) (a .fault) (sym (c .before .misfit .ensures) ∙ c .if1 .taken)
+
+returns-2 : tie.Need-returns-2
+returns-2 c = let a = c .before .before .before .before .args in refusal-fault (a .words .now) (a .fault) (fits (c .before)) (c .if2 .taken)
+
+is-table-requires : tie.Need-is-table-requires
+is-table-requires c κs = fits (c .before)
+
+returns-3 : tie.Need-returns-3
+returns-3 c = let a = c .before .before .before .before .before .before .args in refusal-foreign (a .words .now) (a .fault) (fits (c .before .before .before)) (c .before .before .if2 .left) (sym (c .before .is-table .ensures) ∙ not-true _ (c .if3 .taken))
+
+returns-4 : tie.Need-returns-4
+returns-4 c = let a = c .before .before .before .before .before .before .args in refusal-none (a .words .now) (a .fault) (fits (c .before .before .before)) (c .before .before .if2 .left) (sym (c .before .is-table .ensures) ∙ not-false _ (c .if3 .left))
+
+pub refusal-spec : {M : Type 1} → statement M
+refusal-spec =
+    tie.close (tie.spec misfit-requires returns returns-2 is-table-requires returns-3 returns-4)
