@@ -1,0 +1,62 @@
+-- Each return is one law of the answer. Assumes nothing.
+use mathlib.Core.Path.{sym, ap, _∙_}
+use lib.ListN.{length-set}
+use Rattle.listing.specs.Told.{told as needs-told}
+use Rattle.copier.proofs.Whole.{given, build-unlisted, build-short, build-list, build-starts, build-built, build-sub}
+use borrow.Author.Needs.{needs}
+use native.Mathlib.Omega.{arith}
+use Rattle.copier.proofs.build.Statement.{statement}
+use Rattle.copier.proofs.build.Tie as tie
+
+need-requires : tie.Need-need-requires
+need-requires c κs = search needs
+
+enum-known-n : tie.Need-enum-known-n
+enum-known-n c = search needs
+
+enum-told : tie.Need-enum-told
+enum-told c = search needs
+
+returns : tie.Need-returns
+returns c = build-unlisted (c .before .before .before .before .before .args .bytes .now) (c .before .before .before .before .before .args .words .now) (c .enum-told .given .0 .0) (sym (ap needs-told (c .enum-told .given .1)) ∙ c .before .before .need .ensures)
+
+returns-2 : tie.Need-returns-2
+returns-2 c = build-short (c .before .before .before .before .before .before .before .args .bytes .now) (c .before .before .before .before .before .before .before .args .words .now) (c .before .before .n .given .0 .0) (given (c .before .before .before .before .before .before .before .args .bytes .now) (c .before .before .n .given .0 .0) (sym (ap needs-told (c .before .before .n .given .1)) ∙ c .before .before .before .before .need .ensures)) (c .if1 .taken)
+
+default-of-requires : tie.Need-default-of-requires
+default-of-requires c κs = build-list (c .before .before .before .before .before .before .before .args .bytes .now) (c .before .before .before .before .before .before .before .args .words .now) (c .before .before .n .given .0 .0) (given (c .before .before .before .before .before .before .before .args .bytes .now) (c .before .before .n .given .0 .0) (sym (ap needs-told (c .before .before .n .given .1)) ∙ c .before .before .before .before .need .ensures)) (λ i. omega (arith, c .before .before .before .before .before .before .shared-slice-known .given i))
+
+slice-write-words : tie.Need-slice-write-words
+slice-write-words c = omega (arith, c .before .if1 .left, build-sub (c .before .before .before .before .before .before .before .before .args .bytes .now) (c .before .before .before .before .before .before .before .before .args .words .now) (c .before .before .before .n .given .0 .0) (given (c .before .before .before .before .before .before .before .before .args .bytes .now) (c .before .before .before .n .given .0 .0) (sym (ap needs-told (c .before .before .before .n .given .1)) ∙ c .before .before .before .before .before .need .ensures)) .0)
+
+tables-requires : tie.Need-tables-requires
+tables-requires c κs = build-starts (c .before .before .before .before .before .before .before .before .before .args .bytes .now) (c .before .before .before .before .before .before .before .before .before .args .words .now) (c .before .before .before .before .n .given .0 .0) (given (c .before .before .before .before .before .before .before .before .before .args .bytes .now) (c .before .before .before .before .n .given .0 .0) (sym (ap needs-told (c .before .before .before .before .n .given .1)) ∙ c .before .before .before .before .before .before .need .ensures)) (λ i. omega (arith, c .before .before .before .before .before .before .before .before .shared-slice-known .given i)) (c .before .default-of .result) (c .before .before .if1 .left) (c .before .default-of .ensures)
+
+sub-t6 : tie.Need-sub-t6
+sub-t6 c = build-sub (c .before .before .before .before .before .before .before .before .before .before .before .before .args .bytes .now) (c .before .before .before .before .before .before .before .before .before .before .before .before .args .words .now) (c .before .before .before .before .before .before .before .n .given .0 .0) (given (c .before .before .before .before .before .before .before .before .before .before .before .before .args .bytes .now) (c .before .before .before .before .before .before .before .n .given .0 .0) (sym (ap needs-told (c .before .before .before .before .before .before .before .n .given .1)) ∙ c .before .before .before .before .before .before .before .before .before .need .ensures)) .0
+
+sub-t14 : tie.Need-sub-t14
+sub-t14 c = build-sub (c .before .before .before .before .before .before .before .before .before .before .before .before .args .bytes .now) (c .before .before .before .before .before .before .before .before .before .before .before .before .args .words .now) (c .before .before .before .before .before .before .before .n .given .0 .0) (given (c .before .before .before .before .before .before .before .before .before .before .before .before .args .bytes .now) (c .before .before .before .before .before .before .before .n .given .0 .0) (sym (ap needs-told (c .before .before .before .before .before .before .before .n .given .1)) ∙ c .before .before .before .before .before .before .before .before .before .need .ensures)) .1
+
+same-length : tie.Need-same-length
+same-length c = c .before .before .tables .ensures .long ∙ simp length-set
+
+returns-3 : tie.Need-returns-3
+returns-3 c = build-built (c .before .before .before .before .before .before .before .before .before .before .before .before .args .bytes .now) (c .before .before .before .before .before .before .before .before .before .before .before .before .args .words .now) (c .before .before .before .before .before .before .before .n .given .0 .0) (given (c .before .before .before .before .before .before .before .before .before .before .before .before .args .bytes .now) (c .before .before .before .before .before .before .before .n .given .0 .0) (sym (ap needs-told (c .before .before .before .before .before .before .before .n .given .1)) ∙ c .before .before .before .before .before .before .before .before .before .need .ensures)) (c .before .before .before .before .default-of .result) (c .before .before .tables .last .1 .0) (c .before .before .before .before .before .if1 .left) (c .before .before .tables .ensures)
+
+pub build-spec : {M : Type 1} → statement M
+build-spec =
+    tie.close
+    (tie.spec
+    need-requires
+    enum-known-n
+    enum-told
+    returns
+    returns-2
+    default-of-requires
+    slice-write-words
+    tables-requires
+    sub-t6
+    sub-t14
+    same-length
+    returns-3)

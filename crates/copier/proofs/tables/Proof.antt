@@ -1,0 +1,59 @@
+-- The loop keeps that the tables of the lengths below m stand, and end where the next begins. Assumes nothing.
+use Prim.Native.Nat.{_-_}
+use Rattle.copier.proofs.Whole.{Going, going-start, going-fits, going-makes, going-more, going-end}
+use native.Mathlib.Omega.{arith}
+use Rattle.copier.proofs.tables.Statement.{statement}
+use Rattle.copier.proofs.tables.Tie as tie
+
+abbrev Inv-loop : tie.InvT-loop
+Inv-loop bytes words₀ o₀ m₀ words o m = Going bytes words₀ words m o
+
+abbrev μ-loop : tie.MeasureT-loop
+μ-loop bytes words₀ o₀ m₀ words o m = 33 - m
+
+loop-holds : tie.Need-loop-holds Inv-loop μ-loop
+loop-holds c = going-start (c .before .before .args .bytes .now) (c .before .before .args .words .now) (c .before .before .pre)
+
+count-requires : tie.Need-count-requires Inv-loop μ-loop
+count-requires c κs = (c .before .before .before .before .pre .list, c .loop-test .taken)
+
+table-requires : tie.Need-table-requires Inv-loop μ-loop
+table-requires c κs = going-makes (c .before .before .before .before .before .before .args .bytes .now) (c .before .before .before .before .before .before .args .words .now) (c .before .before .before .before .before .before .pre) (c .before .before .before .loop .words) (c .before .before .before .loop .m) (c .before .before .before .loop .o) (c .before .before .before .loop .inv) (omega arith) (c .before .count .result) (c .before .count .ensures .0)
+
+mul-o : tie.Need-mul-o Inv-loop μ-loop
+mul-o c = omega (arith, c .before .before .before .before .count .ensures .1)
+
+add-o : tie.Need-add-o Inv-loop μ-loop
+add-o c = omega (arith, going-fits (c .before .before .before .before .before .before .before .before .before .args .bytes .now) (c .before .before .before .before .before .before .before .before .before .args .words .now) (c .before .before .before .before .before .before .before .before .before .pre) (c .before .before .before .before .before .before .loop .words) (c .before .before .before .before .before .before .loop .m) (c .before .before .before .before .before .before .loop .o) (c .before .before .before .before .before .before .loop .inv) (omega arith) (c .before .before .before .before .count .result) (c .before .before .before .before .count .ensures .0), c .before .before .before .before .before .before .loop .inv .long)
+
+add-m : tie.Need-add-m Inv-loop μ-loop
+add-m c = omega (arith, c .before .before .before .before .before .before .loop .inv .most)
+
+loop-less : tie.Need-loop-less Inv-loop μ-loop
+loop-less c = omega (arith, c .before .before .before .before .before .before .loop .inv .most)
+
+loop-again : tie.Need-loop-again Inv-loop μ-loop
+loop-again c = going-more (c .before .before .before .before .before .before .before .before .before .args .bytes .now) (c .before .before .before .before .before .before .before .before .before .args .words .now) (c .before .before .before .before .before .before .before .before .before .pre) (c .before .before .before .before .before .before .loop .words) (c .before .before .before .before .before .before .loop .m) (c .before .before .before .before .before .before .loop .o) (c .before .before .before .before .before .before .loop .inv) (omega arith) (c .before .before .before .before .count .result) (c .before .before .before .before .count .ensures .0) (c .before .before .table .last .1 .0) (c .before .before .table .ensures)
+
+same-length : tie.Need-same-length Inv-loop μ-loop
+same-length c = c .before .loop .inv .long
+
+returns : tie.Need-returns Inv-loop μ-loop
+returns c = going-end (c .before .before .before .before .args .bytes .now) (c .before .before .before .before .args .words .now) (c .before .before .before .before .pre) (c .before .loop .words) (c .before .loop .m) (c .before .loop .o) (c .before .loop .inv) (c .loop-test .left)
+
+pub tables-spec : {M : Type 1} → statement M
+tables-spec =
+    tie.close
+    (tie.spec
+    Inv-loop
+    μ-loop
+    loop-holds
+    count-requires
+    table-requires
+    mul-o
+    add-o
+    add-m
+    loop-less
+    loop-again
+    same-length
+    returns)

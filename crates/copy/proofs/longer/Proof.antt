@@ -1,0 +1,34 @@
+-- By what the look at 32 gives. Assumes nothing.
+use mathlib.Core.Path.{sym, ap, _∙_}
+use Rattle.copy.specs.Told.{seen}
+use Rattle.way.specs.Way.{Look, hit, after}
+use Rattle.copy.proofs.Laws.{longer-look}
+use borrow.Author.Needs.{needs}
+use Rattle.copy.proofs.longer.Statement.{statement}
+use Rattle.copy.proofs.longer.Tie as tie
+
+look-in-requires : tie.Need-look-in-requires
+look-in-requires c κs = search needs
+
+enum-told : tie.Need-enum-told
+enum-told c = search needs
+
+enum-known-b : tie.Need-enum-known-b
+enum-known-b c = search needs
+
+enum-told-2 : tie.Need-enum-told-2
+enum-told-2 c = search needs
+
+returns : tie.Need-returns
+returns c = ap (λ (x : Look). after x (hit (c .before .before .before .before .args .best)) (λ b. hit b)) (sym (ap seen (c .enum-told .given .1))) ∙ longer-look (c .before .before .before .before .args .words .now) (c .before .before .before .before .args .address) (c .before .before .before .before .args .best) (seen (c .before .before .look-in .result)) (c .before .before .look-in .ensures)
+
+returns-2 : tie.Need-returns-2
+returns-2 c = ap (λ (x : Look). after x (hit (c .before .before .before .before .before .args .best)) (λ b. hit b)) (sym (ap seen (c .before .b .given .1))) ∙ longer-look (c .before .before .before .before .before .args .words .now) (c .before .before .before .before .before .args .address) (c .before .before .before .before .before .args .best) (seen (c .before .before .before .look-in .result)) (c .before .before .before .look-in .ensures)
+
+returns-3 : tie.Need-returns-3
+returns-3 c = ap (λ (x : Look). after x (hit (c .before .before .before .before .args .best)) (λ b. hit b)) (sym (ap seen (c .enum-told2 .given .1))) ∙ longer-look (c .before .before .before .before .args .words .now) (c .before .before .before .before .args .address) (c .before .before .before .before .args .best) (seen (c .before .before .look-in .result)) (c .before .before .look-in .ensures)
+
+pub longer-spec : {M : Type 1} → statement M
+longer-spec =
+    tie.close
+    (tie.spec look-in-requires enum-told enum-known-b enum-told-2 returns returns-2 returns-3)

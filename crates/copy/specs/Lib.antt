@@ -1,0 +1,4 @@
+pub mod Layout
+pub mod Hash
+pub mod Copy
+pub mod Told

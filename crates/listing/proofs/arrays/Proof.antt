@@ -1,0 +1,39 @@
+-- The need of a list, by its heads of 8, 16 and 24 bits. Assumes nothing.
+use Rattle.way.specs.Listed.{listOf}
+use Rattle.listing.proofs.Laws.{arrays-need}
+use borrow.Author.Needs.{needs}
+use Rattle.listing.proofs.arrays.Statement.{statement}
+use Rattle.listing.proofs.arrays.Tie as tie
+
+count-requires : tie.Need-count-requires
+count-requires c κs = search needs
+
+add-result : tie.Need-add-result
+add-result c = search needs
+
+count-requires-2 : tie.Need-count-requires-2
+count-requires-2 c κs = search needs
+
+add-result-2 : tie.Need-add-result-2
+add-result-2 c = search needs
+
+count-requires-3 : tie.Need-count-requires-3
+count-requires-3 c κs = search needs
+
+add-result-3 : tie.Need-add-result-3
+add-result-3 c = search needs
+
+returns : tie.Need-returns
+returns c = arrays-need (listOf (c .before .before .before .before .args .bytes .now)) (c .before .before .count .result) (c .before .count2 .result) (c .count3 .result) (c .before .before .count .ensures .0) (c .before .count2 .ensures .0) (c .count3 .ensures .0)
+
+pub arrays-spec : {M : Type 1} → statement M
+arrays-spec =
+    tie.close
+    (tie.spec
+    count-requires
+    add-result
+    count-requires-2
+    add-result-2
+    count-requires-3
+    add-result-3
+    returns)

@@ -1,0 +1,25 @@
+-- A byte is below 256. Assumes nothing.
+use mathlib.Core.Path.{refl}
+use Prim.Native.Nat.{_+_, _*_}
+use borrow.Author.Needs.{needs}
+use native.Mathlib.Omega.{arith}
+use Rattle.listing.proofs.bits.Statement.{statement}
+use Rattle.listing.proofs.bits.Tie as tie
+
+mul-at : tie.Need-mul-at
+mul-at c = search needs
+
+add-at : tie.Need-add-at
+add-at c = search needs
+
+shared-slice-read-result : tie.Need-shared-slice-read-result
+shared-slice-read-result c = search needs
+
+cast-result : tie.Need-cast-result
+cast-result c = omega (arith, c .shared-slice-known .given (8 * c .before .args .i + 5))
+
+returns : tie.Need-returns
+returns c = (refl, omega (arith, c .shared-slice-known .given (8 * c .before .args .i + 5)))
+
+pub bits-spec : {M : Type 1} → statement M
+bits-spec = tie.close (tie.spec mul-at add-at shared-slice-read-result cast-result returns)

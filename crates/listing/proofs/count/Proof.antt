@@ -1,0 +1,72 @@
+-- The loop keeps the count over the records from i on, and the head met last. Assumes nothing.
+use mathlib.Core.Path.{_≡_, _∙_}
+use Prim.Native.Nat.{_-_, _/_, _≤_}
+use lib.ListN.{length}
+use Rattle.way.specs.Listed.{routesFrom, routeAt}
+use Rattle.listing.specs.Pick.{picked}
+use Rattle.listing.proofs.Laws.{Counts, counts-none, counts-past, counts-more, counts-low, counts-end}
+use borrow.Author.Needs.{needs}
+use native.Mathlib.Omega.{arith}
+use Rattle.listing.proofs.count.Statement.{statement}
+use Rattle.listing.proofs.count.Tie as tie
+
+abbrev Inv-loop : tie.InvT-loop
+Inv-loop bytes pick m i₀ seen₀ last₀ i seen last = (i ≤ length bytes / 8) × Counts (picked pick m) m (routesFrom bytes (length bytes / 8 - i) i) seen last
+
+abbrev μ-loop : tie.MeasureT-loop
+μ-loop bytes pick m i₀ seen₀ last₀ i seen last = i
+
+loop-holds : tie.Need-loop-holds Inv-loop μ-loop
+loop-holds c = (omega arith, counts-none (picked (c .before .args .pick) (c .before .args .m)) (c .before .args .m) (length (c .before .args .bytes .now) / 8) (c .before .args .bytes .now))
+
+sub-i : tie.Need-sub-i Inv-loop μ-loop
+sub-i c = omega arith
+
+bits-requires : tie.Need-bits-requires Inv-loop μ-loop
+bits-requires c κs = omega arith
+
+picked-requires : tie.Need-picked-requires Inv-loop μ-loop
+picked-requires c κs = search needs
+
+head-requires : tie.Need-head-requires Inv-loop μ-loop
+head-requires c κs = (omega arith, omega arith)
+
+counted-requires : tie.Need-counted-requires Inv-loop μ-loop
+counted-requires c κs = omega (arith, counts-low (picked (c .before .before .before .before .before .before .before .args .pick) (c .before .before .before .before .before .before .before .args .m)) (c .before .before .before .before .before .before .before .args .m) (length (c .before .before .before .before .before .before .before .args .bytes .now) / 8) (c .before .before .before .before .before .loop .i) (c .before .before .before .before .before .before .before .args .bytes .now) (c .before .before .before .before .before .loop .seen) (c .before .before .before .before .before .loop .last) (c .before .before .before .before .before .loop .inv .1))
+
+loop-less : tie.Need-loop-less Inv-loop μ-loop
+loop-less c = omega arith
+
+loop-again : tie.Need-loop-again Inv-loop μ-loop
+loop-again c =
+    let e : c .before .before .before .picked .result ≡ picked (c .before .before .before .before .before .before .before .before .args .pick) (c .before .before .before .before .before .before .before .before .args .m) (routeAt (c .before .before .before .before .before .before .before .before .args .bytes .now) (c .before .before .before .before .before .before .loop .i - 1) .len) = c .before .before .before .picked .ensures ∙ rw (c .before .before .before .before .bits .ensures .0) in
+    (omega arith, counts-more (picked (c .before .before .before .before .before .before .before .before .args .pick) (c .before .before .before .before .before .before .before .before .args .m)) (c .before .before .before .before .before .before .before .before .args .m) (length (c .before .before .before .before .before .before .before .before .args .bytes .now) / 8) (c .before .before .before .before .before .before .loop .i) (c .before .before .before .before .before .before .loop .i - 1) (c .before .before .before .before .before .before .before .before .args .bytes .now) (omega arith) (omega arith) (c .before .before .before .before .before .before .before .before .pre .0) (c .before .before .before .before .before .before .loop .seen) (c .before .before .before .before .before .before .loop .last) (c .before .before .before .before .before .before .loop .inv .1) (c .before .before .before .picked .result) (c .before .head .result) (c .counted .result) e (c .before .before .if1 .taken) (c .before .head .ensures) (c .counted .ensures))
+
+loop-less-2 : tie.Need-loop-less-2 Inv-loop μ-loop
+loop-less-2 c = omega arith
+
+loop-again-2 : tie.Need-loop-again-2 Inv-loop μ-loop
+loop-again-2 c =
+    let e : c .before .picked .result ≡ picked (c .before .before .before .before .before .before .args .pick) (c .before .before .before .before .before .before .args .m) (routeAt (c .before .before .before .before .before .before .args .bytes .now) (c .before .before .before .before .loop .i - 1) .len) = c .before .picked .ensures ∙ rw (c .before .before .bits .ensures .0) in
+    (omega arith, counts-past (picked (c .before .before .before .before .before .before .args .pick) (c .before .before .before .before .before .before .args .m)) (c .before .before .before .before .before .before .args .m) (length (c .before .before .before .before .before .before .args .bytes .now) / 8) (c .before .before .before .before .loop .i) (c .before .before .before .before .loop .i - 1) (c .before .before .before .before .before .before .args .bytes .now) (omega arith) (omega arith) (c .before .before .before .before .before .before .pre .0) (c .before .before .before .before .loop .seen) (c .before .before .before .before .loop .last) (c .before .before .before .before .loop .inv .1) (c .before .picked .result) e (c .if1 .left))
+
+returns : tie.Need-returns Inv-loop μ-loop
+returns c = counts-end (picked (c .before .before .before .args .pick) (c .before .before .before .args .m)) (c .before .before .before .args .m) (length (c .before .before .before .args .bytes .now) / 8) (c .before .loop .i) (c .before .before .before .args .bytes .now) (c .before .loop .seen) (c .before .loop .last) (c .loop-test .left) (c .before .before .before .pre .0) (c .before .loop .inv .1)
+
+pub count-spec : {M : Type 1} → statement M
+count-spec =
+    tie.close
+    (tie.spec
+    Inv-loop
+    μ-loop
+    loop-holds
+    sub-i
+    bits-requires
+    picked-requires
+    head-requires
+    counted-requires
+    loop-less
+    loop-again
+    loop-less-2
+    loop-again-2
+    returns)

@@ -1,0 +1,18 @@
+-- A shift of 1 by a small number is a power of two. Assumes nothing.
+use mathlib.Core.Path.{_∙_}
+use native.Mathlib.Nat.{one-mul}
+use Prim.Native.Nat.{_^_}
+use lib.Pow.{shl-exact}
+use borrow.Author.Needs.{needs}
+use native.Mathlib.Omega.{arith}
+use Rattle.listing.proofs.power.Statement.{statement}
+use Rattle.listing.proofs.power.Tie as tie
+
+shl-result : tie.Need-shl-result
+shl-result c = search needs
+
+returns : tie.Need-returns
+returns c = shl-exact {a = 1} 1 (c .args .n) 32 (omega arith) (omega arith) ∙ one-mul (2 ^ c .args .n)
+
+pub power-spec : {M : Type 1} → statement M
+power-spec = tie.close (tie.spec shl-result returns)

@@ -1,0 +1,54 @@
+-- The loop keeps the entries of the lengths so far, and the default route. Assumes nothing.
+use mathlib.Core.Path.{_≡_}
+use Prim.Native.Nat.{_+_, _*_, _-_, _≤_}
+use Rattle.way.specs.Entries.{entriesTo, tally}
+use Rattle.way.specs.Listed.{listOf}
+use Rattle.listing.proofs.Laws.{total-none, total-more, total-all}
+use native.Mathlib.Omega.{arith}
+use Rattle.listing.proofs.total.Statement.{statement}
+use Rattle.listing.proofs.total.Tie as tie
+
+abbrev Inv-loop : tie.InvT-loop
+Inv-loop bytes sum₀ m₀ sum m = (m ≤ 32) × (sum ≡ entriesTo m (listOf bytes) + tally 0 (listOf bytes)) × (sum ≤ 1099511627776 * m + 1099511627776)
+
+abbrev μ-loop : tie.MeasureT-loop
+μ-loop bytes sum₀ m₀ sum m = 32 - m
+
+count-requires : tie.Need-count-requires Inv-loop μ-loop
+count-requires c κs = (c .before .pre, omega arith)
+
+loop-holds : tie.Need-loop-holds Inv-loop μ-loop
+loop-holds c = (omega arith, total-none (listOf (c .before .before .args .bytes .now)) (c .count .result) (c .before .before .pre) (c .count .ensures .0), omega (arith, c .count .ensures .1))
+
+add-m : tie.Need-add-m Inv-loop μ-loop
+add-m c = omega arith
+
+count-requires-2 : tie.Need-count-requires-2 Inv-loop μ-loop
+count-requires-2 c κs = (c .before .before .before .before .pre, omega arith)
+
+add-sum : tie.Need-add-sum Inv-loop μ-loop
+add-sum c = omega (arith, c .count2 .ensures .1, c .before .before .loop .inv .2)
+
+loop-less : tie.Need-loop-less Inv-loop μ-loop
+loop-less c = omega arith
+
+loop-again : tie.Need-loop-again Inv-loop μ-loop
+loop-again c = (omega arith, total-more (listOf (c .before .before .before .before .before .args .bytes .now)) (c .before .before .loop .m) (c .before .before .loop .sum) (c .count2 .result) (c .before .before .loop .inv .1) (c .count2 .ensures .0), omega (arith, c .count2 .ensures .1, c .before .before .loop .inv .2))
+
+returns : tie.Need-returns Inv-loop μ-loop
+returns c = (total-all (listOf (c .before .before .before .before .args .bytes .now)) (c .before .loop .m) (c .before .loop .sum) (c .before .before .before .before .pre) (omega arith) (omega arith) (c .before .loop .inv .1), omega (arith, c .before .loop .inv .2))
+
+pub total-spec : {M : Type 1} → statement M
+total-spec =
+    tie.close
+    (tie.spec
+    Inv-loop
+    μ-loop
+    count-requires
+    loop-holds
+    add-m
+    count-requires-2
+    add-sum
+    loop-less
+    loop-again
+    returns)

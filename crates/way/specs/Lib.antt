@@ -1,0 +1,11 @@
+pub mod Way
+pub mod Finds
+pub mod Marks
+pub mod Worked
+pub mod Entries
+pub mod Held
+pub mod Count
+pub mod Listed
+pub mod Records
+pub mod Written
+pub mod Trail
