@@ -1,5 +1,6 @@
 //! The proved program beside the second one: the same bytes on standard input, the same bytes on standard output.
 
+use std::env;
 use std::io::{ErrorKind, Write};
 use std::process::{Command, Output, Stdio};
 use std::thread;
@@ -29,9 +30,19 @@ pub fn compare(random: &mut Random, case: usize, proved: &str, second: &str) -> 
     })
 }
 
+/// The program, under the emulator that TOGGLEASH_RUNNER names where there is one.
+fn command(program: &str) -> Command {
+    let Some(runner) = env::var_os("TOGGLEASH_RUNNER").filter(|runner| !runner.is_empty()) else {
+        return Command::new(program);
+    };
+    let mut command = Command::new(runner);
+    command.arg(program);
+    command
+}
+
 fn output(program: &str, feed: &[u8], cut: Option<usize>) -> Result<Vec<u8>, String> {
     let told = |error: std::io::Error| format!("{program}: {error}");
-    let mut child = Command::new(program).stdin(Stdio::piped()).stdout(Stdio::piped()).spawn().map_err(told)?;
+    let mut child = command(program).stdin(Stdio::piped()).stdout(Stdio::piped()).spawn().map_err(told)?;
     let mut input = child.stdin.take().expect("it is piped");
     let (first, rest) = feed.split_at(cut.unwrap_or(feed.len()));
     let send = move || {
