@@ -196,7 +196,7 @@ fn lookup(words: &[u32], feed: &[u8], at: usize) -> Reply
     requires { ⌜ IsTable (seen 4 (now words)) × (at + 5 ≤ length (now feed)) ⌝ }
     ensures { λ r. ⌜ Answered (now (words .entry)) (lookupAt (now (feed .entry)) at) (now (words .entry)) r ⌝ }
 {
-    of_match(lookup::lookup(words, numbers::four_at(feed, at + 1)))
+    of_match(lookup::lookup_on(words, numbers::four_at(feed, at + 1)))
 }
 
 fn of_update(u: update::Updated) -> Reply

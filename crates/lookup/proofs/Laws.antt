@@ -1,20 +1,20 @@
 -- What the functions of the lookup cite: their tests, and the ways in which a turn of the walk ends. Assumes nothing.
-use mathlib.Core.Path.{_≡_, ap, _∙_}
+use mathlib.Core.Path.{_≡_, refl, ap, _∙_}
 use mathlib.Core.Logic.{_≢_}
-use mathlib.Core.Bool.{true, false}
+use mathlib.Core.Bool.{true, false, cond, true≢false}
 use mathlib.Core.List.{List}
 use Prim.Native.Nat.{ℕ, suc, _+_, _-_, _*_, _/_, _%_, _≤_, _<_}
 use native.Mathlib.Omega.{arith}
-use lib.Dec.{ltb}
+use lib.Dec.{eqb}
 use lib.ListN.{length, getD}
 use borrow.Author.Tests.{lt-ltb, le-ltb, eq-eqb, ne-eqb}
 use Rattle.laws.specs.Cases.{same}
-use Rattle.routes.specs.Match.{Match, none, found}
-use Rattle.routes.specs.Answers.{Reply, refused, matched}
+use Rattle.routes.specs.Match.{Match, none}
+use Rattle.routes.specs.Answers.{Reply, found, none as nothing, refused, matched}
 use Rattle.routes.specs.Seen.{misfits, lookupOn}
 use Rattle.arrays.specs.Words.{arrayCount}
 use Rattle.arrays.specs.Table.{seen}
-use Rattle.lookup.specs.Walk.{byteAt, outside, deeper, turn, walkFrom, walk, walked}
+use Rattle.lookup.specs.Walk.{byteAt, outside, deeper, turn, ended, walkFrom, walk, walked}
 use Rattle.lookup.specs.Longest.{walked-seen}
 
 -- ---- the range of a best
@@ -22,27 +22,41 @@ use Rattle.lookup.specs.Longest.{walked-seen}
 pub strange-high : (b : ℕ) → 65535 < b / 256 → true ≡ outside 32 b
 strange-high b h = rw (ne-eqb b 0 (λ e. omega arith), lt-ltb 65535 (b / 256) h, ne-eqb (b / 256) 0 (λ e. omega arith))
 
--- without a hop no length but 0 is in range, and then the best is 0
-pub strange-bare : (b l : ℕ) → b / 256 ≡ 0 → l ≡ 0 → ltb l (b % 256) ≡ outside 32 b
-strange-bare b l e z =
-    rw (z, e) (same b 0 (λ q d. rw (d, q)) (λ n d. rw d (lt-ltb 0 (b % 256) (omega arith))))
+pub strange-long : (b : ℕ) → b / 256 ≤ 65535 → 32 < b % 256 → true ≡ outside 32 b
+strange-long b h l =
+    same (b / 256) 0
+    (λ q e. rw (ne-eqb b 0 (λ z. omega arith), e))
+    (λ q e. rw (ne-eqb b 0 (λ z. omega arith), e, le-ltb 65535 (b / 256) h, lt-ltb 32 (b % 256) l))
 
-pub strange-long : (b l : ℕ) → b / 256 ≢ 0 → l ≡ 32 → b / 256 ≤ 65535 → ltb l (b % 256) ≡ outside 32 b
-strange-long b l n z h = rw (z, ne-eqb b 0 (λ e. omega arith), ne-eqb (b / 256) 0 n, le-ltb 65535 (b / 256) h)
+pub strange-none : (b : ℕ) → b ≡ 0 → false ≡ outside 32 b
+strange-none b e = rw (eq-eqb b 0 e)
 
--- ---- what a best stands for
+pub strange-bare : (b : ℕ) → b ≢ 0 → b / 256 ≤ 65535 → b % 256 ≤ 32 → eqb (b / 256) 0 ≡ outside 32 b
+strange-bare b n h l =
+    same (b / 256) 0
+    (λ q e. rw (ne-eqb b 0 n, e))
+    (λ q e. rw (ne-eqb b 0 n, e, le-ltb 65535 (b / 256) h, le-ltb 32 (b % 256) l))
 
-pub best-none : (b : ℕ) → b ≡ 0 → deeper none b ≡ none
-best-none b e = rw (eq-eqb b 0 e)
+-- ---- what the number of a walk stands for
 
-pub best-some : (b : ℕ) → b ≢ 0 → deeper none b ≡ found (b / 256) (b % 256)
-best-some b n = rw (ne-eqb b 0 n)
+pub ended-bad : (b : ℕ) → b ≡ 1 → refused 2 ≡ ended b
+ended-bad b e = rw (eq-eqb b 1 e)
 
-pub newer-none : (best b : ℕ) → b ≡ 0 → deeper none best ≡ deeper (deeper none best) b
-newer-none best b e = rw (eq-eqb b 0 e)
+pub ended-none : (b : ℕ) → b ≡ 0 → nothing ≡ ended b
+ended-none b e = rw e
 
-pub newer-some : (best b : ℕ) → b ≢ 0 → deeper none b ≡ deeper (deeper none best) b
-newer-some best b n = rw (ne-eqb b 0 n)
+pub ended-found : (b : ℕ) → b ≢ 1 → b ≢ 0 → found (b / 256) (b % 256) ≡ ended b
+ended-found b n z = rw (ne-eqb b 1 n, ne-eqb b 0 z)
+
+pub ended-best : (b : ℕ) → b ≢ 1 → ended b ≡ matched (deeper none b)
+ended-best b n = rw (ne-eqb b 1 n)
+
+-- the best so far or the cell's own: what is found down to here; neither is 1, so it is not
+pub newer-so : (best own r : ℕ) → r ≡ cond (eqb own 0) best own → best ≢ 1 → outside 32 own ≡ false → (deeper none r ≡ deeper (deeper none best) own) × (r ≢ 1)
+newer-so best own r p n b =
+    same own 0
+    (λ q e. (let s : r ≡ best = rw e at p in rw (s, e) (refl, n)))
+    (λ q e. (let s : r ≡ own = rw e at p in rw (s, e) (refl, λ z. true≢false (rw z at b))))
 
 -- ---- a turn of the walk, with `left` levels left, at array a and with m found above
 

@@ -43,6 +43,10 @@ unfoldable pub walkFrom : ℕ → List ℕ → ℕ → ℕ → ℕ → Match →
 walkFrom W ws x zero a m = refused 2
 walkFrom W ws x (suc n) a m = turn W (arrayCount ws) (bestsOf ws a (byteAt x n)) (linksOf ws a (byteAt x n)) m (walkFrom W ws x n)
 
+-- what the number stands for that a walk ends with: its last best, or 1, which no best is, where it was refused
+abbrev pub ended : ℕ → Reply
+ended b = refuse 2 (eqb b 1) (matched (deeper none b))
+
 -- L levels, from the root
 abbrev pub walk : ℕ → List ℕ → ℕ → Reply
 walk L ws x = walkFrom (8 * L) ws x L 1 none

@@ -3,11 +3,11 @@ ghost use mathlib.Core.Path.{_≡_};
 ghost use Prim.Native.Nat.{_+_, _*_, _-_, _/_, _<_};
 ghost use lib.ListN.{length};
 ghost use Rattle.routes.specs.Seen.{lookupOn};
-ghost use Rattle.routes.specs.Match.{none};
-ghost use Rattle.routes.specs.Answers.{matched};
+ghost use mathlib.Core.Bool.{cond};
+ghost use lib.Dec.{eqb};
 ghost use Rattle.arrays.specs.Table.{seen};
 ghost use Rattle.arrays.specs.Decides.{Fits};
-ghost use Rattle.lookup.specs.Walk.{outside, deeper, walk, walked};
+ghost use Rattle.lookup.specs.Walk.{outside, ended, walk, walked};
 ghost use Rattle.lookup.specs.Told.{told};
 
 pub enum Match {
@@ -17,41 +17,36 @@ pub enum Match {
     Refused(u32),
 }
 
-// A best that is neither 0 nor a hop and a length. It does not branch on 0: no processor foresees which cells have a best, and
-// a lookup then takes twice as long.
+// A best that is neither 0 nor a hop and a length. On a table none of these tests is ever true, so that a processor foresees them
+// all; a test that tells which cells have a best would go either way, and a lookup then takes twice as long.
 fn strange(best: u32) -> bool
     ensures { λ r. ⌜ r ≡ outside 32 best ⌝ }
 {
     let hop = best / 256;
-    let longest: u32 = if hop == 0 { 0 } else { 32 };
     if hop > 65535 {
         return true;
     }
-    best % 256 > longest
+    if best % 256 > 32 {
+        return true;
+    }
+    if best == 0 {
+        return false;
+    }
+    hop == 0
 }
 
 // The best so far, or that of a cell that has one.
 fn newer(best: u32, own: u32) -> u32
-    ensures { λ r. ⌜ deeper none r ≡ deeper (deeper none best) own ⌝ }
+    ensures { λ r. ⌜ r ≡ cond (eqb own 0) best own ⌝ }
 {
     if own == 0 { best } else { own }
 }
 
-// The answer that a best stands for.
-fn answer(best: u32) -> Match
-    ensures { λ r. ⌜ told r ≡ matched (deeper none best) ⌝ }
-{
-    if best == 0 {
-        Match::Nothing
-    } else {
-        Match::Found(best / 256, best % 256)
-    }
-}
-
-// The walk down the arrays: the last best on the way.
-fn descend(words: &[u32], address: u32) -> Match
+// The walk down the arrays: the last best on the way, or 1, which no best is, where it meets a number out of its range. One number
+// and not a `Match`, which would pass through memory.
+fn descend(words: &[u32], address: u32) -> u32
     requires { ⌜ Fits (length (now words)) ⌝ }
-    ensures { λ r. ⌜ told r ≡ walk 4 (now (words .entry)) address ⌝ }
+    ensures { λ r. ⌜ ended r ≡ walk 4 (now (words .entry)) address ⌝ }
 {
     let arrays = words.len() / 1024 - 1;
     let mut a: usize = 1;
@@ -64,18 +59,39 @@ fn descend(words: &[u32], address: u32) -> Match
         let own = words[cell];
         let next = words[cell + 1] as usize;
         if strange(own) {
-            return Match::Refused(2);
+            return 1;
         }
         best = newer(best, own);
         if next == 0 {
-            return answer(best);
+            return best;
         }
         if next > arrays {
-            return Match::Refused(2);
+            return 1;
         }
         a = next;
     }
-    Match::Refused(2)
+    1
+}
+
+// The answer that the walk's number stands for.
+fn answer(best: u32) -> Match
+    ensures { λ r. ⌜ told r ≡ ended best ⌝ }
+{
+    if best == 1 {
+        return Match::Refused(2);
+    }
+    if best == 0 {
+        return Match::Nothing;
+    }
+    Match::Found(best / 256, best % 256)
+}
+
+// The longest match of an address in words of a right number: a run's, whose start has tested them.
+pub fn lookup_on(words: &[u32], address: u32) -> Match
+    requires { ⌜ Fits (length (now words)) ⌝ }
+    ensures { λ r. ⌜ told r ≡ lookupOn 32 (seen 4 (now (words .entry))) (walk 4 (now (words .entry)) address) address ⌝ }
+{
+    answer(descend(words, address))
 }
 
 // The longest match of an address.
@@ -86,5 +102,5 @@ pub fn lookup(words: &[u32], address: u32) -> Match
     if audit::misfit(words.len()) {
         return Match::Refused(1);
     }
-    descend(words, address)
+    answer(descend(words, address))
 }

@@ -1,19 +1,21 @@
 -- `lookup::descend` is the layout's walk. The loop's invariant: what is left of the walk, from this array on and with the best so far,
--- is the whole walk. The measure is the levels left. Assumes nothing.
+-- is the whole walk; and the best so far is not 1, which says something else. The measure is the levels left. Assumes nothing.
 use mathlib.Core.Path.{_≡_, refl, sym, ap, _∙_}
+use mathlib.Core.Logic.{_≢_}
 use Prim.Native.Nat.{_+_, _*_, _-_, _≤_}
 use native.Mathlib.Omega.{arith}
+use lib.ListN.{getD}
 use borrow.Author.Needs.{needs}
 use Rattle.routes.specs.Answers.{matched}
 use Rattle.routes.specs.Match.{none}
 use Rattle.lookup.specs.Walk.{byteAt, deeper, walkFrom, walk}
-use Rattle.lookup.proofs.Laws.{bad-best, no-link, bad-link, onward, walk-none}
+use Rattle.lookup.proofs.Laws.{ended-best, newer-so, bad-best, no-link, bad-link, onward, walk-none}
 use Rattle.lookup.proofs.descend.Statement.{statement}
 use Rattle.lookup.proofs.descend.Tie as tie
 
 abbrev Inv-loop : tie.InvT-loop
 Inv-loop words address arrays a₀ best₀ left₀ a best left =
-    (left ≤ 4) × (1 ≤ a) × (a ≤ arrays) × (walkFrom 32 words address left a (deeper none best) ≡ walk 4 words address)
+    (left ≤ 4) × (1 ≤ a) × (a ≤ arrays) × (walkFrom 32 words address left a (deeper none best) ≡ walk 4 words address) × (best ≢ 1)
 
 abbrev μ-loop : tie.MeasureT-loop
 μ-loop words address arrays a₀ best₀ left₀ a best left = left
@@ -22,7 +24,7 @@ sub-arrays : tie.Need-sub-arrays Inv-loop μ-loop
 sub-arrays c = search needs
 
 loop-holds : tie.Need-loop-holds Inv-loop μ-loop
-loop-holds c = (omega arith, omega arith, omega arith, refl)
+loop-holds c = (omega arith, omega arith, omega arith, refl, λ z. omega arith)
 
 sub-left : tie.Need-sub-left Inv-loop μ-loop
 sub-left c = search needs
@@ -81,16 +83,16 @@ returns c =
 newer-requires : tie.Need-newer-requires Inv-loop μ-loop
 newer-requires c κs = search needs
 
-answer-requires : tie.Need-answer-requires Inv-loop μ-loop
-answer-requires c κs = search needs
-
 returns-2 : tie.Need-returns-2 Inv-loop μ-loop
 returns-2 c =
-    let a = c .before .before .before .before .before .before .before .before .before .before .args in
-    let l = c .before .before .before .before .before .before .before .before .loop in
-    c .answer .ensures
-    ∙ ap matched (c .before .before .newer .ensures)
-    ∙ no-link (a .words .now) (a .address) (l .left) (l .a) (deeper none (l .best)) (omega arith) (sym (c .before .before .before .before .strange .ensures) ∙ c .before .before .before .if1 .left) (c .before .if2 .taken)
+    let a = c .before .before .before .before .before .before .before .before .before .args in
+    let l = c .before .before .before .before .before .before .before .loop in
+    let inside = sym (c .before .before .before .strange .ensures) ∙ c .before .before .if1 .left in
+    let own = getD (a .words .now) (1024 * l .a + 512 + 2 * byteAt (a .address) (l .left - 1)) 0 in
+    let n = newer-so (l .best) own (c .before .newer .result) (c .before .newer .ensures) (l .inv .4) inside in
+    ended-best _ (n .1)
+    ∙ ap matched (n .0)
+    ∙ no-link (a .words .now) (a .address) (l .left) (l .a) (deeper none (l .best)) (omega arith) inside (c .if2 .taken)
     ∙ l .inv .3
 
 returns-3 : tie.Need-returns-3 Inv-loop μ-loop
@@ -107,12 +109,14 @@ loop-again : tie.Need-loop-again Inv-loop μ-loop
 loop-again c =
     let a = c .before .before .before .before .before .before .before .before .before .before .args in
     let l = c .before .before .before .before .before .before .before .before .loop in
-    let n = c .before .before .newer in (
+    let inside = sym (c .before .before .before .before .strange .ensures) ∙ c .before .before .before .if1 .left in
+    let own = getD (a .words .now) (1024 * l .a + 512 + 2 * byteAt (a .address) (l .left - 1)) 0 in
+    let n = newer-so (l .best) own (c .before .before .newer .result) (c .before .before .newer .ensures) (l .inv .4) inside in (
       omega arith,
       omega arith,
       omega arith,
-      rw (n .ensures) (onward (a .words .now) (a .address) (l .left) (l .a) (deeper none (l .best)) (omega arith) (sym (c .before .before .before .before .strange .ensures) ∙ c .before .before .before .if1 .left) (c .before .if2 .left) (c .if3 .left))
-          ∙ l .inv .3,
+      rw (n .0) (onward (a .words .now) (a .address) (l .left) (l .a) (deeper none (l .best)) (omega arith) inside (c .before .if2 .left) (c .if3 .left)) ∙ l .inv .3,
+      n .1,
     )
 
 returns-4 : tie.Need-returns-4 Inv-loop μ-loop
@@ -146,7 +150,6 @@ descend-spec =
     strange-requires
     returns
     newer-requires
-    answer-requires
     returns-2
     returns-3
     loop-less

@@ -19,11 +19,14 @@ returns c =
 descend-requires : tie.Need-descend-requires
 descend-requires c κs = no-misfit-fits _ (sym (c .before .misfit .ensures) ∙ c .if1 .left)
 
+answer-requires : tie.Need-answer-requires
+answer-requires c κs = search needs
+
 returns-2 : tie.Need-returns-2
 returns-2 c =
-    let a = c .before .before .before .before .args in
+    let a = c .before .before .before .before .before .args in
     both (a .words .now) (a .address) _ (omega arith)
-    (c .descend .ensures ∙ sized-words (a .words .now) (a .address) (sym (c .before .before .misfit .ensures) ∙ c .before .if1 .left))
+    (c .answer .ensures ∙ c .before .descend .ensures ∙ sized-words (a .words .now) (a .address) (sym (c .before .before .before .misfit .ensures) ∙ c .before .before .if1 .left))
 
 pub lookup-spec : {M : Type 1} → statement M
-lookup-spec = tie.close (tie.spec misfit-requires returns descend-requires returns-2)
+lookup-spec = tie.close (tie.spec misfit-requires returns descend-requires answer-requires returns-2)
