@@ -1,11 +1,14 @@
 //! Measures the library beside other ways of doing the same, all in one run: `bench/run`, `bench/run --quick` for a
 //! rough look, or `bench/run --runs` for the updates inside a run alone. A line gives the median time of one call and how much of it the library takes.
 
+mod boxed;
 mod clock;
 mod lists;
 mod lpm;
+mod runs;
 mod trie;
 
+use boxed::Boxed;
 use clock::{measure, Way};
 use compare::random::Random;
 use lists::Load;
@@ -43,7 +46,7 @@ fn main() {
     if all {
         calls(&mut random, &scale, lpm.as_ref());
     }
-    inside_runs(&mut random, &scale, lpm.as_ref());
+    runs::measure_all(&mut random, &scale, lpm.as_ref());
     if lpm.is_none() {
         println!("rte_lpm took no part: libdpdk-dev is not installed, or it did not start");
     }
@@ -75,7 +78,8 @@ fn sum(lookup: Lookup, words: &[u32], addresses: &[u32]) -> u64 {
 }
 
 fn lookups(random: &mut Random, scale: &Scale, load: &Load, lpm: Option<&Lpm>) {
-    let (words, trie) = (&table(&load.list, ARRAYS), &Trie::new(&load.list));
+    let words = &table(&load.list, ARRAYS);
+    let (trie, boxed) = (&Trie::new(&load.list), &Boxed::new(&load.list));
     let sets = [
         ("random addresses", lists::random_addresses(random, scale.addresses)),
         ("addresses inside the deepest arrays", lists::deep_addresses(random, load, scale.addresses)),
@@ -85,7 +89,8 @@ fn lookups(random: &mut Random, scale: &Scale, load: &Load, lpm: Option<&Lpm>) {
             Way::new("toggleash_lookup", || sum(ffi::toggleash_lookup, words, addresses)),
             Way::new("C loop with the same refusals", || sum(plain_checking, words, addresses)),
             Way::new("C loop that trusts the words", || sum(plain_trusting, words, addresses)),
-            Way::new("Rust trie of one bit a step", || trie.sum(addresses)),
+            Way::new("Rust trie of one bit a step, one vector", || trie.sum(addresses)),
+            Way::new("Rust trie of one bit a step, boxes", || boxed.sum(addresses)),
         ];
         if let Some(lpm) = lpm {
             lpm.fill(&load.list);
@@ -118,69 +123,6 @@ fn updates(random: &mut Random, scale: &Scale, load: &Load, arrays: usize, lpm: 
         ways.push(Way::new("DPDK's rte_lpm_delete, rte_lpm_add", || lpm.flap(&routes)));
     }
     measure(&title("update", load, "taken out and put back"), scale.rounds, 2 * count, ways);
-}
-
-/// Updates inside a run, for few arrays and many: where each update checks the table again, as single calls do, and where
-/// the run's start alone does. The last lines give updates a second.
-fn inside_runs(random: &mut Random, scale: &Scale, lpm: Option<&Lpm>) {
-    let dense =
-        [1, 64, ARRAYS].map(|arrays| Flaps::new(lists::dense(random, arrays, 16 * arrays), arrays, random, scale));
-    let sparse = [64, ARRAYS].map(|arrays| Flaps::new(lists::sparse(random, arrays), arrays, random, scale));
-    let mut rows = Vec::new();
-    for mut flaps in [Vec::from(dense), Vec::from(sparse)] {
-        let title = format!("the start checks, {}s, one run for each number of arrays", flaps[0].load.name);
-        let ways = flaps.iter_mut().map(|flaps| Way::new("toggleash_run", || flaps.run())).collect();
-        let after = measure(&title, scale.rounds, scale.addresses / 50, ways);
-        for (flaps, after) in flaps.iter_mut().zip(after) {
-            rows.push((flaps.load.name, flaps.arrays, [flaps.checked(scale), after, flaps.by_lpm(scale, lpm)]));
-        }
-    }
-    println!("updates a second inside a run");
-    println!("  {:<14}{:>6}{:>22}{:>20}{:>14}", "", "arrays", "each update checks", "the start checks", "rte_lpm");
-    for (name, arrays, times) in rows {
-        let [before, after, lpm] = times.map(|time| 1e9 / time);
-        println!("  {name:<14}{arrays:>6}{before:>22.0}{after:>20.0}{lpm:>14.0}");
-    }
-}
-
-/// Routes of a table that are taken out and put back.
-struct Flaps {
-    load: Load,
-    arrays: usize,
-    words: Vec<u32>,
-    routes: Vec<Route>,
-    feed: Vec<u8>,
-    reply: Vec<u8>,
-}
-
-impl Flaps {
-    fn new(load: Load, arrays: usize, random: &mut Random, scale: &Scale) -> Flaps {
-        let words = table(&load.list, arrays);
-        let routes: Vec<Route> = (0..scale.addresses / 100).map(|_| random.pick(load.list.routes())).collect();
-        let feed = routes.iter().flat_map(take_and_put).collect();
-        let reply = vec![0; 10 * routes.len()];
-        Flaps { load, arrays, words, routes, feed, reply }
-    }
-
-    fn run(&mut self) -> u64 {
-        accepted(toggleash::run(&mut self.words, &self.feed, &mut self.reply))
-    }
-
-    /// Nanoseconds of an update by single calls. These and rte_lpm take fewer of the routes, as they are slow.
-    fn checked(&mut self, scale: &Scale) -> f64 {
-        let routes = &self.routes[..(scale.addresses / 200 / self.arrays).clamp(4, 2_000)];
-        let ways = vec![Way::new("toggleash_withdraw, toggleash_announce", || flap(&mut self.words, routes))];
-        measure(&title("each update checks", &self.load, "single calls"), scale.rounds, 2 * routes.len(), ways)[0]
-    }
-
-    /// Nanoseconds of an update by rte_lpm, infinitely many where there is none.
-    fn by_lpm(&self, scale: &Scale, lpm: Option<&Lpm>) -> f64 {
-        let Some(lpm) = lpm else { return f64::INFINITY };
-        let routes = &self.routes[..(20 * self.arrays).min(self.routes.len())];
-        lpm.fill(&self.load.list);
-        let ways = vec![Way::new("DPDK's rte_lpm_delete, rte_lpm_add", || lpm.flap(routes))];
-        measure(&title("the same routes", &self.load, "rte_lpm"), scale.rounds, 2 * routes.len(), ways)[0]
-    }
 }
 
 fn accepted(ran: Result<toggleash::Ran, toggleash::Refusal>) -> u64 {
