@@ -19,6 +19,8 @@ use trie::Trie;
 
 const ARRAYS: usize = 4_096;
 const ROUTES: usize = 100_000;
+/// About as many as the internet's routers hold.
+const MOST: usize = 1_000_000;
 
 extern "C" {
     fn plain_trusting(words: *const u32, n: usize, address: u32) -> Answer;
@@ -41,7 +43,7 @@ fn main() {
         Some(_) => panic!("usage: bench/run [--quick | --runs]"),
     };
     let mut random = Random::for_case(1, "bench", 0);
-    let lpm = Lpm::open(2 * ROUTES as u32, 2 * ARRAYS as u32);
+    let lpm = Lpm::open(2 * MOST as u32, 2 * ARRAYS as u32);
     println!("one call, median of {} rounds; last column: the library's time over this one's", scale.rounds);
     if all {
         calls(&mut random, &scale, lpm.as_ref());
@@ -59,6 +61,8 @@ fn calls(random: &mut Random, scale: &Scale, lpm: Option<&Lpm>) {
         updates(random, scale, &load, ARRAYS, lpm);
         whole(scale, &load);
     }
+    let most = lists::dense(random, ARRAYS, MOST);
+    lookups(random, scale, &most, lpm);
     for arrays in [7, 64] {
         updates(random, scale, &lists::sparse(&mut Random::for_case(1, "small", 0), arrays), arrays, None);
     }
