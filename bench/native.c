@@ -11,3 +11,11 @@ toggleash_ran toggleash_run(uint32_t *words, size_t n, const uint8_t *feed, size
     by_pointer_run(&ran, words, n, feed, feed_len, reply, reply_len);
     return ran;
 }
+
+void by_pointer_copy_build(toggleash_built *built, const uint8_t *bytes, size_t bytes_len, uint32_t *words, size_t n);
+
+toggleash_built toggleash_copy_build(const uint8_t *bytes, size_t bytes_len, uint32_t *words, size_t n) {
+    toggleash_built built;
+    by_pointer_copy_build(&built, bytes, bytes_len, words, n);
+    return built;
+}

@@ -3,6 +3,7 @@
 
 mod boxed;
 mod clock;
+mod copies;
 mod lists;
 mod lpm;
 mod runs;
@@ -60,6 +61,7 @@ fn calls(random: &mut Random, scale: &Scale, lpm: Option<&Lpm>) {
         lookups(random, scale, &load, lpm);
         updates(random, scale, &load, ARRAYS, lpm);
         whole(scale, &load);
+        copies::whole(scale, &load);
     }
     let most = lists::dense(random, ARRAYS, MOST);
     lookups(random, scale, &most, lpm);
@@ -77,7 +79,7 @@ fn table(list: &RouteList, arrays: usize) -> Vec<u32> {
 }
 
 fn sum(lookup: Lookup, words: &[u32], addresses: &[u32]) -> u64 {
-    // SAFETY: the words are a table, and the pointer and length are the slice's.
+    // SAFETY: the words are a table or a copy, and the pointer and length are the slice's.
     addresses.iter().map(|&address| u64::from(unsafe { lookup(words.as_ptr(), words.len(), address) }.hop)).sum()
 }
 
@@ -88,9 +90,11 @@ fn lookups(random: &mut Random, scale: &Scale, load: &Load, lpm: Option<&Lpm>) {
         ("random addresses", lists::random_addresses(random, scale.addresses)),
         ("addresses inside the deepest arrays", lists::deep_addresses(random, load, scale.addresses)),
     ];
+    let copy = &copies::words(&load.list);
     for (name, addresses) in &sets {
         let mut ways = vec![
             Way::new("toggleash_lookup", || sum(ffi::toggleash_lookup, words, addresses)),
+            Way::new("toggleash_copy_lookup", || sum(ffi::toggleash_copy_lookup, copy, addresses)),
             Way::new("C loop with the same refusals", || sum(plain_checking, words, addresses)),
             Way::new("C loop that trusts the words", || sum(plain_trusting, words, addresses)),
             Way::new("Rust trie of one bit a step, one vector", || trie.sum(addresses)),

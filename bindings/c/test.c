@@ -51,6 +51,17 @@ static void ran(const char *what, toggleash_ran r, uint32_t refusal, uint32_t st
     same(what, rest[3], r.refused);
 }
 
+static void needed(const char *what, toggleash_needed d, uint32_t refusal, uint64_t count) {
+    same(what, refusal, d.refusal);
+    same(what, count, d.words);
+}
+
+static void built(const char *what, toggleash_built b, uint32_t refusal, uint64_t routes, uint64_t markers) {
+    same(what, refusal, b.refusal);
+    same(what, routes, b.routes);
+    same(what, markers, b.markers);
+}
+
 static void updates(void) {
     same("clear", 0, toggleash_clear(words, ROOM));
     update("announce", toggleash_announce(words, ROOM, 0x0A010180, 25, 65535), 0, 65535, 128);
@@ -107,10 +118,68 @@ static void nothing(void) {
     ran("run, no table", toggleash_run(words, ROOM, NULL, 0, NULL, 0), 2, 0, zeros);
 }
 
+/* 10.0.0.0/8, 10.1.0.0/20 and 10.1.4.0/22, whose one marker is 10.1.0.0/16: 8 * 4 + 1,024 words. */
+static const uint8_t sample[25] = {1, 10, 0, 0, 0, 8,  0,    1,    1, 10, 1, 0, 0, 20, 0, 3,
+                                   1, 10, 1, 4, 0, 22, 0xFF, 0xFF, 0};
+#define NEED 1056
+
+static uint32_t copy[NEED + 2];
+
+static void spoil(void) {
+    memset(copy, 0xEE, sizeof copy);
+}
+
+static void kept(const char *what, size_t from) {
+    uint64_t changed = 0;
+    for (size_t i = from; i < NEED + 2; i++)
+        changed += copy[i] != 0xEEEEEEEE;
+    same(what, 0, changed);
+}
+
+static void copies(void) {
+    needed("need", toggleash_copy_need(sample, sizeof sample), 0, NEED);
+    needed("need, empty list", toggleash_copy_need(sample + 24, 1), 0, 1024);
+    spoil();
+    built("build", toggleash_copy_build(sample, sizeof sample, copy, NEED + 2), 0, 3, 1);
+    kept("words past the need", NEED);
+    answer("copy lookup", toggleash_copy_lookup(copy, NEED + 2, 0x0A010509), 0, 1, 65535, 22);
+    answer("copy lookup, next box out", toggleash_copy_lookup(copy, NEED + 2, 0x0A010809), 0, 1, 3, 20);
+    answer("copy lookup, by the marker", toggleash_copy_lookup(copy, NEED, 0x0A011000), 0, 1, 1, 8);
+    answer("copy lookup, none", toggleash_copy_lookup(copy, NEED, 0x0B000000), 0, 0, 0, 0);
+    built("build, default", toggleash_copy_build((uint8_t[]){1, 0, 0, 0, 0, 0, 0, 7, 0}, 9, copy, 1032), 0, 1, 0);
+    answer("copy lookup, default", toggleash_copy_lookup(copy, 1032, 0xFFFFFFFF), 0, 1, 7, 0);
+    built("build, empty list", toggleash_copy_build(sample + 24, 1, copy, 1024), 0, 0, 0);
+    answer("copy lookup, empty list", toggleash_copy_lookup(copy, 1024, 0x0A010509), 0, 0, 0, 0);
+}
+
+static void no_copies(void) {
+    spoil();
+    needed("need, null", toggleash_copy_need(NULL, 0), 2, 0);
+    needed("need, no end", toggleash_copy_need(sample, 24), 2, 0);
+    needed("need, no record", toggleash_copy_need(sample + 1, 24), 2, 0);
+    built("build, null", toggleash_copy_build(NULL, 0, NULL, 0), 2, 0, 0);
+    built("build, null bytes", toggleash_copy_build(NULL, 0, copy, NEED), 2, 0, 0);
+    built("build, no end", toggleash_copy_build(sample, 24, copy, NEED), 2, 0, 0);
+    built("build, null words", toggleash_copy_build(sample, sizeof sample, NULL, 0), 9, 0, 0);
+    built("build, a word short", toggleash_copy_build(sample, sizeof sample, copy, NEED - 1), 9, 0, 0);
+    kept("words of a refused build", 0);
+    answer("copy lookup, null", toggleash_copy_lookup(NULL, 0, 1), 2, 0, 0, 0);
+    answer("copy lookup, foreign words", toggleash_copy_lookup(copy, NEED, 0x0A010509), 2, 0, 0, 0);
+    memset(copy, 0, sizeof copy);
+    answer("copy lookup, too few words", toggleash_copy_lookup(copy, 1023, 1), 2, 0, 0, 0);
+    answer("copy lookup, zeros", toggleash_copy_lookup(copy, 1024, 1), 0, 0, 0, 0);
+    copy[0] = 256;
+    answer("copy lookup, a default alone", toggleash_copy_lookup(copy, 1024, 1), 0, 1, 1, 0);
+    copy[0] = 257;
+    answer("copy lookup, default with a length", toggleash_copy_lookup(copy, 1024, 1), 2, 0, 0, 0);
+}
+
 int main(void) {
     updates();
     bytes();
     nothing();
+    copies();
+    no_copies();
     printf("%u fields compared, %u differ\n", compared, differing);
     return differing != 0;
 }

@@ -4,6 +4,10 @@
  * Words. A table of A arrays, A from 1 to 4,096, takes n = 1,024 * (A + 1) words; n counts words, not bytes. The words
  * are the whole state: there is nothing to open or close, and they can be copied or moved. Start with toggleash_clear.
  *
+ * Copies. A line card that only looks up can have a copy of a route list, in words of its own that are no table: build
+ * it from the bytes that toggleash_write_out wrote, in as many words as toggleash_copy_need tells or more, and read it
+ * with toggleash_copy_lookup. Any number of words may be lent to these calls: none of them refuses by 1.
+ *
  * Addresses, hops. An address is a number, a.b.c.d being a * 2^24 + b * 2^16 + c * 2^8 + d. A hop is from 1 to 65,535.
  *
  * Pointers. Each pointer must lead to as many elements as the length beside it says, for as long as the call lasts;
@@ -17,13 +21,15 @@
  * Refusals. `refusal` is 0 where the call answered. Else it is one of these numbers, and all other fields are 0:
  *
  *   1  n is not a multiple of 1,024 from 2,048 to 4,195,328
- *   2  the words are not a table; from lookup: the walk met a value that no table holds
+ *   2  the words are not a table; from lookup: the walk met a value that no table holds; from a copy's need and build:
+ *      the bytes are not one whole written-out list of a table, of any room; from a copy's lookup: the words are fewer
+ *      than 1,024, or the walk met a number outside its range
  *   3  length is over 32
  *   4  a bit of the address after the first `length` is set
  *   5  hop is 0 or over 65,535
  *   7  the prefix is not held
  *   8  the prefix is not held, and the list with the route added needs more arrays than the words have
- *   9  the buffer is too short for the written list
+ *   9  the buffer is too short for the written list; from a copy's build: the words are fewer than the copy needs
  *
  * There is no 6. Where several apply, the first in this order is given: 1, 3, 4, 5, 2, 7, 8 or 9.
  */
@@ -49,7 +55,7 @@ typedef struct {
 
 /* What a lookup finds. */
 typedef struct {
-    uint32_t refusal; /* 0, 1 or 2 */
+    uint32_t refusal; /* 0, 1 or 2; in a copy 0 or 2 */
     uint32_t found;   /* 1: a route matches; 0: none does, and hop and length are 0 */
     uint32_t hop;     /* hop of the longest match */
     uint32_t length;  /* its length, 0 to 32 */
@@ -79,6 +85,19 @@ typedef struct {
     uint64_t refused;  /* records refused */
 } toggleash_ran;
 
+/* What a copy needs. */
+typedef struct {
+    uint32_t refusal; /* 0 or 2 */
+    uint64_t words;   /* 8 * (routes + markers) + 1,024 */
+} toggleash_needed;
+
+/* What a build counts. */
+typedef struct {
+    uint32_t refusal; /* 0, 2 or 9 */
+    uint64_t routes;  /* routes of the list, the default route included */
+    uint64_t markers; /* distinct entries beside the routes, which lead a search to longer ones */
+} toggleash_built;
+
 /* Makes the words the table of no route, whatever they hold. Returns 0, or 1. */
 uint32_t toggleash_clear(uint32_t *words, size_t n);
 
@@ -104,6 +123,20 @@ toggleash_written toggleash_write_out(const uint32_t *words, size_t n, uint8_t *
  * by 1 or 2, before any record. A refused record is replied to and the run goes on. Feed and reply may have 0 bytes. */
 toggleash_ran toggleash_run(uint32_t *words, size_t n, const uint8_t *feed, size_t feed_len, uint8_t *reply,
                             size_t reply_len);
+
+/* Counts the words that a copy of a written-out list needs. Refuses by 2 exactly where the bytes, all of them, are not
+ * what toggleash_write_out writes for some table: records of routes in order, the end, nothing after it. 0 bytes, which
+ * may be null, are no list; the empty list is one byte 0. */
+toggleash_needed toggleash_copy_need(const uint8_t *bytes, size_t bytes_len);
+
+/* Makes the words a copy of the list, whatever they hold; words past those needed stay. Refuses by 2 as
+ * toggleash_copy_need does, then by 9; a refused build has changed no word. The bytes are not needed afterwards. */
+toggleash_built toggleash_copy_build(const uint8_t *bytes, size_t bytes_len, uint32_t *words, size_t n);
+
+/* Finds the longest match in a copy. n may be any number from the need on, whatever stands in the words past it. Does
+ * not test the copy: on words that are none it reads inside them and gives what its walk gives (docs/COPY.md), or 2.
+ * With fewer than 1,024 words, null and 0 too, it always gives 2. */
+toggleash_answer toggleash_copy_lookup(const uint32_t *words, size_t n, uint32_t address);
 
 #ifdef __cplusplus
 }

@@ -3,7 +3,7 @@
 
 use std::ptr::{null, null_mut};
 
-use toggleash::ffi::{self, Answer, Counts, Ran, Update, Written};
+use toggleash::ffi::{self, Answer, Built, Counts, Needed, Ran, Update, Written};
 
 use crate::guard::{begin_call, Lent, Side};
 use crate::pair::{same, Same};
@@ -14,7 +14,8 @@ const FAR: [usize; 6] = [1 << 23, 1 << 32, (1 << 32) + 2_048, 1 << 60, usize::MA
 pub fn compare() -> Same {
     nothing_lent()?;
     FAR.into_iter().try_for_each(far_lengths)?;
-    refused_fields()
+    refused_fields()?;
+    copy_fields()
 }
 
 /// Refusal 1 from every call, whatever else applies, with words that lead nowhere.
@@ -84,4 +85,28 @@ fn refused_fields() -> Same {
         }
     }
     Ok(())
+}
+
+/// The calls on copies with nothing lent, and all fields of their answers for the default route alone and for no route.
+fn copy_fields() -> Same {
+    let mut words = Lent::copy_of(&[7; 1_032], Side::Back);
+    let default: [u8; 9] = [1, 0, 0, 0, 0, 0, 0, 5, 0];
+    begin_call("a call of C on a copy");
+    let (first, n, bytes) = (words.as_mut_ptr(), words.len(), default.as_ptr());
+    let needed = |refusal, words| Needed { refusal, words };
+    let built = |refusal, routes| Built { refusal, routes, markers: 0 };
+    let refused = Answer { refusal: 2, ..Answer::default() };
+    let found = Answer { found: 1, hop: 5, ..Answer::default() };
+    unsafe {
+        same(|| "copy need of null".into(), ffi::toggleash_copy_need(null(), 0), needed(2, 0))?;
+        same(|| "copy build from null".into(), ffi::toggleash_copy_build(null(), 0, first, n), built(2, 0))?;
+        same(|| "copy build to null".into(), ffi::toggleash_copy_build(bytes, 9, null_mut(), 0), built(9, 0))?;
+        same(|| "copy lookup in null".into(), ffi::toggleash_copy_lookup(null(), 0, 0), refused)?;
+        same(|| "copy need".into(), ffi::toggleash_copy_need(bytes, 9), needed(0, 1_032))?;
+        same(|| "copy build".into(), ffi::toggleash_copy_build(bytes, 9, first, n), built(0, 1))?;
+        same(|| "copy lookup".into(), ffi::toggleash_copy_lookup(first, n, u32::MAX), found)?;
+        same(|| "copy build of none".into(), ffi::toggleash_copy_build(bytes.add(8), 1, first, 1_024), built(0, 0))?;
+        same(|| "copy lookup of none".into(), ffi::toggleash_copy_lookup(first, 1_024, 0), Answer::default())?;
+        same(|| "copy lookup in too few".into(), ffi::toggleash_copy_lookup(first, 1_023, 0), refused)
+    }
 }

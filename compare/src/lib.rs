@@ -1,8 +1,10 @@
 //! The parts of the comparison: random input, guarded memory, and each call made on the library and on the list.
 
+pub mod copies;
 pub mod damage;
 pub mod face;
 pub mod feeds;
+pub mod foreign;
 pub mod guard;
 pub mod lists;
 pub mod pair;
@@ -10,3 +12,4 @@ pub mod programs;
 pub mod random;
 pub mod rooms;
 pub mod tally;
+pub mod unlisted;

@@ -3,6 +3,7 @@
 use std::collections::{BTreeMap, BTreeSet};
 
 use second::list::mask;
+use second::memory::MOST_ARRAYS;
 use second::{layout, Prefix, RouteList};
 
 use crate::feeds::{hop, Terrain};
@@ -60,6 +61,58 @@ pub fn filling(random: &mut Random, terrain: &Terrain, most: usize) -> RouteList
         }
     }
     growing.list()
+}
+
+/// A list of so many routes, or hardly fewer: of all lengths, or a short one of few.
+pub fn any_list(random: &mut Random, routes: usize) -> RouteList {
+    match routes < 1_000 && random.chance(25) {
+        true => of_few_lengths(random, routes),
+        false => crowded(random, routes),
+    }
+}
+
+fn of_few_lengths(random: &mut Random, routes: usize) -> RouteList {
+    let terrain = Terrain::new(random, routes);
+    let lengths: Vec<u32> = (0..random.within(1..=4)).map(|_| random.below(33) as u32).collect();
+    let mut growing = Growing::default();
+    for _ in 0..routes {
+        let prefix = Prefix::around(terrain.address(random), random.pick(&lengths));
+        growing.grow(prefix, hop(random), MOST_ARRAYS);
+    }
+    growing.list()
+}
+
+/// The more routes, the more of them stand in one array, so that no more arrays are needed than a table has. The
+/// default route is held as often as not.
+fn crowded(random: &mut Random, routes: usize) -> RouteList {
+    let most = 1 + random.within(routes / 40..=routes / 15 + 40).min(MOST_ARRAYS - 1);
+    let terrain = Terrain::new(random, most);
+    let mut growing = Growing::default();
+    if routes > 0 && random.chance(50) {
+        growing.grow(Prefix { address: 0, length: 0 }, hop(random), most);
+    }
+    for _ in growing.count()..routes {
+        let anywhere = Prefix::around(random.word(), random.within(1..=32) as u32);
+        let prefix = if random.chance(20) { anywhere } else { terrain.prefix(random) };
+        if prefix.length > 0 {
+            growing.grow(prefix, hop(random), most);
+        }
+    }
+    crowd(random, &mut growing, routes);
+    growing.list()
+}
+
+/// Adds routes to the arrays that are needed already until there are so many, unless they are too few for them.
+fn crowd(random: &mut Random, growing: &mut Growing, routes: usize) {
+    let heads: Vec<(u32, u32)> = growing.heads().chain([(0, 0)]).collect();
+    for _ in 0..4 * routes {
+        if growing.count() >= routes {
+            return;
+        }
+        let (level, head) = random.pick(&heads);
+        let length = 8 * level + random.within(1..=8) as u32;
+        growing.grow(Prefix::around(head | random.word() >> (8 * level), length), hop(random), heads.len());
+    }
 }
 
 /// The list as a table whose arrays stand anywhere.

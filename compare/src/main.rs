@@ -5,7 +5,7 @@ use std::process::ExitCode;
 
 use compare::random::Random;
 use compare::tally::Tally;
-use compare::{damage, face, guard, programs, rooms};
+use compare::{copies, damage, face, foreign, guard, programs, rooms, unlisted};
 
 const USAGE: &str = "usage: compare [--long] [--seed NUMBER] [--programs PROVED SECOND]";
 
@@ -13,6 +13,9 @@ const USAGE: &str = "usage: compare [--long] [--seed NUMBER] [--programs PROVED 
 const RECORDS: u64 = 240_000;
 /// Feeds that the programs take in a plain run.
 const FEEDS: usize = 1_000;
+/// Copies that a plain run builds from lists, and lists and copies that it damages.
+const COPIES: u64 = 600;
+const DAMAGED_COPIES: u64 = 24_000;
 /// How much more a long run does.
 const LONG: u64 = 20;
 
@@ -56,6 +59,8 @@ fn compare_library(options: &Options) -> u64 {
     damaged(options, &mut tally);
     all_rooms(options, &mut tally);
     largest_rooms(options, &mut tally);
+    all_copies(options, &mut tally);
+    damaged_copies(options, &mut tally);
     tally.answers();
     println!("compare, seed {}: {tally}", options.seed);
     tally.differences
@@ -125,6 +130,44 @@ fn damaged(options: &Options, tally: &mut Tally) {
         };
         let result = damage::memory(&mut random, arrays, tally);
         tally.case("damage", case, result.map_err(|text| format!("{text} (in {arrays} arrays)")));
+    }
+}
+
+/// Few large lists: a build goes over the bytes about 130 times.
+fn all_copies(options: &Options, tally: &mut Tally) {
+    for case in 0..COPIES * options.times {
+        if tally.enough() {
+            return;
+        }
+        let mut random = begin(options, "copies", case);
+        let routes = match case % COPIES {
+            0 => 50_000,
+            1 => random.within(6_000..=50_000),
+            2..=11 => random.within(1_000..=6_000),
+            12..=99 => random.within(60..=1_000),
+            case => case as usize % 60,
+        };
+        let result = copies::list(&mut random, routes, tally);
+        tally.case("copies", case, result.map_err(|text| format!("{text} (for {routes} routes)")));
+    }
+}
+
+/// Bytes that are hardly a list, and words that are hardly a copy. The first lists need 4,096 arrays, one more and two;
+/// then comes one of about 50,000 routes, too sparse for any table.
+fn damaged_copies(options: &Options, tally: &mut Tally) {
+    for case in 0..DAMAGED_COPIES * options.times {
+        if tally.enough() {
+            return;
+        }
+        let mut random = begin(options, "damaged copies", case);
+        let result = match case % DAMAGED_COPIES {
+            more @ 0..=2 => unlisted::widest(&mut random, more as usize, tally),
+            3 => unlisted::widest(&mut random, 40_000, tally),
+            _ if case % 3 == 0 => unlisted::torn(&mut random, tally),
+            _ if case % 3 == 1 => foreign::damaged(&mut random, tally),
+            _ => foreign::made_up(&mut random, tally),
+        };
+        tally.case("damaged copies", case, result);
     }
 }
 

@@ -23,9 +23,9 @@ pub struct Pair {
 }
 
 /// An answer in the form that both sides share.
-type Told<T> = Result<T, u8>;
+pub type Told<T> = Result<T, u8>;
 
-fn library<T>(result: Result<T, toggleash::Refusal>) -> Told<T> {
+pub fn library<T>(result: Result<T, toggleash::Refusal>) -> Told<T> {
     result.map_err(toggleash::Refusal::number)
 }
 
@@ -41,7 +41,7 @@ pub fn same<T: PartialEq + std::fmt::Debug>(what: impl Fn() -> String, library: 
 }
 
 /// The lent elements are those that must be there.
-fn left<T: PartialEq + std::fmt::Debug>(what: impl Fn() -> String, expected: &[T], lent: &[T]) -> Same {
+pub fn left<T: PartialEq + std::fmt::Debug>(what: impl Fn() -> String, expected: &[T], lent: &[T]) -> Same {
     // Comparing at once is much faster than looking for the first that differs.
     if expected == lent {
         return Ok(());

@@ -114,7 +114,7 @@ fn after_burst(random: &mut Random, terrain: &Terrain, pair: &Pair, known: &[Pre
 }
 
 /// The first and last address inside and those beside.
-fn neighbours(prefix: Prefix) -> [u32; 4] {
+pub fn neighbours(prefix: Prefix) -> [u32; 4] {
     let (first, last) = (prefix.address, prefix.last());
     [first.wrapping_sub(1), first, last, last.wrapping_add(1)]
 }

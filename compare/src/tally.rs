@@ -15,7 +15,23 @@ pub struct Tally {
     pub lookups: u64,
     pub tables: u64,
     pub damaged: u64,
+    pub copies: Copies,
     pub differences: u64,
+}
+
+/// Of copies for the line card.
+#[derive(Default)]
+pub struct Copies {
+    pub built: u64,
+    pub lookups: u64,
+    /// Bytes that are hardly a list.
+    pub torn: u64,
+    /// Words that are hardly a copy.
+    pub damaged: u64,
+    /// How often 2 was the right answer for bytes, 9 for the words of a build, 2 in a lookup.
+    pub bytes_refused: u64,
+    pub words_refused: u64,
+    pub lookups_refused: u64,
 }
 
 /// How often each refusal, by its number, and each stop was the right answer.
@@ -39,7 +55,9 @@ impl Tally {
         refusals.remove(6);
         refusals.remove(0);
         println!("refusals 1, 2, 3, 4, 5, 7, 8, 9 met {refusals:?} times, stops 0 to 4 {stops:?} times");
-        if !self.enough() && (refusals.contains(&0) || stops.contains(&0)) {
+        let copies = [self.copies.bytes_refused, self.copies.words_refused, self.copies.lookups_refused];
+        println!("for copies, bytes refused by 2, words by 9 and lookups by 2 {copies:?} times");
+        if !self.enough() && [&refusals[..], &stops, &copies].concat().contains(&0) {
             println!("difference: one of them was never met");
             self.differences += 1;
         }
@@ -60,8 +78,15 @@ impl Tally {
 
 impl fmt::Display for Tally {
     fn fmt(&self, f: &mut fmt::Formatter<'_>) -> fmt::Result {
-        let Tally { records, feeds, updates, lookups, tables, damaged, differences } = self;
+        let Tally { records, feeds, updates, lookups, tables, damaged, copies, differences } = self;
         write!(f, "{records} records in {feeds} feeds, {updates} direct updates, {lookups} lookups, ")?;
-        write!(f, "{tables} tables, {damaged} damaged memories: {differences} differences")
+        write!(f, "{tables} tables, {damaged} damaged memories; {copies}: {differences} differences")
+    }
+}
+
+impl fmt::Display for Copies {
+    fn fmt(&self, f: &mut fmt::Formatter<'_>) -> fmt::Result {
+        let Copies { built, lookups, torn, damaged, .. } = self;
+        write!(f, "{built} copies, {lookups} lookups in them, {torn} damaged lists, {damaged} damaged copies")
     }
 }

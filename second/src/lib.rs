@@ -1,7 +1,10 @@
-//! A second implementation of document 01, written from the document alone, to compare the proved one with.
+//! A second implementation of document 01 and of document 02's item 1, written from the documents alone, to compare the
+//! proved one with.
 //!
-//! Routes are a plain sorted list. Nothing here knows the words of a table but [`layout`], which reads docs/LAYOUT.md.
+//! Routes are a plain sorted list. Nothing here knows the words of a table but [`layout`], which reads docs/LAYOUT.md,
+//! nor those of a copy but [`copy`], which reads docs/COPY.md.
 
+pub mod copy;
 pub mod feed;
 pub mod layout;
 pub mod list;

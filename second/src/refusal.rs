@@ -6,7 +6,7 @@
 pub enum Refusal {
     /// The number of words is not a multiple of 1,024 from 2,048 to 4,195,328.
     WordCount = 1,
-    /// The words are not a table.
+    /// The words are not a table, or the bytes not a list.
     NotATable = 2,
     /// The length is over 32.
     LengthOver32 = 3,
@@ -18,7 +18,7 @@ pub enum Refusal {
     NotHeld = 7,
     /// The list with the route added needs more arrays than there are.
     NoRoom = 8,
-    /// The buffer is too short for the written list.
+    /// The buffer is too short for the written list, or the words are fewer than the copy needs.
     BufferShort = 9,
 }
 

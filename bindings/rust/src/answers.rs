@@ -12,6 +12,10 @@ pub enum Refusal {
     /// 1: the number of words is not a multiple of 1,024 from 2,048 to 4,195,328.
     WordCount = 1,
     /// 2: the words are not a table; from [`lookup`](crate::lookup): its walk met a value that no table holds.
+    ///
+    /// From [`copy::need`](crate::copy::need) and [`copy::build`](crate::copy::build): the bytes are not one whole
+    /// written-out list of a table, of any room. From [`copy::lookup`](crate::copy::lookup): the words are fewer than
+    /// 1,024, or its walk met a number outside its range.
     NotATable = 2,
     /// 3: the length is over 32.
     LengthOver32 = 3,
@@ -23,7 +27,8 @@ pub enum Refusal {
     NotHeld = 7,
     /// 8: the prefix is not held, and the list with the route added needs more arrays than the words have.
     NoRoom = 8,
-    /// 9: the buffer is too short for the written list.
+    /// 9: the buffer is too short for the written list; from [`copy::build`](crate::copy::build): the words are fewer
+    /// than the copy needs.
     BufferShort = 9,
 }
 
@@ -61,13 +66,13 @@ impl fmt::Display for Refusal {
     fn fmt(&self, f: &mut fmt::Formatter<'_>) -> fmt::Result {
         let reason = match self {
             Refusal::WordCount => "the number of words is not a multiple of 1,024 from 2,048 to 4,195,328",
-            Refusal::NotATable => "the words are not a table",
+            Refusal::NotATable => "the words are not a table or not a copy, or the bytes not a list",
             Refusal::LengthOver32 => "the length is over 32",
             Refusal::StrayBit => "a bit after the length is set",
             Refusal::HopOutOfRange => "the hop is 0 or over 65,535",
             Refusal::NotHeld => "the prefix is not held",
             Refusal::NoRoom => "the table has no room for the route",
-            Refusal::BufferShort => "the buffer is too short for the written list",
+            Refusal::BufferShort => "the buffer is too short for the written list, or the words for the copy",
         };
         write!(f, "refused {}: {reason}", self.number())
     }
@@ -84,7 +89,7 @@ pub struct Counts {
     pub arrays: u32,
 }
 
-/// The longest match that [`lookup`](crate::lookup) finds.
+/// The longest match that [`lookup`](crate::lookup) or [`copy::lookup`](crate::copy::lookup) finds.
 #[derive(Clone, Copy, Debug, PartialEq, Eq, Hash)]
 pub struct Match {
     /// The route's hop, from 1 to 65,535.

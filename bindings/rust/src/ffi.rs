@@ -45,6 +45,21 @@ pub struct Ran {
     pub refused: u64,
 }
 
+#[repr(C)]
+#[derive(Clone, Copy, Debug, Default, PartialEq, Eq)]
+pub struct Needed {
+    pub refusal: u32,
+    pub words: u64,
+}
+
+#[repr(C)]
+#[derive(Clone, Copy, Debug, Default, PartialEq, Eq)]
+pub struct Built {
+    pub refusal: u32,
+    pub routes: u64,
+    pub markers: u64,
+}
+
 extern "C" {
     pub fn toggleash_clear(words: *mut u32, n: usize) -> u32;
     pub fn toggleash_check(words: *const u32, n: usize) -> Counts;
@@ -60,4 +75,7 @@ extern "C" {
         reply: *mut u8,
         reply_len: usize,
     ) -> Ran;
+    pub fn toggleash_copy_need(bytes: *const u8, bytes_len: usize) -> Needed;
+    pub fn toggleash_copy_build(bytes: *const u8, bytes_len: usize, words: *mut u32, n: usize) -> Built;
+    pub fn toggleash_copy_lookup(words: *const u32, n: usize, address: u32) -> Answer;
 }

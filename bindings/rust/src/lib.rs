@@ -24,6 +24,8 @@
 //! # }
 //! ```
 //!
+//! A line card that only looks up can have a read-only [`copy`] of a table's routes, in words of its own.
+//!
 //! The archive libtoggleash.a is looked for in `target/staticlib` of the repository, or in the folder that the
 //! environment variable `TOGGLEASH_LIB_DIR` names while this crate is built.
 
@@ -32,6 +34,7 @@
 use std::net::Ipv4Addr;
 
 mod answers;
+pub mod copy;
 pub mod ffi;
 
 pub use answers::{Counts, Match, Ran, Refusal, Stop, Update};
@@ -50,9 +53,9 @@ pub fn words_for(arrays: usize) -> Option<usize> {
     (1..=MOST_ARRAYS).contains(&arrays).then(|| 1_024 * (arrays + 1))
 }
 
-// SAFETY of all calls below: a slice's pointer is aligned and leads to as many elements as its length says, alone if
-// the slice is mutable, and the calls stay inside that. An empty slice's pointer leads nowhere, but with length 0 the
-// calls follow no pointer.
+// SAFETY of all calls below and in `copy`: a slice's pointer is aligned and leads to as many elements as its length
+// says, alone if the slice is mutable, and the calls stay inside that. An empty slice's pointer leads nowhere, but with
+// length 0 the calls follow no pointer.
 
 /// Makes the words the table of no route, whatever they hold.
 ///
@@ -89,9 +92,7 @@ pub fn check(words: &[u32]) -> Result<Counts, Refusal> {
 /// # Errors
 /// [`Refusal::WordCount`]; [`Refusal::NotATable`] where the walk meets a value that no table holds.
 pub fn lookup(words: &[u32], address: Ipv4Addr) -> Result<Option<Match>, Refusal> {
-    let answer = unsafe { ffi::toggleash_lookup(words.as_ptr(), words.len(), address.into()) };
-    accepted(answer.refusal)?;
-    Ok((answer.found != 0).then_some(Match { hop: answer.hop, length: answer.length }))
+    matched(unsafe { ffi::toggleash_lookup(words.as_ptr(), words.len(), address.into()) })
 }
 
 /// Adds a route, or gives a held prefix this hop, for which there is always room. Any length and hop may be given; those
@@ -200,14 +201,19 @@ fn accepted(refusal: u32) -> Result<(), Refusal> {
     }
 }
 
+fn matched(answer: ffi::Answer) -> Result<Option<Match>, Refusal> {
+    accepted(answer.refusal)?;
+    Ok((answer.found != 0).then_some(Match { hop: answer.hop, length: answer.length }))
+}
+
 fn updated(update: ffi::Update) -> Result<Update, Refusal> {
     accepted(update.refusal)?;
     Ok(Update { hop: update.hop, cells: update.cells })
 }
 
-/// Counts are at most the length of a slice, or of a feed's records, so they fit.
+/// Counts are at most the length of a slice; what a copy needs is below 2^32, as its list needs at most 4,096 arrays.
 fn count(number: u64) -> usize {
-    usize::try_from(number).expect("a count is at most a slice's length")
+    usize::try_from(number).expect("a count is at most a slice's length, or below 2^32")
 }
 
 fn mismatch(what: &str, number: u32) -> ! {

@@ -1,9 +1,9 @@
-//! Input that no table takes: each refused by its number, with nothing written.
+//! Input that no table and no copy takes: each refused by its number, with nothing written.
 
 use std::net::Ipv4Addr;
 
-use toggleash::{announce, check, clear, lookup, run, withdraw, words_for, write_out};
-use toggleash::{Counts, Refusal, Stop, Update};
+use toggleash::{announce, check, clear, copy, lookup, run, withdraw, words_for, write_out};
+use toggleash::{Counts, Match, Refusal, Stop, Update};
 
 const ZERO: Ipv4Addr = Ipv4Addr::UNSPECIFIED;
 const TEN: Ipv4Addr = Ipv4Addr::new(10, 0, 0, 0);
@@ -86,6 +86,65 @@ fn words_that_are_no_table() {
     assert_eq!(write_out(&words, &mut buffer), Err(Refusal::NotATable));
     assert_eq!(refused(&mut words, |w| run(w, &[0], &mut reply)), Refusal::NotATable);
     assert_eq!((buffer, reply), ([0xEE; 64], [0xEE; 64]));
+}
+
+/// 10.0.0.0/8 and 10.1.2.0/24. The /24's marker, 10.1.0.0/16, is no route: the copy needs 1,048 words.
+const LIST: [u8; 17] = [1, 10, 0, 0, 0, 8, 0, 1, 1, 10, 1, 2, 0, 24, 255, 255, 0];
+
+#[test]
+fn bytes_that_are_no_list() {
+    let mut words = vec![u32::MAX; 1_048];
+    let mut refuse = |bytes: &[u8]| {
+        assert_eq!(copy::need(bytes), Err(Refusal::NotATable), "{bytes:?}");
+        assert_eq!(refused(&mut words, |w| copy::build(bytes, w)), Refusal::NotATable, "{bytes:?}");
+        assert_eq!(refused(&mut words[..3], |w| copy::build(bytes, w)), Refusal::NotATable, "{bytes:?}");
+    };
+    refuse(&[]);
+    (1..LIST.len()).for_each(|cut| refuse(&LIST[..cut]));
+    refuse(&[&LIST[..], &[0]].concat());
+    let swapped = [&LIST[8..16], &LIST[..8], &[0]].concat();
+    refuse(&swapped);
+    refuse(&[&LIST[..8], &LIST[..8], &[0]].concat());
+    // kind, address, length, hop and end, each with a byte that no list has there
+    for (at, byte) in [(0, 0), (0, 2), (4, 1), (5, 33), (5, 6), (7, 0), (9, 9), (16, 1)] {
+        let mut bytes = LIST;
+        bytes[at] = byte;
+        refuse(&bytes);
+    }
+}
+
+#[test]
+fn words_too_few_for_a_copy() {
+    let mut words = vec![u32::MAX; 1_050];
+    for count in [0, 1, 1_023, 1_024, 1_047] {
+        assert_eq!(refused(&mut words[..count], |w| copy::build(&LIST, w)), Refusal::BufferShort, "{count}");
+        assert_eq!(copy::lookup(&words[..count], TEN), Err(Refusal::NotATable), "{count}");
+    }
+    assert_eq!(copy::build(&LIST, &mut words), Ok(copy::Built { routes: 2, markers: 1 }));
+    assert_eq!(words[1_048..], [u32::MAX; 2]);
+    assert_eq!(copy::lookup(&words, Ipv4Addr::new(10, 1, 2, 255)), Ok(Some(Match { hop: 65_535, length: 24 })));
+    assert_eq!(copy::lookup(&words, Ipv4Addr::new(10, 1, 3, 0)), Ok(Some(Match { hop: 1, length: 8 })));
+    assert_eq!(copy::lookup(&words, ZERO), Ok(None));
+    assert_eq!(copy::lookup(&words[..1_023], TEN), Err(Refusal::NotATable));
+}
+
+#[test]
+fn words_that_are_no_copy() {
+    assert_eq!(copy::lookup(&[], ZERO), Err(Refusal::NotATable));
+    assert_eq!(copy::lookup(&[u32::MAX; 1_024], ZERO), Err(Refusal::NotATable));
+    let mut words = [0; 1_024];
+    assert_eq!(copy::lookup(&words, ZERO), Ok(None));
+    // no table of length 16, then one that lies outside
+    words[0] = 65_535 * 256;
+    assert_eq!(copy::lookup(&words, ZERO), Ok(Some(Match { hop: 65_535, length: 0 })));
+    words[8 * 16 + 1] = 1_025;
+    assert_eq!(copy::lookup(&words, ZERO), Err(Refusal::NotATable));
+    words[8 * 16 + 1] = 1_024;
+    assert_eq!(copy::lookup(&words, ZERO), Ok(Some(Match { hop: 65_535, length: 0 })));
+    for default in [1, 255, 257, 1 << 24, u32::MAX] {
+        words[0] = default;
+        assert_eq!(copy::lookup(&words, ZERO), Err(Refusal::NotATable), "{default}");
+    }
 }
 
 #[test]

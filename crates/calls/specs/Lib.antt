@@ -5,3 +5,4 @@ pub mod Round
 pub mod Both
 pub mod Sharp
 pub mod Face
+pub mod Copy

@@ -8,6 +8,7 @@ use native.Mathlib.Omega.{arith}
 use lib.ListN.{length, drop}
 use Rattle.routes.specs.Answers.{Update, refused, isRefused}
 use Rattle.routes.specs.Seen.{Answer, gives, refuses, Seen, countOn, frontOn}
+use Rattle.laws.specs.Cases.{less}
 use Rattle.arrays.specs.Table.{seen}
 use Rattle.audit.specs.declared.Cleared.{Cleared}
 use Rattle.audit.specs.Told.{toldClear, Clears as Below}
@@ -19,10 +20,17 @@ use Rattle.writing.specs.Told.{toldCount, Fills, front-length, front-none, refu
 use Rattle.feed.specs.declared.Ran.{Ran as Outcome}
 use Rattle.feed.specs.declared.Ran.the-variants.{Stopped, Refused as Unfit}
 use Rattle.feed.specs.Runs.{told as toldRun, reported, Runs as Run}
+use Rattle.way.specs.Marks.{wordsFor}
+use Rattle.way.specs.Listed.{Listed, unlisted, listed, listedIn, buildOn}
+use Rattle.copier.specs.declared.Built.{Built}
+use Rattle.copier.specs.Told.{told as toldBuild}
+use Rattle.copier.specs.Build.{LeavesOn}
 use Rattle.toggleash.specs.Face.{refusal, updated, wrote, ran, Clears, Updates, Writes, Runs}
+use Rattle.toggleash.specs.Copies.{built, Builds}
 use Rattle.toggleash.specs.declared.Updated.{Updated}
 use Rattle.toggleash.specs.declared.Written.{Written}
 use Rattle.toggleash.specs.declared.Ran.{Ran as Fields}
+use Rattle.toggleash.specs.declared.copies.Built.{Built as Numbers}
 
 pub cleared : (ws vs : List ℕ) (r : Cleared) (n : ℕ) → Below 4 ws vs r → n ≡ refusal (toldClear r) → Clears ws vs n
 cleared ws vs r n b e =
@@ -62,3 +70,18 @@ ran-so ws feed b vs c r x p e =
       replies = p .replies;
       kept = λ n q. p .kept n (told-refused r n (p .answer ∙ ap reported q));
     }
+
+-- ---- the copy's build
+
+build-kept : (l : Listed) (ws vs : List ℕ) (n : ℕ) → LeavesOn l ws vs → buildOn l (length ws) ≡ refuses n → vs ≡ ws
+build-kept unlisted ws vs n p e = p
+build-kept (listed rs) ws vs n p e =
+    less (length ws) (wordsFor rs)
+    (λ h _. p .refused h)
+    (λ h d. absurd (other _ n (rw d at e)))
+  where
+    other : {T : Type 0} (c : T) (n : ℕ) → gives c ≡ refuses n → ⊥
+    other c n e = let z : _≡_ {A = ℕ} 0 1 = cc in omega arith
+
+pub built-so : (bytes ws vs : List ℕ) (r : Built) (x : Numbers) → toldBuild r ≡ buildOn (listedIn bytes) (length ws) → LeavesOn (listedIn bytes) ws vs → x ≡ built (toldBuild r) → Builds bytes ws vs x
+built-so bytes ws vs r x a p e = record { answer = e ∙ ap built a; left = p; kept = λ n q. build-kept (listedIn bytes) ws vs n p q }

@@ -1,5 +1,7 @@
 // The C face: each call of the library with plain numbers, exported under the names of bindings/c/toggleash.h. A slice passes as
 // a pointer and a length. No call asks anything of its caller, since nothing would check it.
+pub mod copies; // the copy's calls
+
 ghost use mathlib.Core.Path.{_≡_};
 ghost use lib.ListN.{length};
 ghost use Rattle.routes.specs.Answers.{announce as announced, withdraw as withdrawn};

@@ -7,7 +7,7 @@ mod walk;
 
 pub use lay::lay;
 pub use read::{check, read};
-pub use walk::walk;
+pub use walk::{cover, walk, Found};
 
 use crate::memory::{arrays_in, ARRAY_WORDS};
 

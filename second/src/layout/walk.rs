@@ -13,7 +13,7 @@ pub fn walk(words: &[u32], address: u32) -> Result<Found, Refusal> {
     let mut a = 1;
     for level in 0..LEVELS {
         let cell = (address >> (24 - 8 * level) & 255) as usize;
-        found = cover(arrays.best(a, cell))?.or(found);
+        found = cover(arrays.best(a, cell), 32)?.or(found);
         match arrays.link(a, cell) {
             0 => return Ok(found),
             link => a = arrays.held(link).ok_or(Refusal::NotATable)?,
@@ -23,11 +23,11 @@ pub fn walk(words: &[u32], address: u32) -> Result<Found, Refusal> {
     Err(Refusal::NotATable)
 }
 
-/// A best cell as hop and length, refused where either is out of its range.
-fn cover(best: u32) -> Result<Found, Refusal> {
+/// A best match as hop and length, refused where the hop is out of its range or the length over the longest.
+pub fn cover(best: u32, longest: u32) -> Result<Found, Refusal> {
     match (best / 256, best % 256) {
         (0, 0) => Ok(None),
-        (1..=65_535, 0..=32) => Ok(Some((best / 256, best % 256))),
+        (1..=65_535, length) if length <= longest => Ok(Some((best / 256, length))),
         _ => Err(Refusal::NotATable),
     }
 }

@@ -1,0 +1,29 @@
+//! The read-only copy of a list: its words for the lookups, and its need and build by themselves.
+
+use second::RouteList;
+use toggleash::copy;
+
+use crate::clock::{measure, Way};
+use crate::lists::Load;
+use crate::{title, Scale};
+
+/// A copy of the list, which needs no more arrays than a table has.
+pub fn words(list: &RouteList) -> Vec<u32> {
+    let bytes = list.encoding();
+    let mut words = vec![0; copy::need(&bytes).expect("a list of a table")];
+    copy::build(&bytes, &mut words).expect("words enough");
+    words
+}
+
+/// The calls that read the whole list.
+pub fn whole(scale: &Scale, load: &Load) {
+    let (bytes, mut words) = (&load.list.encoding(), words(&load.list));
+    let count = words.len();
+    let need = || copy::need(bytes).expect("a list of a table") as u64;
+    let build = || copy::build(bytes, &mut words).map_or(0, |built| (built.routes + built.markers) as u64);
+    let ways =
+        [("copy need", Way::new("toggleash_copy_need", need)), ("copy build", Way::new("toggleash_copy_build", build))];
+    for (what, way) in ways {
+        measure(&title(what, load, &format!("{count} words, one call")), scale.rounds, 1, vec![way]);
+    }
+}

@@ -1,0 +1,98 @@
+//! Copies for the line card: built from the written-out list of a table and looked up beside the table. The calls are
+//! made on bytes and words of any kind, by the second program's reading of docs/COPY.md.
+
+use std::net::Ipv4Addr;
+
+use second::copy::{self, Built};
+use second::memory::MOST_ARRAYS;
+use second::{Memory, Prefix, Refusal, RouteList};
+
+use crate::guard::{begin_call, Lent, Side};
+use crate::lists::{any_list, scattered};
+use crate::pair::{left, library, same, Pair, Same};
+use crate::random::Random;
+use crate::rooms::neighbours;
+use crate::tally::Tally;
+
+/// Boxes whose ends are looked up in one copy, and random addresses beside them.
+const BOXES: usize = 60;
+
+/// A table of about so many routes, its written-out list, and the copy of that.
+pub fn list(random: &mut Random, routes: usize, tally: &mut Tally) -> Same {
+    let list = any_list(random, routes);
+    let side = random.pick(&[Side::Front, Side::Back]);
+    let arrays = (list.need() + random.below(3)).min(MOST_ARRAYS);
+    let words = Lent::copy_of(&scattered(random, &list, arrays), side);
+    let table = Pair { memory: Memory::new(words.len(), Some(list.clone())), words };
+    table.write_out(8 * list.routes().len() + 1, side)?;
+    let bytes = Lent::copy_of(&list.encoding(), side);
+    let Some(need) = need(&bytes, tally)? else { return Err("a written-out list is refused".into()) };
+    let litter: Vec<u32> = (0..need + random.below(30)).map(|_| random.word()).collect();
+    build(&bytes, &mut Lent::copy_of(&litter[..need - 1], side), tally)?;
+    let mut words = Lent::copy_of(&litter, side);
+    build(&bytes, &mut words, tally)?;
+    let addresses = addresses(random, &list);
+    table.lookup(&addresses)?;
+    tally.lookups += addresses.len() as u64;
+    look_up(&words, &addresses, Some(&list), tally)
+}
+
+/// The first and last address inside some boxes, routes' and markers', those beside, and random ones.
+pub fn addresses(random: &mut Random, list: &RouteList) -> Vec<u32> {
+    let mut boxes: Vec<Prefix> = copy::markers(list).into_iter().collect();
+    boxes.extend(list.routes().iter().map(|route| route.prefix));
+    random.shuffle(&mut boxes);
+    boxes.truncate(BOXES);
+    let ends = boxes.into_iter().flat_map(neighbours);
+    ends.chain((0..BOXES).map(|_| random.word())).collect()
+}
+
+/// The words needed, unless the bytes are refused.
+pub fn need(bytes: &Lent<u8>, tally: &mut Tally) -> Result<Option<usize>, String> {
+    begin_call("copy::need");
+    let told = library(bytes.sealed(toggleash::copy::need));
+    same(|| format!("copy::need of {} bytes", bytes.len()), told, copy::need(bytes).map_err(Refusal::number))?;
+    tally.copies.bytes_refused += u64::from(told.is_err());
+    Ok(told.ok())
+}
+
+/// Builds into the words, and sees that they are a copy then, with the words kept that a build leaves; or that all are
+/// kept if it is refused.
+pub fn build(bytes: &Lent<u8>, words: &mut Lent<u32>, tally: &mut Tally) -> Same {
+    let (before, from, into) = (words.to_vec(), bytes.len(), words.len());
+    let what = || format!("copy::build from {from} bytes into {into} words");
+    begin_call("copy::build");
+    let told = library(bytes.sealed(|bytes| toggleash::copy::build(bytes, words)));
+    let told = told.map(|built| Built { routes: built.routes, markers: built.markers });
+    same(what, told, copy::build(bytes, into).map_err(Refusal::number))?;
+    let Ok(list) = copy::listed(bytes) else { return left(what, &before, words) };
+    if told.is_err() {
+        tally.copies.words_refused += 1;
+        return left(what, &before, words);
+    }
+    tally.copies.built += 1;
+    let mut expected = words.to_vec();
+    copy::kept(&list, into).into_iter().for_each(|at| expected[at] = before[at]);
+    left(what, &expected, words)?;
+    match copy::stands(&list, words) {
+        true => Ok(()),
+        false => Err(format!("{}: the words are not a copy of the list", what())),
+    }
+}
+
+/// Lookups by the walk on any words, and by longest match where they are a copy of a list.
+pub fn look_up(words: &Lent<u32>, addresses: &[u32], list: Option<&RouteList>, tally: &mut Tally) -> Same {
+    begin_call("copy::lookup");
+    tally.copies.lookups += addresses.len() as u64;
+    words.sealed(|words| {
+        addresses.iter().try_for_each(|&address| {
+            let what = || format!("copy::lookup {}", Ipv4Addr::from(address));
+            let told = library(toggleash::copy::lookup(words, address.into()));
+            let told = told.map(|found| found.map(|found| (found.hop, found.length)));
+            same(what, told, copy::walk(words, address).map_err(Refusal::number))?;
+            tally.copies.lookups_refused += u64::from(told.is_err());
+            let Some(list) = list else { return Ok(()) };
+            same(what, told, Ok(list.longest_match(address).map(|route| (route.hop, route.prefix.length))))
+        })
+    })
+}

@@ -1,0 +1,136 @@
+-- The copy over the calls of the C face: a table written out, and a copy built from the bytes in as many words as they need, which
+-- answers every address as the table does. Assumes nothing.
+--
+--     words ── write_out ──▶ bytes ── copy_need ──▶ how many words to lend
+--       │                      └───── copy_build ─▶ copy, its words on the card ── copy_lookup ──▶ found
+--       └──────────────────── lookup ──────────────────────────────────────────────────────────▶ the same
+use mathlib.Core.Path.{_≡_, refl, sym, ap, _∙_}
+use mathlib.Core.List.{List, _++_}
+use Prim.Native.Nat.{ℕ, _+_, _*_, _≤_, _<_}
+use native.Mathlib.Omega.{arith}
+use lib.ListN.{length, getD, take, drop}
+use lib.Seq.{take-append-seam}
+use borrow.Author.Tests.{le-ltb}
+use Rattle.routes.specs.Route.{Route}
+use Rattle.routes.specs.Bytes.{written}
+use Rattle.routes.specs.Seen.{Seen, misfit, foreign, table, gives, refuses, lookupOn, checkOn}
+use Rattle.laws.specs.Cases.{less}
+use Rattle.laws.specs.Round.{written-long}
+use Rattle.arrays.specs.Table.{seen}
+use Rattle.arrays.specs.View.{no-misfit-fits}
+use Rattle.lookup.specs.Walk.{walk}
+use Rattle.way.specs.Marks.{markers, wordsFor}
+use Rattle.way.specs.Listed.{listed, listedIn, needOn}
+use Rattle.way.specs.Written.{written-listed}
+use Rattle.copy.specs.Layout as layout
+use Rattle.copy.specs.Copy.{Copy, copy-walk, copy-front}
+use Rattle.copier.specs.Build.{Leaves}
+use Rattle.toggleash.specs.Face.{Writes, counted, looked, wrote}
+use Rattle.toggleash.specs.Copies.{Builds, needed}
+use Rattle.toggleash.specs.declared.Counted.{Counted}
+use Rattle.toggleash.specs.declared.Found.{Found}
+use Rattle.toggleash.specs.declared.Written.{Written}
+use Rattle.toggleash.specs.declared.copies.Needed.{Needed}
+use Rattle.toggleash.specs.declared.copies.Built.{Built}
+use Rattle.calls.specs.Held.{held}
+
+-- the calls, each as its contract allows
+pub record Carried : Type 0 where
+  -- words written out, and not refused
+  pub words : List ℕ
+  pub buffer : List ℕ
+  pub buffer′ : List ℕ
+  pub wrote : Written
+  pub writes : Writes words buffer buffer′ wrote
+  pub taken : wrote .refusal ≡ 0
+  -- the bytes of the list
+  pub bytes : List ℕ
+  pub front : bytes ≡ take (wrote .bytes) buffer′
+  -- as many words as they need, or more
+  pub need : Needed
+  pub needs : need ≡ needed (needOn (listedIn bytes))
+  pub lent : List ℕ
+  pub enough : need .words ≤ length lent
+  -- a copy built in them
+  pub copy : List ℕ
+  pub built : Built
+  pub builds : Builds bytes lent copy built
+  -- words on the card: up to the need those of the copy, past it any
+  pub card : List ℕ
+  pub long : need .words ≤ length card
+  pub sent : (i : ℕ) → i < need .words → getD card i 0 ≡ getD copy i 0
+
+-- nothing is refused, the routes are as many as the check counts, and the card answers each address as the table
+pub record AsTable (t : Carried) : Type 0 where
+  pub needs : t .need .refusal ≡ 0
+  pub builds : t .built .refusal ≡ 0
+  pub routes : (c : Counted) → c ≡ counted (checkOn 32 (seen 4 (t .words))) → t .built .routes ≡ c .routes
+  pub lookups : (a : ℕ) → a < 4294967296 → (f g : Found) → f ≡ looked (lookupOn 32 (seen 4 (t .words)) (walk 4 (t .words) a) a)
+      → g ≡ looked (layout.walk (t .card) a) → g ≡ f
+
+-- ---- what was written out is the list of a table
+
+record Out (ws bs : List ℕ) : Type 0 where
+  arrays : ℕ
+  list : List Route
+  table : seen 4 ws ≡ table arrays list
+  bytes : bs ≡ written list
+
+out : (ws b c : List ℕ) (r : Written) → Writes ws b c r → r .refusal ≡ 0 → Out ws (take (r .bytes) c)
+out ws b c r w z = go (seen 4 ws) refl
+  where
+    number : (n : ℕ) → r ≡ wrote (refuses n) → n ≡ 0
+    number n e = sym (ap (λ (x : Written). x .refusal) e) ∙ z
+
+    whole : (rs : List Route) → r ≡ wrote (gives (8 * length rs + 1)) → c ≡ written rs ++ drop (length (written rs)) b → take (r .bytes) c ≡ written rs
+    whole rs e f = rw (e, ← written-long rs, f) (take-append-seam (written rs) _)
+
+    go : (s : Seen) → seen 4 ws ≡ s → Out ws (take (r .bytes) c)
+    go misfit e = absurd (let n : _≡_ {A = ℕ} 1 0 = number 1 (rw e at (w .answer)) in omega arith)
+    go foreign e = absurd (let n : _≡_ {A = ℕ} 2 0 = number 2 (rw e at (w .answer)) in omega arith)
+    go (table A rs) e =
+        less (length b) (8 * length rs + 1)
+        (λ h d. absurd (let n : _≡_ {A = ℕ} 9 0 = number 9 (rw (e, d) at (w .answer)) in omega arith))
+        (λ h d. record { arrays = A; list = rs; table = e; bytes = whole rs (rw (e, d) at (w .answer)) (rw (e, d) at (w .front)) })
+
+-- ---- so it is built, and answers
+
+module _ (t : Carried) where
+  abbrev o : Out (t .words) (take (t .wrote .bytes) (t .buffer′))
+  o = out (t .words) (t .buffer) (t .buffer′) (t .wrote) (t .writes) (t .taken)
+
+  abbrev rs : List Route
+  rs = o .list
+
+  is-listed : listedIn (t .bytes) ≡ listed rs
+  is-listed =
+      let h = held (o .arrays) rs (t .words) (o .table) in
+      let f = no-misfit-fits (length (t .words)) (h .size) in
+      written-listed (t .bytes) rs (record { list = h .list; room = omega (arith, h .room, h .arrays, f .high); bytes = t .front ∙ o .bytes })
+
+  is-needed : t .need ≡ record { refusal = 0; words = wordsFor rs }
+  is-needed = t .needs ∙ rw is-listed
+
+  count : t .need .words ≡ wordsFor rs
+  count = ap (λ (x : Needed). x .words) is-needed
+
+  room : wordsFor rs ≤ length (t .lent)
+  room = rw (← count) (t .enough)
+
+  is-built : t .built ≡ record { refusal = 0; routes = length rs; markers = markers rs }
+  is-built = t .builds .answer ∙ rw (is-listed, le-ltb (length (t .lent)) (wordsFor rs) room)
+
+  is-copy : Copy rs (t .card)
+  is-copy =
+      let l : Leaves rs (t .lent) (t .copy) = rw is-listed at (t .builds .left) in
+      copy-front rs (t .copy) (t .card) (rw (← count) (t .long)) (λ i h. t .sent i (rw count h)) (l .copy room)
+
+  pub as-table : AsTable t
+  as-table =
+      let h = held (o .arrays) rs (t .words) (o .table) in
+      record {
+        needs = ap (λ (x : Needed). x .refusal) is-needed;
+        builds = ap (λ (x : Built). x .refusal) is-built;
+        routes = λ c p. ap (λ (x : Built). x .routes) is-built ∙ sym (ap (λ (x : Counted). x .routes) (rw (o .table) at p));
+        lookups = λ a k f g p q. q ∙ ap looked (copy-walk rs (t .card) (h .list) is-copy a k) ∙ sym (rw (o .table) at p);
+      }

@@ -1,0 +1,20 @@
+-- `toggleash_copy_build` meets its contract, from what the build promises. Assumes nothing.
+use Rattle.toggleash.proofs.Laws.{built-so}
+use borrow.Author.Needs.{needs}
+use Rattle.toggleash.proofs.copies.toggleash_copy_build.Statement.{statement}
+use Rattle.toggleash.proofs.copies.toggleash_copy_build.Tie as tie
+
+build-requires : tie.Need-build-requires
+build-requires c κs = search needs
+
+counts-requires : tie.Need-counts-requires
+counts-requires c κs = search needs
+
+same-length : tie.Need-same-length
+same-length c = search needs
+
+returns : tie.Need-returns
+returns c = built-so _ _ _ (c .before .before .before .build .result) _ (c .before .before .before .build .ensures .0) (c .before .before .before .build .ensures .1) (c .counts .ensures)
+
+pub toggleash-copy-build-spec : {M : Type 1} → statement M
+toggleash-copy-build-spec = tie.close (tie.spec build-requires counts-requires same-length returns)

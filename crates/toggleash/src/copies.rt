@@ -1,0 +1,112 @@
+// The copy's calls of the C face: its need, its build from the bytes of a written-out list, and its lookup.
+use super::Found;
+ghost use mathlib.Core.Path.{_≡_};
+ghost use mathlib.Core.List.{List};
+ghost use lib.ListN.{length};
+ghost use Rattle.routes.specs.Route.{Route, IsList};
+ghost use Rattle.routes.specs.Match.{longest};
+ghost use Rattle.routes.specs.Answers.{matched};
+ghost use Rattle.way.specs.Listed.{listedIn, needOn};
+ghost use Rattle.listing.specs.Told.{told as toldNeed};
+ghost use Rattle.copy.specs.Layout.{walk};
+ghost use Rattle.copy.specs.Copy.{Copy};
+ghost use Rattle.copy.specs.Told.{told as toldMatch};
+ghost use Rattle.copier.specs.Told.{told as toldBuild};
+ghost use Rattle.toggleash.specs.Face.{looked};
+ghost use Rattle.toggleash.specs.Copies.{needed, built, Builds};
+
+#[repr(C)]
+pub struct Needed {
+    pub refusal: u32,
+    pub words: u64,
+}
+
+#[repr(C)]
+pub struct Built {
+    pub refusal: u32,
+    pub routes: u64,
+    pub markers: u64,
+}
+
+// ---- answers in plain numbers
+
+fn size(answer: listing::Needs) -> Needed
+    ensures { λ r. ⌜ r ≡ needed (toldNeed answer) ⌝ }
+{
+    match answer {
+        listing::Needs::Words(n) => Needed {
+            refusal: 0,
+            words: n as u64,
+        },
+        listing::Needs::Refused(n) => Needed {
+            refusal: n,
+            words: 0,
+        },
+    }
+}
+
+fn counts(answer: copier::Built) -> Built
+    ensures { λ r. ⌜ r ≡ built (toldBuild answer) ⌝ }
+{
+    match answer {
+        copier::Built::Counts(routes, markers) => Built {
+            refusal: 0,
+            routes: routes as u64,
+            markers: markers as u64,
+        },
+        copier::Built::Refused(n) => Built {
+            refusal: n,
+            routes: 0,
+            markers: 0,
+        },
+    }
+}
+
+fn finding(answer: copy::Match) -> Found
+    ensures { λ r. ⌜ r ≡ looked (toldMatch answer) ⌝ }
+{
+    match answer {
+        copy::Match::Found(hop, length) => Found {
+            refusal: 0,
+            found: 1,
+            hop: hop,
+            length: length,
+        },
+        copy::Match::Nothing => Found {
+            refusal: 0,
+            found: 0,
+            hop: 0,
+            length: 0,
+        },
+        copy::Match::Refused(n) => Found {
+            refusal: n,
+            found: 0,
+            hop: 0,
+            length: 0,
+        },
+    }
+}
+
+// ---- the calls
+
+#[no_mangle]
+pub extern "C" fn toggleash_copy_need(bytes: &[u8]) -> Needed
+    ensures { λ r. ⌜ r ≡ needed (needOn (listedIn (now (bytes .entry)))) ⌝ }
+{
+    size(listing::need(bytes))
+}
+
+#[no_mangle]
+pub extern "C" fn toggleash_copy_build(bytes: &[u8], words: &mut [u32]) -> Built
+    ensures { λ r. ⌜ Builds (now (bytes .entry)) (now (words .entry)) (now (words .exit)) r ⌝ }
+{
+    counts(copier::build(bytes, words))
+}
+
+#[no_mangle]
+pub extern "C" fn toggleash_copy_lookup(words: &[u32], address: u32) -> Found
+    ensures { λ r. ⌜ r ≡ looked (walk (now (words .entry)) address) ⌝ }
+    ensures of_a_copy { λ r. ⌜ ((rs : List Route) → IsList 32 rs → Copy rs (now (words .entry)) → r ≡ looked (matched (longest 32 address rs))) ⌝ }
+{
+    finding(copy::lookup(words, address))
+}
