@@ -132,7 +132,7 @@ fn pow2(d: usize) -> usize
 }
 
 // The slot of in-array length d and value x.
-fn slot_of(d: usize, x: usize) -> usize
+pub fn slot_of(d: usize, x: usize) -> usize
     requires { ⌜ (d ≤ 8) × (x < 2 ^ d) ⌝ }
     ensures { λ r. ⌜ (r ≡ 2 ^ d + x) × (r < 512) ⌝ }
 {

@@ -5,7 +5,7 @@ ghost use Prim.Native.Nat.{_+_, _*_, _-_, _/_, _%_, _<_, _≤_};
 ghost use lib.ListN.{length, getD, replicate};
 ghost use Rattle.routes.specs.Seen.{misfits, checkOn};
 ghost use Rattle.laws.specs.Tells.{allB};
-ghost use Rattle.array.specs.Check.{rightB, emptyB};
+ghost use Rattle.array.specs.Check.{rightB};
 ghost use Rattle.arrays.specs.Arrays.{lev};
 ghost use Rattle.arrays.specs.Words.{arraysOf, arrayCount, slotsOf, bestsOf, usedIn};
 ghost use Rattle.arrays.specs.Check.{linkB, linksB, hungB};
@@ -188,16 +188,6 @@ fn block_ok(words: &[u32], n: usize, a: usize) -> bool
     array::right(&words[own..end], level)
 }
 
-// Array a holds no route of its own and no link.
-fn is_empty(words: &[u32], n: usize, a: usize) -> bool
-    requires { ⌜ Sized (now words) n × (a ≤ n) ⌝ }
-    ensures { λ r. ⌜ r ≡ emptyB (slotsOf (now (words .entry)) a) (arraysOf (now (words .entry)) .link a) ⌝ }
-{
-    let own = 1024 * a;
-    let end = own + 1024;
-    array::empty(&words[own..end])
-}
-
 // Array a is free and 0, or used and right.
 fn array_ok(words: &[u32], n: usize, top: u32, a: usize) -> bool
     requires { ⌜ Sized (now words) n × (a ≤ n) ⌝ }
@@ -219,7 +209,7 @@ fn array_ok(words: &[u32], n: usize, top: u32, a: usize) -> bool
     if !hung_ok(words, n, a) {
         return false;
     }
-    !is_empty(words, n, a)
+    !arrays::empty(words, a)
 }
 
 fn arrays_ok(words: &[u32], n: usize, top: u32) -> bool

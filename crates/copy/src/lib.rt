@@ -1,7 +1,7 @@
 // A copy of a route list in lent words, looked up by lengths: a hash table for each length, and the search's way among them.
 ghost use mathlib.Core.Path.{_≡_};
-ghost use Prim.Native.Nat.{ℕ, _+_, _*_, _-_, _/_, _^_, _<_, _≤_};
-ghost use lib.ListN.{length, getD};
+ghost use Prim.Native.Nat.{_+_, _*_, _-_, _/_, _^_, _<_, _≤_};
+ghost use lib.ListN.{length};
 ghost use mathlib.Core.List.{List};
 ghost use Rattle.routes.specs.Route.{Route, IsList};
 ghost use Rattle.routes.specs.Match.{longest};
@@ -129,14 +129,6 @@ pub fn look_in(words: &[u32], m: u32, v: u32) -> Look
 
 // ---- the search
 
-// 2 to the height n.
-fn power(n: u32) -> u32
-    requires { ⌜ n < 5 ⌝ }
-    ensures { λ r. ⌜ r ≡ 2 ^ n ⌝ }
-{
-    1 << n
-}
-
 // After a hit at 31, with its best match.
 fn longer(words: &[u32], address: u32, best: u32) -> Look
     requires { ⌜ 1024 ≤ length (now words) ⌝ }
@@ -178,10 +170,10 @@ fn search_from(words: &[u32], address: u32, default: u32) -> Look
         n -= 1;
         match look_in(words, m, address >> (32 - m)) {
             Look::Miss => {
-                m -= power(n);
+                m -= numbers::power(n);
             }
             Look::Hit(b) => {
-                m += power(n);
+                m += numbers::power(n);
                 best = b;
             }
             Look::Outside => {

@@ -1,10 +1,9 @@
 // The bytes of a written-out list: whether they are one, and how many words its copy needs.
 ghost use mathlib.Core.Path.{_≡_};
-ghost use Prim.Native.Nat.{ℕ, _+_, _*_, _-_, _/_, _%_, _^_, _<_, _≤_};
-ghost use lib.ListN.{length, getD};
+ghost use Prim.Native.Nat.{_+_, _*_, _-_, _/_, _%_, _^_, _<_, _≤_};
+ghost use lib.ListN.{length};
 ghost use Rattle.routes.specs.Route.{key, route, IsList};
 ghost use Rattle.routes.specs.Room.{distinct, need as arraysNeeded};
-ghost use Rattle.routes.specs.Bytes.{twoAt, fourAt};
 ghost use Rattle.way.specs.Way.{turnsAt};
 ghost use Rattle.way.specs.Marks.{picks, markers};
 ghost use Rattle.way.specs.Listed.{routeAt, listOf, routeB, recordB, listedIn, needOn};
@@ -28,20 +27,6 @@ pub enum Pick {
 
 // ---- numbers of a record
 
-fn two_at(bytes: &[u8], at: usize) -> u32
-    requires { ⌜ at + 2 ≤ length (now bytes) ⌝ }
-    ensures { λ r. ⌜ (r ≡ twoAt (now (bytes .entry)) at) × (r < 65536) ⌝ }
-{
-    bytes[at] as u32 * 256 + bytes[at + 1] as u32
-}
-
-fn four_at(bytes: &[u8], at: usize) -> u32
-    requires { ⌜ at + 4 ≤ length (now bytes) ⌝ }
-    ensures { λ r. ⌜ r ≡ fourAt (now (bytes .entry)) at ⌝ }
-{
-    two_at(bytes, at) * 65536 + two_at(bytes, at + 2)
-}
-
 // The length of record i.
 pub fn bits(bytes: &[u8], i: usize) -> u32
     requires { ⌜ 8 * i + 8 ≤ length (now bytes) ⌝ }
@@ -56,7 +41,7 @@ pub fn hop(bytes: &[u8], i: usize) -> u32
     requires { ⌜ 8 * i + 8 ≤ length (now bytes) ⌝ }
     ensures { λ r. ⌜ (r ≡ routeAt (now (bytes .entry)) i .hop) × (r < 65536) ⌝ }
 {
-    two_at(bytes, 8 * i + 6)
+    numbers::two_at(bytes, 8 * i + 6)
 }
 
 // The first m bits of the address of record i.
@@ -64,26 +49,17 @@ pub fn head(bytes: &[u8], i: usize, m: u32) -> u64
     requires { ⌜ (8 * i + 8 ≤ length (now bytes)) × (m ≤ 32) ⌝ }
     ensures { λ r. ⌜ r ≡ routeAt (now (bytes .entry)) i .addr / 2 ^ (32 - m) ⌝ }
 {
-    four_at(bytes, 8 * i + 1) as u64 >> (32 - m)
+    numbers::four_at(bytes, 8 * i + 1) as u64 >> (32 - m)
 }
 
 fn key_at(bytes: &[u8], i: usize) -> u64
     requires { ⌜ 8 * i + 8 ≤ length (now bytes) ⌝ }
     ensures { λ r. ⌜ r ≡ key (routeAt (now (bytes .entry)) i) ⌝ }
 {
-    four_at(bytes, 8 * i + 1) as u64 * 256 + bits(bytes, i) as u64
+    numbers::four_at(bytes, 8 * i + 1) as u64 * 256 + bits(bytes, i) as u64
 }
 
 // ---- whether the bytes are a list
-
-// The bits of an address after a length. Length 0 would be a shift by 32, so the size has 64 bits.
-fn low_bits(address: u32, length: u32) -> u64
-    requires { ⌜ length ≤ 32 ⌝ }
-    ensures { λ r. ⌜ r ≡ address % 2 ^ (32 - length) ⌝ }
-{
-    let size: u64 = 1 << (32 - length);
-    address as u64 % size
-}
 
 fn is_route(address: u32, length: u32, hop: u32) -> bool
     ensures { λ r. ⌜ r ≡ routeB (route address length hop) ⌝ }
@@ -91,7 +67,7 @@ fn is_route(address: u32, length: u32, hop: u32) -> bool
     if length > 32 {
         return false;
     }
-    if low_bits(address, length) != 0 {
+    if numbers::low_bits(address, length) != 0 {
         return false;
     }
     if hop == 0 {
@@ -108,7 +84,11 @@ fn is_record(bytes: &[u8], i: usize) -> bool
     if bytes[at] != 1 {
         return false;
     }
-    if !is_route(four_at(bytes, at + 1), bits(bytes, i), hop(bytes, i)) {
+    if !is_route(
+        numbers::four_at(bytes, at + 1),
+        bits(bytes, i),
+        hop(bytes, i),
+    ) {
         return false;
     }
     if i == 0 {
@@ -140,14 +120,6 @@ fn whole(bytes: &[u8]) -> bool
 
 // ---- counting heads
 
-// 2 to the height n.
-fn power(n: u32) -> u32
-    requires { ⌜ n < 5 ⌝ }
-    ensures { λ r. ⌜ r ≡ 2 ^ n ⌝ }
-{
-    1 << n
-}
-
 // Whether the way to l turns longer at m: the way itself, down from 16.
 fn turns(m: u32, l: u32) -> bool
     ensures { λ r. ⌜ r ≡ turnsAt m l ⌝ }
@@ -160,12 +132,12 @@ fn turns(m: u32, l: u32) -> bool
         }
         n -= 1;
         if l < at {
-            at -= power(n);
+            at -= numbers::power(n);
         } else {
             if at == m {
                 return true;
             }
-            at += power(n);
+            at += numbers::power(n);
         }
     }
     if at >= l {

@@ -1,6 +1,6 @@
-// Numbers of two and of four bytes in lent bytes, the high byte first.
+// Plain numbers: of two and of four bytes in lent bytes, the high byte first; powers of 2; the bits of an address after a length.
 ghost use mathlib.Core.Path.{_≡_};
-ghost use Prim.Native.Nat.{ℕ, _+_, _<_, _≤_};
+ghost use Prim.Native.Nat.{_+_, _-_, _%_, _^_, _<_, _≤_};
 ghost use lib.ListN.{length};
 ghost use lib.Seq.{sets};
 ghost use Rattle.routes.specs.Bytes.{two, twoAt, fourAt};
@@ -25,4 +25,21 @@ pub fn put_two(bytes: &mut [u8], at: usize, n: u32)
 {
     bytes[at] = (n / 256 % 256) as u8;
     bytes[at + 1] = (n % 256) as u8;
+}
+
+// 2 to the height n.
+pub fn power(n: u32) -> u32
+    requires { ⌜ n < 5 ⌝ }
+    ensures { λ r. ⌜ r ≡ 2 ^ n ⌝ }
+{
+    1 << n
+}
+
+// The bits of an address after a length. Length 0 would be a shift by 32, so the size has 64 bits.
+pub fn low_bits(address: u32, length: u32) -> u64
+    requires { ⌜ length ≤ 32 ⌝ }
+    ensures { λ r. ⌜ r ≡ address % 2 ^ (32 - length) ⌝ }
+{
+    let size: u64 = 1 << (32 - length);
+    address as u64 % size
 }

@@ -1,6 +1,6 @@
 // Paths of arrays down an IPv4 address: how far one goes, the arrays that it lacks gained, those left empty released.
 ghost use mathlib.Core.Path.{_≡_};
-ghost use Prim.Native.Nat.{ℕ, _+_, _*_, _-_, _/_, _%_, _^_, _<_, _≤_};
+ghost use Prim.Native.Nat.{_+_, _*_, _-_, _/_, _%_, _^_, _<_, _≤_};
 ghost use lib.ListN.{length as size, getD};
 ghost use Rattle.routes.specs.Room.{level as levelOf};
 ghost use Rattle.arrays.specs.Arrays.{Shape};
@@ -9,7 +9,7 @@ ghost use Rattle.arrays.specs.Table.{Table};
 ghost use Rattle.paths.specs.Address.{front, byteOf, Stands};
 ghost use Rattle.paths.specs.Grown.{Tip, Grown};
 ghost use Rattle.paths.specs.Stop.{Stops, Opened};
-ghost use Rattle.paths.specs.Shrunk.{bare, Loose, Pruned};
+ghost use Rattle.paths.specs.Shrunk.{Loose, Pruned};
 ghost use Rattle.paths.specs.Held.{hopFound};
 
 // Byte i of an address, the high one first.
@@ -79,14 +79,6 @@ pub fn walk_down(words: &[u32], address: u32, k: usize) -> Stop
     Stop { array: a, level: j }
 }
 
-// The slot of a length and value in an array.
-fn slot_of(d: usize, x: usize) -> usize
-    requires { ⌜ (d ≤ 8) × (x < 2 ^ d) ⌝ }
-    ensures { λ r. ⌜ (r ≡ 2 ^ d + x) × (r < 512) ⌝ }
-{
-    (1 << d) + x
-}
-
 // The hop of the prefix at a place whose path stops at s, 0 where it is not held.
 pub fn hop_at(words: &[u32], s: Stop, p: Place) -> u32
     requires { ⌜ (1024 * (s .array + 1) ≤ size (now words)) × (p .depth ≤ 8) × (p .value < 2 ^ p .depth) ⌝ }
@@ -100,7 +92,7 @@ pub fn hop_at(words: &[u32], s: Stop, p: Place) -> u32
     let a = s.array;
     let d = p.depth;
     let x = p.value;
-    let slot = slot_of(d, x);
+    let slot = array::slot_of(d, x);
     words[1024 * a + slot]
 }
 
@@ -139,16 +131,6 @@ pub fn open(words: &mut [u32], address: u32, a: usize, j: usize, k: usize) -> us
     hang_path(words, address, a, j, k)
 }
 
-// Array a is without routes and links.
-fn empty(words: &[u32], a: usize) -> bool
-    requires { ⌜ (1024 * (a + 1) ≤ size (now words)) × (size (now words) ≤ 4195328) ⌝ }
-    ensures { λ r. ⌜ r ≡ bare (now (words .entry)) a ⌝ }
-{
-    let from = 1024 * a;
-    let to = from + 1024;
-    array::empty(&words[from..to])
-}
-
 // Array a, and those above it, released while they are empty.
 pub fn prune(words: &mut [u32], a: usize)
     requires { ⌜ Loose 4 (now words) a ⌝ }
@@ -156,7 +138,7 @@ pub fn prune(words: &mut [u32], a: usize)
 {
     let mut b = a;
     while b != 1 {
-        if !empty(words, b) {
+        if !arrays::empty(words, b) {
             return;
         }
         let from = 1024 * b;

@@ -1,6 +1,6 @@
 // Announcements and withdrawals: a route put into a table of lent words, or taken out of it.
 ghost use mathlib.Core.Path.{_≡_};
-ghost use Prim.Native.Nat.{ℕ, _+_, _*_, _-_, _%_, _^_, _<_, _≤_};
+ghost use Prim.Native.Nat.{_+_, _*_, _-_, _^_, _<_, _≤_};
 ghost use Rattle.routes.specs.Answers.{announce as announced, withdraw as withdrawn};
 ghost use Rattle.arrays.specs.Words.{slotsOf};
 ghost use Rattle.arrays.specs.Table.{Table};
@@ -14,15 +14,6 @@ pub enum Updated {
     Refused(u32),
 }
 
-// The bits of an address after a length. Length 0 would be a shift by 32, so the size has 64 bits.
-fn low_bits(address: u32, length: u32) -> u64
-    requires { ⌜ length ≤ 32 ⌝ }
-    ensures { λ r. ⌜ r ≡ address % 2 ^ (32 - length) ⌝ }
-{
-    let size: u64 = 1 << (32 - length);
-    address as u64 % size
-}
-
 // The number of the first fault of a prefix, 0 where it has none.
 fn prefix_fault(address: u32, length: u32) -> u32
     ensures { λ r. ⌜ r ≡ faultOf 32 (withdrawn address length) ⌝ }
@@ -30,7 +21,7 @@ fn prefix_fault(address: u32, length: u32) -> u32
     if length > 32 {
         return 3;
     }
-    if low_bits(address, length) != 0 {
+    if numbers::low_bits(address, length) != 0 {
         return 4;
     }
     0

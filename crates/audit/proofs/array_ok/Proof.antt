@@ -61,14 +61,14 @@ returns-5 c =
     array-hung (a .n) (a .top) (a .words .now) (a .a) (s .pre .0 .whole) (c .before .before .before .before .before .before .before .if1 .left) (sym (c .before .before .before .before .before .before .block-ok .ensures) ∙ not-false _ (c .before .before .before .before .before .if2 .left))
     (sym (c .before .before .before .before .links-ok .ensures) ∙ not-false _ (c .before .before .before .if3 .left)) (c .before .before .if4 .left) (sym (c .before .hung-ok .ensures) ∙ not-true _ (c .if5 .taken))
 
-is-empty-requires : tie.Need-is-empty-requires
-is-empty-requires c κs = search needs
+empty-requires : tie.Need-empty-requires
+empty-requires c κs = search needs
 
 returns-6 : tie.Need-returns-6
 returns-6 c =
     let s = c .before .before .before .before .before .before .before .before .before .before .before in
     let a = s .args in
-    ap not (c .is-empty .ensures) ∙ array-last (a .n) (a .top) (a .words .now) (a .a) (s .pre .0 .whole) (c .before .before .before .before .before .before .before .before .if1 .left) (sym (c .before .before .before .before .before .before .before .block-ok .ensures) ∙ not-false _ (c .before .before .before .before .before .before .if2 .left))
+    ap not (c .empty .ensures) ∙ array-last (a .n) (a .top) (a .words .now) (a .a) (s .pre .0 .whole) (c .before .before .before .before .before .before .before .before .if1 .left) (sym (c .before .before .before .before .before .before .before .block-ok .ensures) ∙ not-false _ (c .before .before .before .before .before .before .if2 .left))
     (sym (c .before .before .before .before .before .links-ok .ensures) ∙ not-false _ (c .before .before .before .before .if3 .left)) (c .before .before .before .if4 .left) (sym (c .before .before .hung-ok .ensures) ∙ not-false _ (c .before .if5 .left))
 
 pub array-ok-spec : {M : Type 1} → statement M
@@ -87,5 +87,5 @@ array-ok-spec =
     returns-4
     hung-ok-requires
     returns-5
-    is-empty-requires
+    empty-requires
     returns-6)

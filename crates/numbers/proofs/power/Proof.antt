@@ -5,8 +5,8 @@ use Prim.Native.Nat.{_^_}
 use lib.Pow.{shl-exact}
 use borrow.Author.Needs.{needs}
 use native.Mathlib.Omega.{arith}
-use Rattle.copy.proofs.power.Statement.{statement}
-use Rattle.copy.proofs.power.Tie as tie
+use Rattle.numbers.proofs.power.Statement.{statement}
+use Rattle.numbers.proofs.power.Tie as tie
 
 shl-result : tie.Need-shl-result
 shl-result c = search needs
