@@ -1,7 +1,7 @@
 -- Words seen as a table, and what is known of its list and of its room; words that were cleared; a run that was not refused.
 -- Assumes nothing.
 use mathlib.Core.Path.{_≡_, sym, ap, _∙_}
-use mathlib.Core.Bool.{true, false}
+use mathlib.Core.Bool.{false}
 use mathlib.Core.List.{List, []}
 use Prim.Native.Nat.{ℕ, _+_, _-_, _*_, _/_, _≤_}
 use native.Mathlib.Omega.{arith}
@@ -15,7 +15,7 @@ use Rattle.arrays.specs.Words.{arraysOf, arrayCount}
 use Rattle.arrays.specs.Table.{seen}
 use Rattle.arrays.specs.Listed.{table-list}
 use Rattle.arrays.specs.Stock.{table-need, used-full}
-use Rattle.arrays.specs.View.{Is, table-of, table-fits, fits-no-misfit}
+use Rattle.arrays.specs.View.{table-of, table-fits, fits-no-misfit}
 use Rattle.audit.specs.Told.{Clears}
 use Rattle.audit.specs.declared.Cleared.{Cleared}
 use Rattle.audit.specs.declared.Cleared.the-variants.{Done}

@@ -3,7 +3,7 @@
 --
 --     words, a table ── write_out ──▶ front ── run ──▶ words′, seen as the words are
 --     as many words ─── clear ──────▶ cleared ──┘
-use mathlib.Core.Path.{_≡_, sym, ap, _∙_}
+use mathlib.Core.Path.{_≡_, sym, _∙_}
 use mathlib.Core.List.{List, []}
 use Prim.Native.Nat.{ℕ, _+_, _*_, _≤_}
 use lib.ListN.{length, take}

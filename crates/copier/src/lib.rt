@@ -2,8 +2,8 @@
 // match of a marker, so nothing is kept beside the lent words.
 ghost use mathlib.Core.Path.{_≡_};
 ghost use mathlib.Core.Bool.{true};
-ghost use Prim.Native.Nat.{ℕ, _+_, _*_, _-_, _/_, _^_, _<_, _≤_};
-ghost use lib.ListN.{length, getD};
+ghost use Prim.Native.Nat.{_+_, _*_, _-_, _/_, _<_, _≤_};
+ghost use lib.ListN.{length};
 ghost use Rattle.routes.specs.Route.{IsList};
 ghost use Rattle.way.specs.Marks.{bestAt};
 ghost use Rattle.way.specs.Listed.{routeAt, listOf, listedIn, buildOn};

@@ -5,12 +5,12 @@ use mathlib.Core.Logic.{_≢_, _⊎_, inl, inr, ⊎-elim}
 use mathlib.Core.Bool.{Bool, true, false, cond, not, _&&_, _||_, true≢false}
 use mathlib.Core.List.{List, [], _∷_}
 use Prim.Native.Nat.{ℕ, zero, suc, _+_, _-_, _*_, _/_, _%_, _^_, _≤_, _<_}
-use native.Mathlib.Nat.{add-suc, add-zero, add-assoc, mul-div-cancel, mul-le-mul-right, mul-assoc, div-mul-le-self, mod-lt, suc-mul}
+use native.Mathlib.Nat.{add-suc, add-zero, add-assoc, mul-le-mul-right, mul-assoc, div-mul-le-self, mod-lt, suc-mul}
 use native.Mathlib.Omega.{arith}
 use lib.Dec.{ltb, eqb}
 use lib.Pow.{pow-pos, pow-add, pow-mono, shr-shr, split, high}
 use borrow.Author.Tests.{eqb-true, eq-eqb, ne-eqb}
-use Rattle.laws.specs.Cases.{bool, less, same}
+use Rattle.laws.specs.Cases.{bool, same}
 use Rattle.laws.specs.Tells.{and-to}
 use Rattle.routes.specs.Route.{Route}
 use Rattle.routes.specs.Room.{level}

@@ -1,20 +1,19 @@
 -- Room after a removal, and which heads a table has. Assumes nothing.
-use mathlib.Core.Path.{_≡_, refl, sym, ap, ap₂, _∙_}
-use mathlib.Core.Logic.{_≢_, _⊎_, inl, inr, ⊎-elim}
-use mathlib.Core.Bool.{Bool, true, false, cond, _&&_, _||_}
-use mathlib.Core.List.{List, [], _∷_, _++_}
-use Prim.Native.Nat.{ℕ, zero, suc, _+_, _-_, _*_, _/_, _^_, _≤_, _<_}
-use native.Mathlib.Nat.{le-refl, mul-div-cancel}
+use mathlib.Core.Path.{_≡_, refl, sym, ap, _∙_}
+use mathlib.Core.Bool.{Bool, true, false, cond, _||_}
+use mathlib.Core.List.{List, [], _∷_}
+use Prim.Native.Nat.{ℕ, _+_, _-_, _*_, _/_, _^_, _≤_, _<_}
+use native.Mathlib.Nat.{mul-div-cancel}
 use native.Mathlib.Omega.{arith}
-use lib.Dec.{ltb, leb, eqb}
+use lib.Dec.{ltb, eqb}
 use lib.Pow.{pow-pos, shr-lt, shr-shr}
-use borrow.Author.Tests.{ltb-true, ltb-false, eqb-true, eqb-false, eq-eqb, ne-eqb, lt-ltb}
+use borrow.Author.Tests.{ltb-true, ltb-false, eqb-true, eqb-false, eq-eqb, lt-ltb}
 use Rattle.routes.specs.Route.{Route, key, From, All, hopAt, insert, remove}
-use Rattle.laws.specs.Cases.{bool, same, less}
-use Rattle.laws.specs.Sorted.{Good, ext, insert-from, remove-from, all-insert, all-remove, insert-same, insert-other, remove-same, remove-other, hop-head, hop-skip}
-use Rattle.laws.specs.Collect.{collect, routes, routes-hop, routes-goods, routes-from}
-use Rattle.routes.specs.Room.{mem, distinct, heads, needTo}
-use Rattle.laws.specs.Room.{newTo, need-insert, or-right, or-left}
+use Rattle.laws.specs.Cases.{same}
+use Rattle.laws.specs.Sorted.{Good, ext, insert-from, remove-from, all-insert, all-remove, insert-same, insert-other, remove-other, hop-head, hop-skip}
+use Rattle.laws.specs.Collect.{routes, routes-hop, routes-goods}
+use Rattle.routes.specs.Room.{mem, heads, needTo}
+use Rattle.laws.specs.Room.{newTo, need-insert, or-right}
 use Rattle.routes.specs.Route.{Wf}
 use Rattle.laws.specs.Longest.{Wfs, routes-wfs, whole}
 

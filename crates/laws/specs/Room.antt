@@ -1,17 +1,17 @@
 -- The laws of room: need hangs on the set of heads alone, and an insertion adds its new heads. Assumes nothing.
-use mathlib.Core.Path.{_≡_, refl, sym, ap, ap₂, _∙_}
+use mathlib.Core.Path.{_≡_, refl, sym, ap, _∙_}
 use mathlib.Core.Logic.{_≢_}
 use mathlib.Core.Bool.{Bool, true, false, cond, _&&_, _||_, true≢false, false≢true}
 use mathlib.Core.List.{List, [], _∷_, _++_}
-use Prim.Native.Nat.{ℕ, zero, suc, _+_, _-_, _*_, _/_, _^_, _≤_, _<_}
-use native.Mathlib.Nat.{le-refl, le-antisymm}
+use Prim.Native.Nat.{ℕ, zero, suc, _+_, _-_, _*_, _/_, _^_, _≤_}
+use native.Mathlib.Nat.{le-antisymm}
 use native.Mathlib.Omega.{arith}
 use lib.Dec.{ltb, eqb}
 use borrow.Author.Tests.{eq-eqb, ne-eqb}
 use Rattle.laws.specs.Cases.{bool, same, tri}
 pub use Rattle.laws.specs.Bools.{or-left, or-right}
 use Rattle.laws.specs.Bools.{or-case, or-swap, or-twice}
-use Rattle.routes.specs.Route.{Route, key, All, insert, remove}
+use Rattle.routes.specs.Route.{Route, key, All, insert}
 use Rattle.routes.specs.Room.{mem, distinct, heads, needTo}
 use Rattle.laws.specs.Sorted.{Good}
 

@@ -1,21 +1,19 @@
 -- A list written out and fed to a cleared table of the same room gives that list again: the list's side of it. Assumes nothing.
-use mathlib.Core.Path.{_≡_, refl, sym, ap, ap₂, _∙_}
-use mathlib.Core.Bool.{Bool, true, false, cond, not}
+use mathlib.Core.Path.{_≡_, refl, sym, ap, _∙_}
 use mathlib.Core.List.{List, [], _∷_, _++_, append-assoc, append-nil}
-use Prim.Native.Nat.{ℕ, zero, suc, _+_, _-_, _*_, _/_, _%_, _^_, _≤_, _<_}
+use Prim.Native.Nat.{ℕ, suc, _+_, _-_, _*_, _/_, _≤_}
 use native.Mathlib.Omega.{arith}
 use lib.ListN.{length}
 use borrow.Author.Tests.{le-ltb, ne-eqb}
-use Rattle.routes.specs.Route.{Route, route, key, From, All, hopAt, insert, IsRoute, IsList}
-use Rattle.routes.specs.Room.{need, needTo}
+use Rattle.routes.specs.Route.{Route, route, key, From, All, insert, IsRoute, IsList}
+use Rattle.routes.specs.Room.{need}
 use Rattle.routes.specs.Cells.{cells}
-use Rattle.routes.specs.Answers.{announce, Reply, done, isDone, isRefused, answer, after, replies, leaves}
+use Rattle.routes.specs.Answers.{announce, done, isDone, isRefused, answer, after, replies, leaves}
 use Rattle.routes.specs.Bytes.{announced, written, recordsBytes, repliesBytes}
-use Rattle.routes.specs.Runs.{State, run}
-use Rattle.laws.specs.Sorted.{Good, hop-skip}
+use Rattle.routes.specs.Runs.{run}
 use Rattle.laws.specs.Collect.{Within, within-le, hop-above}
 use Rattle.laws.specs.Room.{under-first, need-le}
-use Rattle.laws.specs.Encoded.{AllFit, count, ended, run-ended}
+use Rattle.laws.specs.Encoded.{AllFit, count, run-ended}
 
 -- ---- a last route added
 

@@ -1,6 +1,6 @@
 // Looking an address up in lent words: the layout's walk, from the root down. It reads one cell a level and checks nothing else.
 ghost use mathlib.Core.Path.{_≡_};
-ghost use Prim.Native.Nat.{_+_, _*_, _-_, _/_, _<_};
+ghost use Prim.Native.Nat.{_+_, _*_, _-_, _/_};
 ghost use lib.ListN.{length};
 ghost use Rattle.routes.specs.Seen.{lookupOn};
 ghost use mathlib.Core.Bool.{cond};

@@ -1,14 +1,14 @@
 -- One update at a time: what it does to the hops held, and that room is no matter while all that is named fits. Assumes nothing.
 use mathlib.Core.Path.{_≡_, refl, sym, _∙_}
 use mathlib.Core.Logic.{_≢_}
-use mathlib.Core.Bool.{Bool, true, false, cond, not, _||_, true≢false, false≢true}
+use mathlib.Core.Bool.{Bool, true, false, cond, not, true≢false, false≢true}
 use mathlib.Core.List.{List, [], _∷_, _++_}
-use Prim.Native.Nat.{ℕ, zero, suc, _+_, _-_, _*_, _/_, _≤_, _<_}
+use Prim.Native.Nat.{ℕ, _+_, _-_, _*_, _/_, _≤_, _<_}
 use native.Mathlib.Omega.{arith}
 use lib.Dec.{eqb}
 use borrow.Author.Tests.{ltb-false, eqb-false, le-ltb}
 use Rattle.routes.specs.Route.{Route, route, tooLong, stray, badHop, key, From, All, hopAt, insert, remove}
-use Rattle.routes.specs.Room.{mem, heads, needTo, need}
+use Rattle.routes.specs.Room.{mem, heads, need}
 use Rattle.routes.specs.Answers.{Update, announce, withdraw, Reply, done, found, none, refused, refuse, faulty, answer, isDone, after}
 use Rattle.laws.specs.Cases.{bool, same}
 use Rattle.laws.specs.Sorted.{Good, insert-from, remove-from, all-insert, all-remove, insert-same, insert-other, remove-same, remove-other}

@@ -1,13 +1,12 @@
 -- The C face's promises from those of the calls below it. Assumes nothing.
-use mathlib.Core.Path.{_≡_, refl, sym, ap, _∙_}
+use mathlib.Core.Path.{_≡_, refl, ap, _∙_}
 use mathlib.Core.Logic.{_≢_}
-use mathlib.Core.Bool.{true, false}
 use mathlib.Core.List.{List, _++_}
-use Prim.Native.Nat.{ℕ, _+_, _*_}
+use Prim.Native.Nat.{ℕ, _+_}
 use native.Mathlib.Omega.{arith}
 use lib.ListN.{length, drop}
 use Rattle.routes.specs.Answers.{Update, refused, isRefused}
-use Rattle.routes.specs.Seen.{Answer, gives, refuses, Seen, countOn, frontOn}
+use Rattle.routes.specs.Seen.{Answer, gives, refuses, countOn, frontOn}
 use Rattle.laws.specs.Cases.{less}
 use Rattle.arrays.specs.Table.{seen}
 use Rattle.audit.specs.declared.Cleared.{Cleared}
@@ -15,8 +14,7 @@ use Rattle.audit.specs.Told.{toldClear, Clears as Below}
 use Rattle.update.specs.declared.Updated.{Updated as Answered}
 use Rattle.update.specs.Update.{told, Updates as Made}
 use Rattle.writing.specs.declared.Counted.{Counted}
-use Rattle.writing.specs.declared.Counted.the-variants.{Bytes, Refused}
-use Rattle.writing.specs.Told.{toldCount, Fills, front-length, front-none, refused-kept, empty-exactly}
+use Rattle.writing.specs.Told.{toldCount, Fills, front-length, front-none}
 use Rattle.feed.specs.declared.Ran.{Ran as Outcome}
 use Rattle.feed.specs.declared.Ran.the-variants.{Stopped, Refused as Unfit}
 use Rattle.feed.specs.Runs.{told as toldRun, reported, Runs as Run}

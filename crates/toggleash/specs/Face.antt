@@ -3,7 +3,7 @@ use mathlib.Core.Path.{_≡_}
 use mathlib.Core.List.{List, _++_}
 use Prim.Native.Nat.{ℕ}
 use lib.ListN.{length, drop}
-use Rattle.routes.specs.Answers.{Update, Reply, done, found, none, refused, isRefused}
+use Rattle.routes.specs.Answers.{Update, Reply, done, found, none, refused}
 use Rattle.routes.specs.Seen.{Answer, gives, refuses, Counts, answerOn, afterOn, clearOn, clearedOn, countOn, frontOn, runOn, ranOn, repliedOn}
 use Rattle.arrays.specs.Table.{seen}
 use Rattle.feed.specs.declared.Report.{Report}

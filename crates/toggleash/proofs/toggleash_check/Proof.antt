@@ -1,5 +1,5 @@
 -- `toggleash::toggleash_check` meets its contract: its fields are those of what the check tells. Assumes nothing.
-use mathlib.Core.Path.{_≡_, sym, ap, _∙_}
+use mathlib.Core.Path.{ap, _∙_}
 use Rattle.toggleash.specs.Face.{counted}
 use borrow.Author.Needs.{needs}
 use Rattle.toggleash.proofs.toggleash_check.Statement.{statement}

@@ -1,5 +1,5 @@
 -- `toggleash::toggleash_lookup` meets its contract: its fields are those of what the lookup tells. Assumes nothing.
-use mathlib.Core.Path.{_≡_, sym, ap, _∙_}
+use mathlib.Core.Path.{ap, _∙_}
 use Rattle.toggleash.specs.Face.{looked}
 use borrow.Author.Needs.{needs}
 use Rattle.toggleash.proofs.toggleash_lookup.Statement.{statement}

@@ -1,7 +1,5 @@
 -- `update::announce` meets its contract: by the number that stands before the work, or by the work's promise on a table. Assumes nothing.
 use mathlib.Core.Path.{_≡_, sym, ap, _∙_}
-use mathlib.Core.List.{List}
-use Prim.Native.Nat.{ℕ}
 use borrow.Author.Needs.{needs}
 use Rattle.routes.specs.Answers.{announce as update}
 use Rattle.arrays.specs.Table.{Table}

@@ -1,6 +1,6 @@
 -- `toggleash_copy_lookup` meets its contract: its fields are those of what the lookup tells, on any words and on a copy.
 -- Assumes nothing.
-use mathlib.Core.Path.{_≡_, ap, _∙_}
+use mathlib.Core.Path.{ap, _∙_}
 use Rattle.toggleash.specs.Face.{looked}
 use borrow.Author.Needs.{needs}
 use Rattle.toggleash.proofs.copies.toggleash_copy_lookup.Statement.{statement}

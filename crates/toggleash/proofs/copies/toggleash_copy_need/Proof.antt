@@ -1,5 +1,5 @@
 -- `toggleash_copy_need` meets its contract: its fields are those of what the need tells. Assumes nothing.
-use mathlib.Core.Path.{_≡_, ap, _∙_}
+use mathlib.Core.Path.{ap, _∙_}
 use Rattle.toggleash.specs.Copies.{needed}
 use borrow.Author.Needs.{needs}
 use Rattle.toggleash.proofs.copies.toggleash_copy_need.Statement.{statement}
