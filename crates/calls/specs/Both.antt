@@ -21,9 +21,9 @@ use Rattle.laws.specs.Encoded.{AllFit}
 use Rattle.arrays.specs.Table.{seen}
 use Rattle.audit.specs.Told.{toldCheck}
 use Rattle.audit.specs.declared.Checked.{Checked}
-use Rattle.lookup.specs.Told as lookup
+use Rattle.matches.specs.Told as matches
 use Rattle.lookup.specs.Walk.{walk}
-use Rattle.lookup.specs.declared.Match.{Match}
+use Rattle.matches.specs.declared.Match.{Match}
 use Rattle.feed.specs.Runs.{Runs, reportOf}
 use Rattle.feed.specs.declared.Report.{Report}
 use Rattle.feed.specs.declared.Ran.{Ran}
@@ -41,7 +41,7 @@ use Rattle.calls.specs.Series.{Series, all-answered}
 -- lookup answers by it, the check counts it, and writing out gives it
 pub record Holds (A : ℕ) (rs : List Route) (ws : List ℕ) : Type 0 where
   pub list : seen 4 ws ≡ table A rs
-  pub lookups : (a : ℕ) (r : Match) → lookup.told r ≡ lookupOn 32 (seen 4 ws) (walk 4 ws a) a → lookup.told r ≡ matched (longest 32 a rs)
+  pub lookups : (a : ℕ) (r : Match) → matches.told r ≡ lookupOn 32 (seen 4 ws) (walk 4 ws a) a → matches.told r ≡ matched (longest 32 a rs)
   pub checks : (r : Checked) → toldCheck r ≡ checkOn 32 (seen 4 ws) → toldCheck r ≡ gives (record { routes = length rs; arrays = need 32 rs })
   pub fronts : (b front : List ℕ) → 8 * length rs + 1 ≤ length b → front ≡ frontOn (seen 4 ws) (length b) → front ≡ written rs
 

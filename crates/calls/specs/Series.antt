@@ -13,14 +13,14 @@ use Rattle.routes.specs.Seen.{table, lookupOn}
 use Rattle.arrays.specs.Table.{seen}
 use Rattle.update.specs.Update as update
 use Rattle.update.specs.declared.Updated.{Updated}
-use Rattle.lookup.specs.Told as lookup
+use Rattle.matches.specs.Told as matches
 use Rattle.lookup.specs.Walk.{walk}
-use Rattle.lookup.specs.declared.Match.{Match}
+use Rattle.matches.specs.declared.Match.{Match}
 
 -- the call of a record on the words ws was answered y and left vs, as its contract allows
 pub data Asked (ws : List ℕ) : Record → Reply → List ℕ → Type 0 where
   updated : {u : Update} {vs : List ℕ} (r : Updated) → update.Updates ws vs u r → Asked ws (update u) (update.told r) vs
-  looked : {a : ℕ} (r : Match) → lookup.told r ≡ lookupOn 32 (seen 4 ws) (walk 4 ws a) a → Asked ws (lookup a) (lookup.told r) ws
+  looked : {a : ℕ} (r : Match) → matches.told r ≡ lookupOn 32 (seen 4 ws) (walk 4 ws a) a → Asked ws (lookup a) (matches.told r) ws
 
 -- and so were several, in order
 pub data Series : List ℕ → List Record → List Reply → List ℕ → Type 0 where

@@ -17,8 +17,9 @@ use Rattle.audit.specs.Sharp as audit
 use Rattle.audit.specs.declared.Cleared.{Cleared}
 use Rattle.audit.specs.declared.Checked.{Checked}
 use Rattle.lookup.specs.Told as lookup
+use Rattle.matches.specs.Told as matches
 use Rattle.lookup.specs.Walk.{walk}
-use Rattle.lookup.specs.declared.Match.{Match}
+use Rattle.matches.specs.declared.Match.{Match}
 use Rattle.update.specs.Update.{told, Updates, Applies}
 use Rattle.update.specs.Sharp as update
 use Rattle.update.specs.declared.Updated.{Updated}
@@ -40,7 +41,7 @@ check-agrees ws r r′ p q = audit.check-sharp (checkOn 32 (seen 4 ws)) r r′ p
 
 -- ---- lookup: on a table by its list, on other words by the layout's walk over them
 
-pub lookup-agrees : (ws : List ℕ) (a : ℕ) (r r′ : Match) → lookup.told r ≡ lookupOn 32 (seen 4 ws) (walk 4 ws a) a → lookup.told r′ ≡ lookupOn 32 (seen 4 ws) (walk 4 ws a) a → r ≡ r′
+pub lookup-agrees : (ws : List ℕ) (a : ℕ) (r r′ : Match) → matches.told r ≡ lookupOn 32 (seen 4 ws) (walk 4 ws a) a → matches.told r′ ≡ lookupOn 32 (seen 4 ws) (walk 4 ws a) a → r ≡ r′
 lookup-agrees ws a r r′ p q = lookup.lookup-one ws a r r′ p q
 
 -- ---- announce, withdraw

@@ -1,4 +1,5 @@
 // A copy of a route list in lent words, looked up by lengths: a hash table for each length, and the search's way among them.
+use matches::Match;
 ghost use mathlib.Core.Path.{_≡_};
 ghost use Prim.Native.Nat.{_+_, _*_, _-_, _/_, _^_, _<_, _≤_};
 ghost use lib.ListN.{length};
@@ -9,14 +10,8 @@ ghost use Rattle.routes.specs.Answers.{matched};
 ghost use Rattle.way.specs.Way.{after, hit, search};
 ghost use Rattle.copy.specs.Layout.{wide as wideAt, badBest, ranged as rangedBest, placesOf, start as startOf, place as placeOf, find, look, answered, walk};
 ghost use Rattle.copy.specs.Copy.{Copy};
-ghost use Rattle.copy.specs.Told.{seen, told};
-
-pub enum Match {
-    // hop and length of the longest match
-    Found(u32, u32),
-    Nothing,
-    Refused(u32),
-}
+ghost use Rattle.copy.specs.Told.{seen};
+ghost use Rattle.matches.specs.Told.{told};
 
 // What a look at one length gives: no entry; an entry's best match; a number outside its range.
 pub enum Look {

@@ -8,7 +8,7 @@ ghost use Rattle.routes.specs.Bytes.{replyBytes};
 ghost use Rattle.routes.specs.Runs.{size as sizeOf, halts};
 ghost use Rattle.arrays.specs.Table.{seen};
 ghost use Rattle.update.specs.Update.{told as toldUpdate};
-ghost use Rattle.lookup.specs.Told.{told as toldMatch};
+ghost use Rattle.matches.specs.Told.{told as toldMatch};
 ghost use Rattle.feed.specs.Runs.{Runs};
 ghost use Rattle.feed.specs.Turns.{told, one, Wrote, IsTable, announceAt, withdrawAt, lookupAt, Asks, Answered, here, Takes, Took};
 ghost use Rattle.feed.specs.declared.Ran.the-variants.{Stopped};
@@ -208,13 +208,13 @@ fn of_update(u: update::Updated) -> Reply
     }
 }
 
-fn of_match(m: lookup::Match) -> Reply
+fn of_match(m: matches::Match) -> Reply
     ensures { λ r. ⌜ told r ≡ toldMatch m ⌝ }
 {
     match m {
-        lookup::Match::Found(hop, length) => Reply::Found(hop, length),
-        lookup::Match::Nothing => Reply::Nothing,
-        lookup::Match::Refused(n) => Reply::Refused(n),
+        matches::Match::Found(hop, length) => Reply::Found(hop, length),
+        matches::Match::Nothing => Reply::Nothing,
+        matches::Match::Refused(n) => Reply::Refused(n),
     }
 }
 

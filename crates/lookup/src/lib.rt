@@ -1,4 +1,5 @@
 // Looking an address up in lent words: the layout's walk, from the root down. It reads one cell a level and checks nothing else.
+use matches::Match;
 ghost use mathlib.Core.Path.{_≡_};
 ghost use Prim.Native.Nat.{_+_, _*_, _-_, _/_};
 ghost use lib.ListN.{length};
@@ -8,14 +9,7 @@ ghost use lib.Dec.{eqb};
 ghost use Rattle.arrays.specs.Table.{seen};
 ghost use Rattle.arrays.specs.Decides.{Fits};
 ghost use Rattle.lookup.specs.Walk.{outside, ended, walk, walked};
-ghost use Rattle.lookup.specs.Told.{told};
-
-pub enum Match {
-    // hop and length of the longest match
-    Found(u32, u32),
-    Nothing,
-    Refused(u32),
-}
+ghost use Rattle.matches.specs.Told.{told};
 
 // A best that is neither 0 nor a hop and a length. On a table none of these tests is ever true, so that a processor foresees them
 // all; a test that tells which cells have a best would go either way, and a lookup then takes twice as long.

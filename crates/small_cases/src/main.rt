@@ -113,16 +113,16 @@ fn updated(u: update::Updated) {
     }
 }
 
-fn matched(m: lookup::Match) {
+fn matched(m: matches::Match) {
     match m {
-        lookup::Match::Found(hop, length) => {
+        matches::Match::Found(hop, length) => {
             field(b" via ", hop);
             field(b" length ", length);
         }
-        lookup::Match::Nothing => {
+        matches::Match::Nothing => {
             io::write_all(1, b" none");
         }
-        lookup::Match::Refused(n) => field(b" refused ", n),
+        matches::Match::Refused(n) => field(b" refused ", n),
     }
 }
 

@@ -56,6 +56,8 @@ pub record Updates (ws vs : List ℕ) (u : Update) (r : Updated) : Type 0 where
   pub answer : r ≡ updated (answerOn 32 (seen 4 ws) u)
   pub list : seen 4 vs ≡ afterOn 32 (seen 4 ws) u
   pub kept : (n : ℕ) → answerOn 32 (seen 4 ws) u ≡ refused n → vs ≡ ws
+  -- a hop that is held already changes no word
+  pub still : seen 4 vs ≡ seen 4 ws → vs ≡ ws
 
 pub record Writes (ws b c : List ℕ) (r : Written) : Type 0 where
   pub answer : r ≡ wrote (countOn (seen 4 ws) (length b))

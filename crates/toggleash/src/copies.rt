@@ -2,7 +2,6 @@
 use super::Found;
 ghost use mathlib.Core.Path.{_≡_};
 ghost use mathlib.Core.List.{List};
-ghost use lib.ListN.{length};
 ghost use Rattle.routes.specs.Route.{Route, IsList};
 ghost use Rattle.routes.specs.Match.{longest};
 ghost use Rattle.routes.specs.Answers.{matched};
@@ -10,7 +9,6 @@ ghost use Rattle.way.specs.Listed.{listedIn, needOn};
 ghost use Rattle.listing.specs.Told.{told as toldNeed};
 ghost use Rattle.copy.specs.Layout.{walk};
 ghost use Rattle.copy.specs.Copy.{Copy};
-ghost use Rattle.copy.specs.Told.{told as toldMatch};
 ghost use Rattle.copier.specs.Told.{told as toldBuild};
 ghost use Rattle.toggleash.specs.Face.{looked};
 ghost use Rattle.toggleash.specs.Copies.{needed, built, Builds};
@@ -62,31 +60,6 @@ fn counts(answer: copier::Built) -> Built
     }
 }
 
-fn finding(answer: copy::Match) -> Found
-    ensures { λ r. ⌜ r ≡ looked (toldMatch answer) ⌝ }
-{
-    match answer {
-        copy::Match::Found(hop, length) => Found {
-            refusal: 0,
-            found: 1,
-            hop: hop,
-            length: length,
-        },
-        copy::Match::Nothing => Found {
-            refusal: 0,
-            found: 0,
-            hop: 0,
-            length: 0,
-        },
-        copy::Match::Refused(n) => Found {
-            refusal: n,
-            found: 0,
-            hop: 0,
-            length: 0,
-        },
-    }
-}
-
 // ---- the calls
 
 #[no_mangle]
@@ -108,5 +81,5 @@ pub extern "C" fn toggleash_copy_lookup(words: &[u32], address: u32) -> Found
     ensures { λ r. ⌜ r ≡ looked (walk (now (words .entry)) address) ⌝ }
     ensures of_a_copy { λ r. ⌜ ((rs : List Route) → IsList 32 rs → Copy rs (now (words .entry)) → r ≡ looked (matched (longest 32 address rs))) ⌝ }
 {
-    finding(copy::lookup(words, address))
+    super::finding(copy::lookup(words, address))
 }

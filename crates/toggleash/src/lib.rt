@@ -12,7 +12,7 @@ ghost use Rattle.update.specs.Update.{told};
 ghost use Rattle.writing.specs.Told.{toldCount};
 ghost use Rattle.feed.specs.Runs.{told as toldRun};
 ghost use Rattle.audit.specs.Told.{toldClear, toldCheck};
-ghost use Rattle.lookup.specs.Told.{told as toldMatch};
+ghost use Rattle.matches.specs.Told.{told as toldMatch};
 ghost use Rattle.toggleash.specs.Face.{refusal as refusalOf, counted, looked, updated, wrote, ran, Clears, Updates, Writes, Runs};
 
 #[repr(C)]
@@ -81,23 +81,23 @@ fn counts(answer: audit::Checked) -> Counted
     }
 }
 
-fn finding(answer: lookup::Match) -> Found
+fn finding(answer: matches::Match) -> Found
     ensures { λ r. ⌜ r ≡ looked (toldMatch answer) ⌝ }
 {
     match answer {
-        lookup::Match::Found(hop, length) => Found {
+        matches::Match::Found(hop, length) => Found {
             refusal: 0,
             found: 1,
             hop: hop,
             length: length,
         },
-        lookup::Match::Nothing => Found {
+        matches::Match::Nothing => Found {
             refusal: 0,
             found: 0,
             hop: 0,
             length: 0,
         },
-        lookup::Match::Refused(n) => Found {
+        matches::Match::Refused(n) => Found {
             refusal: n,
             found: 0,
             hop: 0,

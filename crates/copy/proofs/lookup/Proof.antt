@@ -2,7 +2,7 @@
 use mathlib.Core.Path.{_≡_, ap, _∙_}
 use Rattle.routes.specs.Answers.{refused}
 use Rattle.copy.specs.Layout.{answered, walk}
-use Rattle.copy.specs.Told.{told}
+use Rattle.matches.specs.Told.{told}
 use Rattle.copy.proofs.Laws.{walk-short, walk-strange, walk-search, of-copy}
 use borrow.Author.Needs.{needs}
 use native.Mathlib.Omega.{arith}
