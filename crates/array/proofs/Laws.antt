@@ -14,7 +14,8 @@ use lib.Pow.{pow-pos, pow-mono}
 use lib.ListN.{getD, set}
 use borrow.Author.Tests.{eq-eqb, ne-eqb, lt-ltb, le-ltb, ltb-true}
 use Rattle.laws.specs.Cases.{most}
-use Rattle.laws.specs.Tells.{allB, all-to, or-true}
+use Rattle.laws.specs.Bools.{or-true}
+use Rattle.laws.specs.Tells.{allB, all-to}
 use Rattle.array.specs.Cover.{Deep, Hops, Climb}
 use Rattle.array.specs.Block.{slots, bests, links, bestOf}
 use Rattle.array.specs.Check.{rightB, emptyB, taken}

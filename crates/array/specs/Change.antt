@@ -13,7 +13,7 @@ use lib.Dec.{eqb}
 use lib.Pow.{pow-pos}
 use borrow.Author.Tests.{ne-eqb, le-leb, lt-leb}
 use Rattle.laws.specs.Cases.{bool, same}
-use Rattle.laws.specs.Tells.{or-true}
+use Rattle.laws.specs.Bools.{or-true}
 use Rattle.array.specs.Block.{bestOf}
 use Rattle.array.specs.Best.{above, best-none, best-some}
 use Rattle.array.specs.Put.{anyUp}

@@ -6,7 +6,8 @@ use Prim.Native.Nat.{ℕ, zero, suc, _+_, _-_, _*_, _≤_, _<_}
 use native.Mathlib.Omega.{arith}
 use lib.Dec.{ltb, eqb}
 use Rattle.laws.specs.Cases.{bool, less, same}
-use Rattle.laws.specs.Tells.{Tells, allB, tells-eq, tells-lt, tells-and, tells-or, tells-all, tells-as, and-from}
+use Rattle.laws.specs.Bools.{and-from}
+use Rattle.laws.specs.Tells.{Tells, allB, tells-eq, tells-lt, tells-and, tells-or, tells-all, tells-as}
 use Rattle.array.specs.Block.{bestOf, Right}
 use Rattle.array.specs.Check.{rightB, emptyB}
 

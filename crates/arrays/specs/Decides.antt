@@ -9,7 +9,8 @@ use lib.Dec.{eqb}
 use lib.ListN.{length, getD}
 use borrow.Author.Tests.{eqb-true, eq-eqb, ne-eqb}
 use Rattle.laws.specs.Cases.{same}
-use Rattle.laws.specs.Tells.{Tells, tells-eq, tells-and, tells-all, tells-as, all-from, all-to, and-to, and-from}
+use Rattle.laws.specs.Bools.{and-to, and-from}
+use Rattle.laws.specs.Tells.{Tells, tells-eq, tells-and, tells-all, tells-as, all-from, all-to}
 use Rattle.array.specs.Block.{Right}
 use Rattle.array.specs.Check.{rightB, emptyB}
 use Rattle.array.specs.Decides.{right-tells, full-tells}

@@ -23,7 +23,6 @@ use Rattle.matches.specs.declared.Match.{Match}
 use Rattle.update.specs.Update.{told, Updates, Applies}
 use Rattle.update.specs.Sharp as update
 use Rattle.update.specs.declared.Updated.{Updated}
-use Rattle.update.specs.declared.Updated.the-variants as updated
 use Rattle.writing.specs.Told as writing
 use Rattle.writing.specs.declared.Counted.{Counted}
 use Rattle.feed.specs.Runs.{Runs}
@@ -50,15 +49,9 @@ pub update-agrees : (ws : List ℕ) (u : Update) (vs vs′ : List ℕ) (r r′ :
 update-agrees ws u vs vs′ r r′ p q = update.sharp ws vs vs′ u r r′ p q
 
 -- the work after the check, on a table
-told-one : (r r′ : Updated) → told r ≡ told r′ → r ≡ r′
-told-one (updated.Done h c) (updated.Done h′ c′) e = cc
-told-one (updated.Done h c) (updated.Refused n) e = cc
-told-one (updated.Refused n) (updated.Done h c) e = cc
-told-one (updated.Refused n) (updated.Refused n′) e = cc
-
 pub work-agrees : (ws : List ℕ) (u : Update) (vs vs′ : List ℕ) (r r′ : Updated) → Applies 4 ws vs u r → Applies 4 ws vs′ u r′ → update.Agree vs vs′ r r′
 work-agrees ws u vs vs′ r r′ p q =
-    let e : r ≡ r′ = told-one r r′ (p .answer ∙ sym (q .answer)) in
+    let e : r ≡ r′ = update.one-answer r r′ (p .answer ∙ sym (q .answer)) in
     let n : length vs ≡ length vs′ = p .size ∙ sym (q .size) in
     let l : listOf 4 vs ≡ listOf 4 vs′ = p .list ∙ rw e (sym (q .list)) in
     record {

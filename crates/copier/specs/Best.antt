@@ -17,7 +17,7 @@ use Rattle.laws.specs.Longest.{Wfs, last-found}
 use Rattle.way.specs.Way.{miss, hit, turnsAt, code, best}
 use Rattle.way.specs.Finds.{last-past}
 use Rattle.way.specs.Marks.{picks, heldAt, entries, bestAt}
-use Rattle.laws.specs.Room.{or-left}
+use Rattle.laws.specs.Bools.{or-left}
 use Rattle.way.specs.Entries.{own, own-held, key-own, mem-either}
 use Rattle.way.specs.Held.{best-same}
 use Rattle.way.specs.Listed.{routeAt, routesFrom, listOf}

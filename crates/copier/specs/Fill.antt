@@ -12,8 +12,8 @@ use borrow.Author.Tests.{eqb-true, eq-eqb}
 use Rattle.routes.specs.Route.{Route, IsList}
 use Rattle.routes.specs.Room.{mem, distinct}
 use Rattle.laws.specs.Cases.{bool, same}
-use Rattle.laws.specs.Room.{or-left, or-right, distinct-le}
-use Rattle.laws.specs.Tells.{or-to}
+use Rattle.laws.specs.Bools.{or-left, or-right, or-to}
+use Rattle.laws.specs.Room.{distinct-le}
 use Rattle.way.specs.Way.{miss, hit, turnsAt}
 use Rattle.way.specs.Marks.{picks, heldAt, entries, bestAt}
 use Rattle.way.specs.Entries.{own, mem-append, mem-either}

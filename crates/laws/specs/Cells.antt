@@ -11,7 +11,7 @@ use lib.Dec.{ltb, eqb}
 use lib.Pow.{pow-pos, pow-add, pow-mono, shr-shr, split, high}
 use borrow.Author.Tests.{eqb-true, eq-eqb, ne-eqb}
 use Rattle.laws.specs.Cases.{bool, same}
-use Rattle.laws.specs.Tells.{and-to}
+use Rattle.laws.specs.Bools.{and-to}
 use Rattle.routes.specs.Route.{Route}
 use Rattle.routes.specs.Room.{level}
 use Rattle.routes.specs.Cells.{covers, hidden, shown, cells}

@@ -77,7 +77,7 @@ fit : (rs : List Route) → All (IsRoute 32) rs → AllFit (announced rs)
 fit [] p = tt
 fit (r ∷ rs) p = ((p .0 .wf .inside, omega (arith, p .0 .wf .fits), omega (arith, p .0 .low)), fit rs (p .1))
 
-bytes-long : (rs : List Route) → length (recordsBytes (announced rs)) ≡ 8 * length rs
+pub bytes-long : (rs : List Route) → length (recordsBytes (announced rs)) ≡ 8 * length rs
 bytes-long [] = refl
 bytes-long (r ∷ rs) = omega (arith, bytes-long rs)
 

@@ -11,7 +11,8 @@ use lib.Dec.{eqb}
 use lib.ListN.{length, getD}
 use borrow.Author.Tests.{eqb-true}
 use Rattle.laws.specs.Cases.{same}
-use Rattle.laws.specs.Tells.{allB, all-to, and-to}
+use Rattle.laws.specs.Bools.{and-to}
+use Rattle.laws.specs.Tells.{allB, all-to}
 use Rattle.array.specs.Block.{Right}
 use Rattle.array.specs.Check.{emptyB}
 use Rattle.arrays.specs.Arrays.{Arrays, node, lev, par, cell, held, Child, Hung, Shape}

@@ -11,7 +11,7 @@ use Rattle.update.specs.declared.Updated.the-variants.{Done, Refused}
 use Rattle.update.specs.Update.{told, Updates}
 
 -- an answer is told in one way
-one-answer : (r s : Updated) → told r ≡ told s → r ≡ s
+pub one-answer : (r s : Updated) → told r ≡ told s → r ≡ s
 one-answer (Done h c) (Done i d) e = cc
 one-answer (Done h c) (Refused n) e = cc
 one-answer (Refused n) (Done h c) e = cc

@@ -11,7 +11,7 @@ use lib.Pow.{pow-pos}
 use borrow.Author.Tests.{lt-ltb, le-ltb, eq-eqb}
 use Rattle.routes.specs.Room.{mem}
 use Rattle.laws.specs.Cases.{bool, same, less}
-use Rattle.laws.specs.Room.{or-left, or-right}
+use Rattle.laws.specs.Bools.{or-left, or-right}
 use Rattle.laws.specs.Longest.{last}
 use Rattle.way.specs.Way.{Look, miss, hit, after, search, turns, turnsAt, best}
 

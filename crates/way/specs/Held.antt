@@ -13,8 +13,8 @@ use Rattle.routes.specs.Match.{longest}
 use Rattle.routes.specs.Room.{mem}
 use Rattle.laws.specs.Cases.{same, less}
 use Rattle.laws.specs.Sorted.{hop-skip}
-use Rattle.laws.specs.Longest.{Wfs, last, keyAt, along, longest-last}
-use Rattle.laws.specs.Room.{or-left, or-right}
+use Rattle.laws.specs.Longest.{Wfs, keyAt, along, longest-last, last-same}
+use Rattle.laws.specs.Bools.{or-left, or-right}
 use Rattle.way.specs.Way.{Look, miss, hit, search, turns, turnsAt, code, best}
 use Rattle.way.specs.Finds.{Marked, way-finds}
 use Rattle.way.specs.Marks.{picks, heldAt, isEntry, entries, bestAt}
@@ -49,11 +49,6 @@ turn-below (suc n) m L x e =
     less m L
     (λ h d. same m x (λ q _. omega arith) (λ q t. turn-below n (m + 2 ^ n) L x (rw (d, t) at e)))
     (λ h d. less L m (λ k t. turn-below n (m - 2 ^ n) L x (rw (d, t) at e)) (λ k t. absurd (false≢true (rw (d, t) at e))))
-
-last-same : (g h : ℕ → ℕ) (n : ℕ) → ((l : ℕ) → l ≤ n → g l ≡ h l) → last g n ≡ last h n
-unfolding last
-last-same g h zero e = rw (e 0 (omega arith))
-last-same g h (suc n) e = rw (e (suc n) (omega arith), last-same g h n (λ l w. e l (omega arith)))
 
 pub best-same : (g h : ℕ → ℕ) (n : ℕ) → ((l : ℕ) → l ≤ n → g l ≡ h l) → best g n ≡ best h n
 best-same g h n e = ap code (last-same g h n e)

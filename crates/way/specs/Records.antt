@@ -16,7 +16,8 @@ use Rattle.routes.specs.Bytes.{twoAt, fourAt}
 use Rattle.laws.specs.Cases.{bool}
 use Rattle.laws.specs.Sorted.{from-weaken, all-map}
 use Rattle.laws.specs.Longest.{Wfs}
-use Rattle.laws.specs.Tells.{allB, all-to, and-to}
+use Rattle.laws.specs.Bools.{and-to}
+use Rattle.laws.specs.Tells.{allB, all-to}
 use Rattle.way.specs.Marks.{picks}
 use Rattle.way.specs.Count.{Rising, firstOr, distinct-step, picks-rising}
 use Rattle.way.specs.Listed.{routeAt, routesFrom, listOf, routeB, recordB, wholeB}

@@ -9,7 +9,7 @@ use lib.Dec.{eqb}
 use borrow.Author.Tests.{eq-eqb}
 use Rattle.routes.specs.Room.{mem}
 use Rattle.laws.specs.Cases.{bool}
-use Rattle.laws.specs.Room.{or-left, or-right}
+use Rattle.laws.specs.Bools.{or-left, or-right}
 use Rattle.way.specs.Way.{Look, miss, hit, outside, after, search}
 
 -- after a look: what follows a miss, and what follows a hit

@@ -9,6 +9,7 @@ use lib.ListN.{length, set, take, drop, length-append}
 use lib.Seq.{sets, sets-eq, take-append-seam}
 use Rattle.routes.specs.Route.{Route}
 use Rattle.routes.specs.Answers.{update, announce}
+use Rattle.laws.specs.Round.{bytes-long}
 use Rattle.routes.specs.Bytes.{recordBytes, recordsBytes, announced, written}
 
 -- from the buffer b and the place p, xs was written, which leaves the place q and the buffer c
@@ -31,12 +32,7 @@ bytes-append (x ∷ xs) ys =
 
 pub bytes-length : (rs : List Route) → length (bytesOf rs) ≡ 8 * length rs
 unfolding bytesOf
-bytes-length [] = refl
-bytes-length (r ∷ rs) = omega (arith, bytes-length rs)
-
-pub written-length : (rs : List Route) → length (written rs) ≡ 8 * length rs + 1
-unfolding bytesOf
-written-length rs = length-append (bytesOf rs) (0 ∷ []) ∙ omega (arith, bytes-length rs)
+bytes-length rs = bytes-long rs
 
 -- ---- one write after the other
 
