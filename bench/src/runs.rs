@@ -1,6 +1,6 @@
 //! Updates inside a run, for few arrays and many: where each update checks the table again, as single calls do, and where
-//! the run's start alone does. So many prefixes are taken out and put back over and over that what they touch stays in
-//! the processor's cache; then all prefixes, which adds what a larger memory costs.
+//! the run's start alone does. First so few prefixes are taken out and put back, over and over, that what they touch
+//! stays in the processor's cache; then all prefixes, which adds what a larger memory costs.
 
 use compare::random::Random;
 use second::Route;
@@ -13,8 +13,8 @@ use crate::{accepted, flap, table, take_and_put, title, Scale, ARRAYS};
 /// Prefixes that stay in the cache, spread evenly over the list.
 const FEW: usize = 256;
 
-/// Updates of one run, for each address that a lookup is measured with.
-const UPDATES: usize = 10;
+/// For so many addresses that a lookup is measured with, a run has one update.
+const ADDRESSES: usize = 10;
 
 pub fn measure_all(random: &mut Random, scale: &Scale, lpm: Option<&Lpm>) {
     let dense = [1, 64, ARRAYS].map(|arrays| (lists::dense(random, arrays, 16 * arrays), arrays));
@@ -23,9 +23,10 @@ pub fn measure_all(random: &mut Random, scale: &Scale, lpm: Option<&Lpm>) {
     for loads in [&dense[..], &sparse[..]] {
         for few in [Some(FEW), None] {
             let mut flaps: Vec<Flaps> = loads.iter().map(|load| Flaps::new(load, few, random, scale)).collect();
-            let title = format!("the start checks, {}s, one run for each number of arrays", loads[0].0.name);
+            let prefixes = few.map_or("all prefixes".into(), |few| format!("at most {few} prefixes"));
+            let title = format!("the start checks, {}s, {prefixes}, a run for each number of arrays", loads[0].0.name);
             let ways = flaps.iter_mut().map(|flaps| Way::new("toggleash_run", || flaps.run())).collect();
-            let after = measure(&title, scale.rounds, scale.addresses / UPDATES, ways);
+            let after = measure(&title, scale.rounds, scale.addresses / ADDRESSES, ways);
             for (flaps, after) in flaps.iter_mut().zip(after) {
                 rows.push(flaps.row(after, scale, lpm));
             }
@@ -52,7 +53,7 @@ impl Flaps<'_> {
         let all = load.list.routes();
         let prefixes = few.unwrap_or(all.len()).min(all.len());
         let spread: Vec<Route> = (0..prefixes).map(|at| all[at * all.len() / prefixes]).collect();
-        let routes: Vec<Route> = (0..scale.addresses / UPDATES / 2).map(|_| random.pick(&spread)).collect();
+        let routes: Vec<Route> = (0..scale.addresses / ADDRESSES / 2).map(|_| random.pick(&spread)).collect();
         let feed = routes.iter().flat_map(take_and_put).collect();
         let reply = vec![0; 10 * routes.len()];
         Flaps { load, arrays: *arrays, prefixes, words: table(&load.list, *arrays), routes, feed, reply }

@@ -3,6 +3,7 @@
 
 use std::process::ExitCode;
 
+use compare::pair::Same;
 use compare::random::Random;
 use compare::tally::Tally;
 use compare::{copies, damage, face, foreign, guard, programs, rooms, unlisted};
@@ -72,6 +73,22 @@ fn begin(options: &Options, part: &'static str, case: u64) -> Random {
     Random::for_case(options.seed, part, case)
 }
 
+/// So many cases of a part, and more in a long run, until enough differ.
+fn cases(
+    options: &Options,
+    tally: &mut Tally,
+    (part, count): (&'static str, u64),
+    compare: impl Fn(&mut Random, u64, &mut Tally) -> Same,
+) {
+    for case in 0..count * options.times {
+        if tally.enough() {
+            return;
+        }
+        let result = compare(&mut begin(options, part, case), case % count, tally);
+        tally.case(part, case, result);
+    }
+}
+
 fn all_rooms(options: &Options, tally: &mut Tally) {
     let end = tally.records + RECORDS * options.times;
     for case in 0.. {
@@ -98,15 +115,10 @@ fn size_of_room(random: &mut Random) -> (usize, u64) {
 
 /// Rooms of 4,096 arrays, or nearly, that are full or nearly.
 fn largest_rooms(options: &Options, tally: &mut Tally) {
-    for case in 0..4 * options.times {
-        if tally.enough() {
-            return;
-        }
-        let mut random = begin(options, "largest", case);
+    cases(options, tally, ("largest", 4), |random, _, tally| {
         let arrays = random.pick(&[4_096, 4_095, 4_089, 4_088]);
-        let result = rooms::room(&mut random, arrays, 60, tally);
-        tally.case("largest", case, result.map_err(|text| format!("{text} (in {arrays} arrays)")));
-    }
+        rooms::room(random, arrays, 60, tally).map_err(|text| format!("{text} (in {arrays} arrays)"))
+    });
 }
 
 fn wrong_sizes(options: &Options, tally: &mut Tally) {
@@ -118,57 +130,40 @@ fn wrong_sizes(options: &Options, tally: &mut Tally) {
 }
 
 fn damaged(options: &Options, tally: &mut Tally) {
-    for case in 0..4_000 * options.times {
-        if tally.enough() {
-            return;
-        }
-        let mut random = begin(options, "damage", case);
+    cases(options, tally, ("damage", 4_000), |random, case, tally| {
         let arrays = match case % 1_000 {
             0 => 4_096,
             1..=60 => random.within(9..=60),
             _ => random.within(1..=8),
         };
-        let result = damage::memory(&mut random, arrays, tally);
-        tally.case("damage", case, result.map_err(|text| format!("{text} (in {arrays} arrays)")));
-    }
+        damage::memory(random, arrays, tally).map_err(|text| format!("{text} (in {arrays} arrays)"))
+    });
 }
 
 /// Few large lists: a build goes over the bytes about 130 times.
 fn all_copies(options: &Options, tally: &mut Tally) {
-    for case in 0..COPIES * options.times {
-        if tally.enough() {
-            return;
-        }
-        let mut random = begin(options, "copies", case);
-        let routes = match case % COPIES {
+    cases(options, tally, ("copies", COPIES), |random, case, tally| {
+        let routes = match case {
             0 => 50_000,
             1 => random.within(6_000..=50_000),
             2..=11 => random.within(1_000..=6_000),
             12..=99 => random.within(60..=1_000),
-            case => case as usize % 60,
+            _ => case as usize % 60,
         };
-        let result = copies::list(&mut random, routes, tally);
-        tally.case("copies", case, result.map_err(|text| format!("{text} (for {routes} routes)")));
-    }
+        copies::list(random, routes, tally).map_err(|text| format!("{text} (for {routes} routes)"))
+    });
 }
 
 /// Bytes that are hardly a list, and words that are hardly a copy. The first lists need 4,096 arrays, one more and two;
 /// then comes one of about 50,000 routes, too sparse for any table.
 fn damaged_copies(options: &Options, tally: &mut Tally) {
-    for case in 0..DAMAGED_COPIES * options.times {
-        if tally.enough() {
-            return;
-        }
-        let mut random = begin(options, "damaged copies", case);
-        let result = match case % DAMAGED_COPIES {
-            more @ 0..=2 => unlisted::widest(&mut random, more as usize, tally),
-            3 => unlisted::widest(&mut random, 40_000, tally),
-            _ if case % 3 == 0 => unlisted::torn(&mut random, tally),
-            _ if case % 3 == 1 => foreign::damaged(&mut random, tally),
-            _ => foreign::made_up(&mut random, tally),
-        };
-        tally.case("damaged copies", case, result);
-    }
+    cases(options, tally, ("damaged copies", DAMAGED_COPIES), |random, case, tally| match case {
+        0..=2 => unlisted::widest(random, case as usize, tally),
+        3 => unlisted::widest(random, 40_000, tally),
+        _ if case % 3 == 0 => unlisted::torn(random, tally),
+        _ if case % 3 == 1 => foreign::damaged(random, tally),
+        _ => foreign::made_up(random, tally),
+    });
 }
 
 fn compare_programs(options: &Options, proved: &str, second: &str) -> u64 {

@@ -11,8 +11,8 @@ ghost use Rattle.arrays.specs.Decides.{Fits};
 ghost use Rattle.lookup.specs.Walk.{outside, ended, walk, walked};
 ghost use Rattle.matches.specs.Told.{told};
 
-// A best that is neither 0 nor a hop and a length. On a table none of these tests is ever true, so that a processor foresees them
-// all; a test that tells which cells have a best would go either way, and a lookup then takes twice as long.
+// A best that is neither 0 nor a hop and a length. The last two tests compile to one, of a range, and on a table none then ever
+// holds: a processor foresees them all. A branch on which cells have a best would go either way, and a lookup take twice as long.
 fn strange(best: u32) -> bool
     ensures { λ r. ⌜ r ≡ outside 32 best ⌝ }
 {
