@@ -1,4 +1,4 @@
-//! The other trie of one bit a step: a box for each node, as it is written most often.
+//! A trie of one bit a step as an ordinary Rust program has it: a box for each node.
 
 use second::{Prefix, RouteList};
 

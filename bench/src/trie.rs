@@ -1,4 +1,4 @@
-//! A trie of one bit a step, in one vector, as an ordinary Rust program would hold routes.
+//! A trie of one bit a step with its nodes in one vector.
 
 use second::{Prefix, Route, RouteList};
 

@@ -2,7 +2,7 @@
 
 use std::collections::VecDeque;
 
-use second::layout::{best_of_slots, tag_below, Arrays, CELLS};
+use second::layout::{best_of_slots, tag_below, with_best, with_link, Arrays, CELLS, HOPS, LINKS, UNUSED};
 use second::list::mask;
 use second::memory::ARRAY_WORDS;
 use second::RouteList;
@@ -25,11 +25,7 @@ const ADDRESSES: usize = 2_500;
 
 /// Values at the borders of what a word may hold.
 const BORDERS: [u32; 16] =
-    [0, 1, 2, 31, 32, 33, 255, 256, 256 + 32, 256 + 33, 65_535, 65_536, (1 << 24) - 224, 1 << 24, 1 << 31, u32::MAX];
-
-/// Best cells at the borders of hop and length.
-const BEST_BORDERS: [u32; 9] =
-    [1, 255, 256, 256 + 32, 256 + 33, 65_535 * 256 + 32, 65_535 * 256 + 33, 1 << 24, u32::MAX];
+    [0, 1, 2, 31, 32, 33, 4_095, 4_096, 8_191, 8_192, 65_535, 65_536, (1 << 28) - 1, 1 << 28, 1 << 31, u32::MAX];
 
 /// A table of so many arrays with some damage, and every call on it.
 pub fn memory(random: &mut Random, arrays: usize, tally: &mut Tally) -> Same {
@@ -91,7 +87,7 @@ fn every_cell(random: &mut Random, words: &[u32]) -> Vec<u32> {
             let place = 24 - 8 * level;
             let inside = head | (cell as u32) << place;
             addresses.push(inside | random.word() & !mask(8 * level + 8));
-            if let (Some(below), 0..=2) = (arrays.held(arrays.link(a, cell)), level) {
+            if let (Some(below), 0..=2) = (arrays.held(arrays.below(a, cell)), level) {
                 ahead.push_back((below, level + 1, inside));
             }
         }
@@ -100,29 +96,41 @@ fn every_cell(random: &mut Random, words: &[u32]) -> Vec<u32> {
 }
 
 fn damage(random: &mut Random, words: &mut [u32]) {
-    match random.below(10) {
+    match random.below(12) {
         0..=3 => one_word(random, words),
         4 => whole_blocks(random, words),
         5 | 6 => hang_another(random, words),
         7 => change_a_route(random, words),
-        8 => border_best(random, words),
-        _ => other_link(random, words),
+        8 | 9 => border_best(random, words),
+        10 => other_link(random, words),
+        _ => unused_words(random, words),
     }
 }
 
 /// An array, mostly a used one.
 fn some_array(random: &mut Random, words: &[u32]) -> usize {
     let arrays = words.len() / ARRAY_WORDS - 1;
+    if random.chance(10) {
+        return random.within(1..=arrays);
+    }
     let tried = (0..8).map(|_| random.within(1..=arrays)).find(|a| words[ARRAY_WORDS * a] != 0);
     tried.unwrap_or(1)
+}
+
+/// The word of a cell, as often as not of one with a link if its array has any.
+fn some_cell(random: &mut Random, words: &[u32]) -> usize {
+    let first = ARRAY_WORDS * some_array(random, words) + CELLS;
+    let linked: Vec<usize> = (first..first + 256).filter(|&at| words[at] % LINKS != 0).collect();
+    match linked.is_empty() || random.chance(50) {
+        true => first + random.below(256),
+        false => random.pick(&linked),
+    }
 }
 
 /// A word of one of the kinds that a table has, near to what it was, at a border, or anything.
 fn one_word(random: &mut Random, words: &mut [u32]) {
     let arrays = (words.len() / ARRAY_WORDS - 1) as u32;
     let block = ARRAY_WORDS * some_array(random, words);
-    let cell = CELLS + 2 * random.below(256);
-    let linked = (0..256).map(|i| block + CELLS + 2 * i + 1).find(|&at| words[at] != 0);
     let at = match random.below(9) {
         0 => random.below(words.len()),
         1 => random.within(0..=2),
@@ -130,33 +138,44 @@ fn one_word(random: &mut Random, words: &mut [u32]) {
         3 => block,
         4 => block + random.within(1..=511),
         5 => block + random.pick(&[1, 2, 3, 256, 511]),
-        6 => block + cell,
-        7 => block + cell + 1,
-        _ => linked.unwrap_or(block + cell + 1),
+        6 => block + random.within(UNUSED..=1_023),
+        _ => some_cell(random, words),
     };
     words[at] = match random.below(6) {
         0 => random.word(),
         1 => random.pick(&BORDERS),
         2 => words[at] ^ 1 << random.below(32),
-        3 => words[at].wrapping_add(random.pick(&[1, u32::MAX, 32, 8192, 256])),
+        // One more or less, or one more of what stands higher in a tag or a cell.
+        3 => words[at].wrapping_add(random.pick(&[1, u32::MAX, 32, 8192, LINKS, LINKS * HOPS])),
         4 => random.below(arrays as usize + 3) as u32,
         _ => arrays + 1,
     };
 }
 
+/// Length and hop of a best each come to a border or stay; the link stays.
 fn border_best(random: &mut Random, words: &mut [u32]) {
-    let best = ARRAY_WORDS * some_array(random, words) + CELLS + 2 * random.below(256);
-    words[best] = random.pick(&BEST_BORDERS);
+    let at = some_cell(random, words);
+    let best = words[at] / LINKS;
+    let length = random.pick(&[best / HOPS, 0, 1, 8, 9, 15]);
+    let hop = random.pick(&[best % HOPS, 0, 1, HOPS - 1]);
+    words[at] = with_best(words[at], length * HOPS + hop);
 }
 
-/// A link that leads somewhere leads nowhere, elsewhere or past the last array.
+/// A link leads nowhere, elsewhere or, unless there are as many arrays as links, past the last; the best stays.
 fn other_link(random: &mut Random, words: &mut [u32]) {
+    let arrays = (words.len() / ARRAY_WORDS - 1) as u32;
+    let at = some_cell(random, words);
+    let any = random.below(arrays as usize) as u32;
+    words[at] = with_link(words[at], random.pick(&[0, 0, 1, any, arrays - 1, arrays % LINKS, LINKS - 1]));
+}
+
+/// Anything in the words without a use, of one array or of all: what was a table stays the same one.
+fn unused_words(random: &mut Random, words: &mut [u32]) {
     let arrays = words.len() / ARRAY_WORDS - 1;
-    let block = ARRAY_WORDS * some_array(random, words);
-    let links: Vec<usize> = (0..256).map(|i| block + CELLS + 2 * i + 1).filter(|&at| words[at] != 0).collect();
-    if !links.is_empty() {
-        let any = random.within(1..=arrays) as u32;
-        words[random.pick(&links)] = random.pick(&[0, 0, 1, any, arrays as u32, arrays as u32 + 1, u32::MAX]);
+    let any = random.within(1..=arrays);
+    let (first, last) = random.pick(&[(any, any), (1, arrays)]);
+    for a in first..=last {
+        words[ARRAY_WORDS * a + UNUSED..ARRAY_WORDS * (a + 1)].fill_with(|| random.word());
     }
 }
 
@@ -173,32 +192,34 @@ fn whole_blocks(random: &mut Random, words: &mut [u32]) {
 }
 
 /// A free array hung below a cell with tag, link and counts in order, perhaps with a route: an empty array, a level too
-/// many, a link that is taken from another array, or, with luck, a table of one route more.
+/// many, a link that is taken from another array, a parent that is free, or, with luck, a table of one route more.
 fn hang_another(random: &mut Random, words: &mut [u32]) {
     let arrays = words.len() / ARRAY_WORDS - 1;
-    let Some(free) = (1..=arrays).find(|a| words[ARRAY_WORDS * a] == 0) else { return };
+    // No link leads to array 1, though damage may have freed it.
+    let Some(free) = (2..=arrays).find(|a| words[ARRAY_WORDS * a] == 0) else { return };
     let (parent, cell) = (some_array(random, words), random.below(256));
-    words[ARRAY_WORDS * parent + CELLS + 2 * cell + 1] = free as u32;
-    let tag = tag_below(parent, cell, words[ARRAY_WORDS * parent]);
-    words[ARRAY_WORDS * free] = tag;
+    let at = ARRAY_WORDS * parent + CELLS + cell;
+    words[at] = with_link(words[at], free as u32 - 1);
+    words[ARRAY_WORDS * free] = tag_below(parent, cell, words[ARRAY_WORDS * parent]);
     words[0] = words[0].wrapping_add(1);
     words[1 + (free - 1) / 8] = words[1 + (free - 1) / 8].wrapping_add(1);
     if random.chance(50) {
         words[ARRAY_WORDS * free + 256 + cell] = 9;
-        words[ARRAY_WORDS * free + CELLS + 2 * cell] = 9 * 256 + 8 * (tag % 32);
+        let at = ARRAY_WORDS * free + CELLS + cell;
+        words[at] = with_best(words[at], 8 * HOPS + 9);
     }
 }
 
-/// A slot gets another hop, or none, and all best cells follow: another table, an array left empty, a route of length 0
-/// below the root, or a hop that is none.
+/// A slot gets another hop, or none, and all bests follow: another table, an array left empty, a route of length 0
+/// below the root, a hop that is none, or a route in a free array.
 fn change_a_route(random: &mut Random, words: &mut [u32]) {
     let block = ARRAY_WORDS * some_array(random, words);
     let block = &mut words[block..block + ARRAY_WORDS];
     let any = random.within(1..=511);
     block[random.pick(&[1, any, any, any])] = random.pick(&[0, 1, 65_535, 65_536]);
-    let level = block[0] % 32 % 5;
     for cell in 0..256 {
-        // A slot damaged before need not fit into a best cell.
-        block[CELLS + 2 * cell] = best_of_slots(|slot| block[slot] % 65_537, level.saturating_sub(1), cell);
+        // A slot damaged before need not fit into a best.
+        let best = best_of_slots(|slot| block[slot] % 65_537, cell);
+        block[CELLS + cell] = with_best(block[CELLS + cell], best);
     }
 }

@@ -4,7 +4,7 @@
 use std::net::Ipv4Addr;
 
 use second::feed::Answer;
-use second::layout::{self, Arrays};
+use second::layout::{self, Arrays, UNUSED};
 use second::{Memory, Prefix, Refusal};
 
 use crate::guard::{begin_call, Lent, Side};
@@ -124,7 +124,10 @@ impl Pair {
     /// Only the words changed that the update of this prefix may change; none if it was refused or the hop held already.
     fn changed(&self, what: impl Fn() -> String, updated: Option<Prefix>, before: &[u32]) -> Same {
         match updated {
-            Some(prefix) => confined(what, prefix, before, &self.words),
+            Some(prefix) => {
+                confined(&what, prefix, before, &self.words)?;
+                unused_left(what, before, &self.words)
+            }
             None => left(what, before, &self.words),
         }
     }
@@ -163,7 +166,10 @@ impl Pair {
         same(what, told, ran)?;
         left(what, &expected, &replies)?;
         match told {
-            Ok((.., accepted, _)) if accepted > 0 => self.stands()?,
+            Ok((.., accepted, _)) if accepted > 0 => {
+                self.stands()?;
+                unused_left(what, &before, &self.words)?;
+            }
             _ => left(what, &before, &self.words)?,
         }
         Ok(records)
@@ -174,6 +180,15 @@ fn same_update(what: impl Fn() -> String, told: Told<toggleash::Update>, expecte
     same(what, told.map(|update| (update.hop, update.cells)), expected.map(|update| (update.hop, update.cells)))
 }
 
+/// The words without a use, which only clearing writes, are as they were.
+fn unused_left(what: impl Fn() -> String, before: &[u32], after: &[u32]) -> Same {
+    let blocks = before.chunks(1024).zip(after.chunks(1024)).enumerate();
+    for (a, (before, after)) in blocks.skip(1) {
+        left(|| format!("{}, array {a} from word {UNUSED} on", what()), &before[UNUSED..], &after[UNUSED..])?;
+    }
+    Ok(())
+}
+
 /// Besides the header and the update's own array only arrays gained or freed, and the one that links to them, changed.
 fn confined(what: impl Fn() -> String, prefix: Prefix, before: &[u32], after: &[u32]) -> Same {
     // The way to the array is whole where more arrays are used.
@@ -182,8 +197,8 @@ fn confined(what: impl Fn() -> String, prefix: Prefix, before: &[u32], after: &[
     let mut path = vec![1];
     for level in 0..prefix.level() {
         let cell = (prefix.address >> (24 - 8 * level) & 255) as usize;
-        let link = arrays.link(path[level as usize], cell);
-        path.push(arrays.held(link).ok_or_else(|| format!("{}: no array for it", what()))?);
+        let number = arrays.below(path[level as usize], cell);
+        path.push(arrays.held(number).ok_or_else(|| format!("{}: no array for it", what()))?);
     }
     let comes_or_goes = |a: &usize| lean[1024 * a] == 0;
     let from = path.iter().position(comes_or_goes).unwrap_or(path.len()).saturating_sub(1);

@@ -4,14 +4,14 @@ use mathlib.Core.Path.{_≡_, refl, sym, ap, _∙_}
 use mathlib.Core.Logic.{_≢_}
 use mathlib.Core.Bool.{Bool, true, false}
 use mathlib.Core.List.{List}
-use Prim.Native.Nat.{ℕ, suc, _+_, _-_, _*_, _/_, _^_, _≤_, _<_}
+use Prim.Native.Nat.{ℕ, _+_, _-_, _*_, _^_, _≤_, _<_}
 use native.Mathlib.Omega.{arith}
 use native.Mathlib.Nat.{le-antisymm, pow-succ'}
 use native.Mathlib.Numerals.{add-one}
 use lib.Count.{leadingZeros, leading-top}
 use lib.Dec.{ltb, eqb}
 use lib.Pow.{pow-pos, pow-mono}
-use lib.ListN.{getD, set}
+use lib.ListN.{set}
 use borrow.Author.Tests.{eq-eqb, ne-eqb, lt-ltb, le-ltb, ltb-true}
 use Rattle.laws.specs.Cases.{most}
 use Rattle.laws.specs.Bools.{or-true}
@@ -58,25 +58,13 @@ pub zeros-le : (s : ℕ) → 1 ≤ s → s < 512 → leadingZeros 32 s ≤ 31
 zeros-le s p h = omega (arith, leading-top 32 s p (omega arith) .1)
 
 module _ (l : List ℕ) where
-  abbrev slotless : Bool
-  slotless = allB (λ i. eqb (getD l (2 + 1 * i) 0) 0) 510
-
-  abbrev linkless : Bool
-  linkless = allB (λ i. eqb (getD l (513 + 2 * i) 0) 0) 256
-
-  slots-same : slotless ≡ allB (λ s. eqb (slots l (s + 2)) 0) 510
-  slots-same = ap (λ (p : ℕ → Bool). allB p 510) (λ i s. eqb (getD l (place s i) 0) 0)
-    where
-      place : (s : ℕ) → 2 + 1 * s ≡ s + 2
-      place s = omega arith
-
-  pub empty-slot : slotless ≡ false → false ≡ emptyB (slots l) (links l)
+  pub empty-slot : allB (λ s. eqb (slots l (s + 2)) 0) 510 ≡ false → false ≡ emptyB (slots l) (links l)
   unfolding emptyB
-  empty-slot h = rw (← slots-same, h)
+  empty-slot h = rw h
 
-  pub empty-link : slotless ≡ true → linkless ≡ emptyB (slots l) (links l)
+  pub empty-link : allB (λ s. eqb (slots l (s + 2)) 0) 510 ≡ true → allB (λ i. eqb (links l i) 0) 256 ≡ emptyB (slots l) (links l)
   unfolding emptyB
-  empty-link h = rw (← slots-same, h)
+  empty-link h = rw h
 
 module _ (k : ℕ) (l : List ℕ) where
   abbrev small : Bool
@@ -90,13 +78,13 @@ module _ (k : ℕ) (l : List ℕ) where
   unfolding rightB
   right-first h a n = rw (h, le-ltb k 2 a, ne-eqb (slots l 1) 0 n)
 
-  pub right-low : (base : ℕ) → base ≡ 8 * (k - 1) → small ≡ true → k < 2 → allB (λ i. eqb (bests l i) (bestOf (slots l) base (256 + i) 8)) 256 ≡ rightB k (slots l) (bests l)
+  pub right-low : small ≡ true → k < 2 → allB (λ i. eqb (bests l i) (bestOf (slots l) (256 + i) 8)) 256 ≡ rightB k (slots l) (bests l)
   unfolding rightB
-  right-low base e h a = rw (h, e, lt-ltb k 2 a)
+  right-low h a = rw (h, lt-ltb k 2 a)
 
-  pub right-none : (base : ℕ) → base ≡ 8 * (k - 1) → small ≡ true → slots l 1 ≡ 0 → allB (λ i. eqb (bests l i) (bestOf (slots l) base (256 + i) 8)) 256 ≡ rightB k (slots l) (bests l)
+  pub right-none : small ≡ true → slots l 1 ≡ 0 → allB (λ i. eqb (bests l i) (bestOf (slots l) (256 + i) 8)) 256 ≡ rightB k (slots l) (bests l)
   unfolding rightB
-  right-none base e h n = rw (h, e, eq-eqb (slots l 1) 0 n, or-true (ltb k 2))
+  right-none h n = rw (h, eq-eqb (slots l 1) 0 n, or-true (ltb k 2))
 
   pub small-hops : small ≡ true → Hops (slots l)
   small-hops h s a b =
@@ -107,21 +95,18 @@ module _ (k : ℕ) (l : List ℕ) where
 pub hop-at : (f : ℕ → ℕ) (s d : ℕ) → Hops f → 2 ^ d ≤ s → s < 512 → f s < 65536
 hop-at f s d h a b = h s (omega (arith, pow-pos d)) b
 
-pub half-low : (s d : ℕ) → d ≢ 0 → 2 ^ d ≤ s → 2 ^ (d - 1) ≤ s / 2
-half-low s d n h = let e : d ≡ suc (d - 1) = omega arith in omega (arith, pow-succ' 2 (d - 1), ap (λ (k : ℕ). 2 ^ k) e)
-
 -- what reslot computes
-module _ (k : ℕ) (l : List ℕ) (d x h base slot : ℕ) (o : Spot k l d x) (hop : h < 65536) (eb : base ≡ 8 * (k - 1)) (es : slot ≡ 2 ^ d + x) where
-  pub reslot-climbs : Climb (set l slot h) base slot d
-  reslot-climbs = rw (eb, es) (climbs k l d x h o hop)
+module _ (l : List ℕ) (d x h slot : ℕ) (o : Spot l d x) (hop : h < 65536) (es : slot ≡ 2 ^ d + x) where
+  pub reslot-climbs : Climb (set l slot h) slot d
+  reslot-climbs = rw es (climbs l d x h o hop)
 
-  pub reslot-done : (from size best : ℕ) (q : List ℕ) (r : ℕ) → from ≡ x * 2 ^ (8 - d) → size ≡ 2 ^ (8 - d) → best ≡ bestOf (slots (set l slot h)) base slot d
-      → q ≡ mapCells (over (base + d) best) (set l slot h) from (from + size - from) → r ≡ yielding (set l slot h) (base + d) from (from + size - from)
-      → Reslotted k l q (2 ^ d + x) h × (r ≡ exposed (slots l) d (x * 2 ^ (8 - d)) (2 ^ (8 - d))) × (r ≤ 256)
+  pub reslot-done : (from size best : ℕ) (q : List ℕ) (r : ℕ) → from ≡ x * 2 ^ (8 - d) → size ≡ 2 ^ (8 - d) → best ≡ bestOf (slots (set l slot h)) slot d
+      → q ≡ mapCells (over d best) (set l slot h) from (from + size - from) → r ≡ yielding (set l slot h) d from (from + size - from)
+      → Reslotted l q (2 ^ d + x) h × (r ≡ exposed (slots l) d (x * 2 ^ (8 - d)) (2 ^ (8 - d))) × (r ≤ 256)
   reslot-done from size best q r ef ez ec eq er =
       let w : from + size - from ≡ size = omega arith in
-      let n : r ≡ exposed (slots l) d (x * 2 ^ (8 - d)) (2 ^ (8 - d)) = (rw (w, ef, ez, eb, es) at er) ∙ given-way k l d x h o hop in (
-        reslotted k l d x h o hop q best (rw (eb, es) at ec) (rw (w, ef, ez, eb, es) at eq),
+      let n : r ≡ exposed (slots l) d (x * 2 ^ (8 - d)) (2 ^ (8 - d)) = (rw (w, ef, ez, es) at er) ∙ given-way l d x h o hop in (
+        reslotted l d x h o hop q best (rw es at ec) (rw (w, ef, ez, es) at eq),
         n,
         rw n (exposed-256 (slots l) d (x * 2 ^ (8 - d))),
       )

@@ -1,3 +1,4 @@
+pub mod Cell
 pub mod Block
 pub mod Check
 pub mod Put

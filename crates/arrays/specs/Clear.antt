@@ -11,6 +11,7 @@ use lib.Seq.{getD-set-same, getD-set-other}
 use Rattle.laws.specs.Cases.{same, less}
 use Rattle.laws.specs.Collect.{collect, routes}
 use Rattle.routes.specs.Room.{level}
+use Rattle.array.specs.Cell.{bestIn, link-blank}
 use Rattle.arrays.specs.Arrays.{Arrays, lev, node, held, depthOf}
 use Rattle.arrays.specs.Need.{at-some}
 use Rattle.arrays.specs.Slot.{at-none}
@@ -62,7 +63,7 @@ module _ (n : ℕ) (low : 2048 ≤ n) where
   tag-none c h = cleared-word (1024 * c) (λ e. omega arith) (λ e. omega arith) (λ e. omega arith)
 
   link-none : (c i : ℕ) → 1 ≤ c → t .link c i ≡ 0
-  link-none c i h = cleared-word (1024 * c + 513 + 2 * i) (λ e. omega arith) (λ e. omega arith) (λ e. omega arith)
+  link-none c i h = link-blank _ (cleared-word (1024 * c + 512 + i) (λ e. omega arith) (λ e. omega arith) (λ e. omega arith))
 
   slot-none : (c s : ℕ) → 1 ≤ c → 1 ≤ s → t .slot c s ≡ 0
   slot-none c s h l = cleared-word (1024 * c + s) (λ e. omega arith) (λ e. omega arith) (λ e. omega arith)
@@ -92,7 +93,7 @@ module _ (n : ℕ) (low : 2048 ≤ n) where
     blank = λ a h k e j b. same j 0
         (λ q _. (let d : 1024 * a + j ≡ 1024 * a = omega arith in rw d e))
         (λ q _. slot-none a j h (omega arith));
-    right = λ a h k p. local .none (lev t a) (slotsOf (cleared n) a) (bestsOf (cleared n) a) (λ s m b. slot-none a s h m) (λ i b. (let d : 1024 * a + 512 + 2 * i ≡ 1024 * a + (512 + 2 * i) = omega arith in rw d (slot-none a (512 + 2 * i) h (omega arith))));
+    right = λ a h k p. local .none (lev t a) (slotsOf (cleared n) a) (bestsOf (cleared n) a) (λ s m b. slot-none a s h m) (λ i b. ap bestIn (cleared-word (1024 * a + 512 + i) (λ e. omega arith) (λ e. omega arith) (λ e. omega arith)));
     header = record {
       count = rw cleared-length (let d : n / 1024 - 1 ≡ suc (n / 1024 - 2) = omega arith in rw d (cleared-count ∙ sym (used-root (n / 1024 - 2))));
       groups = λ g b. same g 0

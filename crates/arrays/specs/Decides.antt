@@ -11,6 +11,7 @@ use borrow.Author.Tests.{eqb-true, eq-eqb, ne-eqb}
 use Rattle.laws.specs.Cases.{same}
 use Rattle.laws.specs.Bools.{and-to, and-from}
 use Rattle.laws.specs.Tells.{Tells, tells-eq, tells-and, tells-all, tells-as, all-from, all-to}
+use Rattle.array.specs.Cell.{link-blank}
 use Rattle.array.specs.Block.{Right}
 use Rattle.array.specs.Check.{rightB, emptyB}
 use Rattle.array.specs.Decides.{right-tells, full-tells}
@@ -27,7 +28,7 @@ some-tells t a = full-tells (t .slot a) (t .link a)
 
 record Free (ws : List ℕ) (a : ℕ) : Type 0 where
   pub tag : getD ws (1024 * a) 0 ≡ 0
-  pub blank : (k : ℕ) → k < 1024 → getD ws (1024 * a + k) 0 ≡ 0
+  pub blank : (k : ℕ) → k < 768 → getD ws (1024 * a + k) 0 ≡ 0
 
 record Used (L : ℕ) (ws : List ℕ) (a : ℕ) : Type 0 where
   pub tag : getD ws (1024 * a) 0 ≢ 0
@@ -75,8 +76,8 @@ module _ (L : ℕ) (ws : List ℕ) (a : ℕ) where
   array-tells =
       same (getD ws (1024 * a) 0) 0
       (λ z e. rw e (record {
-        to = λ b. inl (record { tag = z; blank = λ k h. eqb-true _ 0 (all-to (zeroAt ws (1024 * a)) 1024 b k h) });
-        from = λ b. ⊎-elim (λ (x : Free ws a). all-from (zeroAt ws (1024 * a)) 1024 (λ k h. eq-eqb _ 0 (x .blank k h))) (λ (x : Used L ws a). absurd (x .tag z)) b;
+        to = λ b. inl (record { tag = z; blank = λ k h. eqb-true _ 0 (all-to (zeroAt ws (1024 * a)) 768 b k h) });
+        from = λ b. ⊎-elim (λ (x : Free ws a). all-from (zeroAt ws (1024 * a)) 768 (λ k h. eq-eqb _ 0 (x .blank k h))) (λ (x : Used L ws a). absurd (x .tag z)) b;
       }))
       (λ n e. rw e (record {
         to = λ b. inr (used-to n b);
@@ -123,7 +124,7 @@ module _ (L : ℕ) (ws : List ℕ) (some : 1 ≤ L) (levels : L < 32) (size : Fi
       levels = levels;
       root = r;
       links = λ a i h w b. ⊎-elim
-          (λ (x : Free ws a). let e : 1024 * a + 513 + 2 * i ≡ 1024 * a + (513 + 2 * i) = omega arith in inl (rw e (x .blank (513 + 2 * i) (omega arith))))
+          (λ (x : Free ws a). let e : 1024 * a + 512 + i ≡ 1024 * a + (512 + i) = omega arith in inl (link-blank _ (rw e (x .blank (512 + i) (omega arith)))))
           (λ (x : Used L ws a). x .links i b) (one f a h w);
       tags = λ a h w. ⊎-elim (λ (x : Free ws a). inl (x .tag)) (λ (x : Used L ws a). inr (x .hung (λ e. omega arith))) (one f a (omega arith) w);
     };

@@ -16,6 +16,7 @@ use Rattle.routes.specs.Seen.{table}
 use Rattle.routes.specs.Small.{ip}
 use Rattle.laws.specs.Cases.{same}
 use Rattle.laws.specs.Collect.{routes, routeOf}
+use Rattle.array.specs.Cell.{bestIn, linkIn, withBest, best-set, link-kept, link-blank}
 use Rattle.array.specs.Block.{bestOf, Right}
 use Rattle.array.specs.Best.{best-some, best-ext}
 use Rattle.array.specs.Change.{best-apart}
@@ -50,7 +51,7 @@ row-first = record {
   size = cleared-length 5120 (omega arith);
   leads = λ j h. (let e : j ≡ 0 = omega arith in rw e);
   free = λ c h. cleared-word 5120 (omega arith) (1024 * c) (λ e. omega arith) (λ e. omega arith) (λ e. omega arith);
-  off = λ i h. cleared-word 5120 (omega arith) (1024 * 1 + 513 + 2 * i) (λ e. omega arith) (λ e. omega arith) (λ e. omega arith);
+  off = λ i h. link-blank _ (cleared-word 5120 (omega arith) (1024 * 1 + 512 + i) (λ e. omega arith) (λ e. omega arith) (λ e. omega arith));
   list = cleared-routes 5120 32 (omega arith);
 }
 
@@ -119,7 +120,7 @@ module _ (k q i : ℕ) (ws : List ℕ) (row : Row k q ws) (more : k < 3) (cell :
 
 -- ws with the hop h for the last 8 bits x in array a
 abbrev posted : List ℕ → ℕ → ℕ → ℕ → List ℕ
-posted ws a x h = set (set ws (1024 * a + (256 + x)) h) (1024 * a + 512 + 2 * x) (h * 256 + 8 * (getD ws (1024 * a) 0 % 32))
+posted ws a x h = set (set ws (1024 * a + (256 + x)) h) (1024 * a + 512 + x) (withBest (getD ws (1024 * a + 512 + x) 0) (8 * 65536 + h))
 
 module _ (ws : List ℕ) (a x h : ℕ) (inside : 1024 * (a + 1) ≤ length ws) (small : x < 256) (hop : h < 65536) (some : 1 ≤ h) (deep : 1 ≤ getD ws (1024 * a) 0 % 32)
     (right : Right (getD ws (1024 * a) 0 % 32) (slotsOf ws a) (bestsOf ws a)) where
@@ -132,13 +133,13 @@ module _ (ws : List ℕ) (a x h : ℕ) (inside : 1024 * (a + 1) ≤ length ws) (
   abbrev ps : List ℕ
   ps = posted ws a x h
 
-  first : (k : ℕ) → k ≢ 1024 * a + 512 + 2 * x → getD ps k 0 ≡ getD ms k 0
-  first k n = getD-set-other ms (1024 * a + 512 + 2 * x) k _ 0 n
+  first : (k : ℕ) → k ≢ 1024 * a + 512 + x → getD ps k 0 ≡ getD ms k 0
+  first k n = getD-set-other ms (1024 * a + 512 + x) k _ 0 n
 
   second : (k : ℕ) → k ≢ 1024 * a + (256 + x) → getD ms k 0 ≡ getD ws k 0
   second k n = getD-set-other ws (1024 * a + (256 + x)) k h 0 n
 
-  word : (k : ℕ) → k ≢ 1024 * a + 512 + 2 * x → k ≢ 1024 * a + (256 + x) → getD ps k 0 ≡ getD ws k 0
+  word : (k : ℕ) → k ≢ 1024 * a + 512 + x → k ≢ 1024 * a + (256 + x) → getD ps k 0 ≡ getD ws k 0
   word k m n = first k m ∙ second k n
 
   slot-here : slotsOf ps a (256 + x) ≡ h
@@ -147,8 +148,11 @@ module _ (ws : List ℕ) (a x h : ℕ) (inside : 1024 * (a + 1) ≤ length ws) (
   slot-same : (r : ℕ) → r < 512 → r ≢ 256 + x → slotsOf ps a r ≡ slotsOf ws a r
   slot-same r b n = word (1024 * a + r) (λ e. omega arith) (λ e. n (omega arith))
 
-  best-here : bestsOf ps a x ≡ h * 256 + 8 * lv
-  best-here = getD-set-same ms (1024 * a + 512 + 2 * x) (h * 256 + 8 * lv) 0 (simp length-set (omega arith))
+  cell-here : getD ps (1024 * a + 512 + x) 0 ≡ withBest (getD ws (1024 * a + 512 + x) 0) (8 * 65536 + h)
+  cell-here = getD-set-same ms (1024 * a + 512 + x) _ 0 (simp length-set (omega arith))
+
+  cell-same : (i : ℕ) → i < 256 → i ≢ x → getD ps (1024 * a + 512 + i) 0 ≡ getD ws (1024 * a + 512 + i) 0
+  cell-same i b n = word (1024 * a + 512 + i) (λ e. n (omega arith)) (λ e. omega arith)
 
   tag-same : getD ps (1024 * a) 0 ≡ getD ws (1024 * a) 0
   tag-same = word (1024 * a) (λ e. omega arith) (λ e. omega arith)
@@ -158,14 +162,14 @@ module _ (ws : List ℕ) (a x h : ℕ) (inside : 1024 * (a + 1) ≤ length ws) (
   apart i b n zero z = n (omega arith)
   apart i b n (suc e) z = let d = shr-shr (256 + i) 1 e in let m = div-le-self ((256 + i) / 2) (2 ^ e) in let f : 1 + e ≡ suc e = omega arith in omega (arith, rw f at d)
 
-  best-right : (i : ℕ) → i < 256 → bestsOf ps a i ≡ bestOf (slotsOf ps a) (8 * (lv - 1)) (256 + i) 8
+  best-right : (i : ℕ) → i < 256 → bestsOf ps a i ≡ bestOf (slotsOf ps a) (256 + i) 8
   best-right i b =
       same i x
-      (λ e _. rw (e, best-some (slotsOf ps a) (8 * (lv - 1)) (256 + x) 8 (λ z. omega (arith, slot-here)), slot-here, best-here) (omega arith))
-      (λ n _. word (1024 * a + 512 + 2 * i) (λ e. n (omega arith)) (λ e. omega arith)
-      ∙ right .best i b
-      ∙ sym (best-apart (slotsOf ws a) (slotsOf ms a) (256 + x) (λ r m. second (1024 * a + r) (λ e. m (omega arith))) (8 * (lv - 1)) 8 (256 + i) (apart i b n))
-      ∙ best-ext (slotsOf ms a) (slotsOf ps a) (λ s l w. sym (first (1024 * a + s) (λ e. omega arith))) (8 * (lv - 1)) (256 + i) 8 (omega arith) (omega arith))
+      (λ e _. rw (e, best-some (slotsOf ps a) (256 + x) 8 (λ z. omega (arith, slot-here)), slot-here) (ap bestIn cell-here ∙ best-set (getD ws (1024 * a + 512 + x) 0) (8 * 65536 + h)))
+      (λ n _. ap bestIn (cell-same i b n)
+      ∙ right .sound .best i b
+      ∙ sym (best-apart (slotsOf ws a) (slotsOf ms a) (256 + x) (λ r m. second (1024 * a + r) (λ e. m (omega arith))) 8 (256 + i) (apart i b n))
+      ∙ best-ext (slotsOf ms a) (slotsOf ps a) (λ s l w. sym (first (1024 * a + s) (λ e. omega arith))) (256 + i) 8 (omega arith) (omega arith))
 
   posted-reslot : Reslot Right ws ps a (256 + x) h
   posted-reslot = record {
@@ -174,13 +178,17 @@ module _ (ws : List ℕ) (a x h : ℕ) (inside : 1024 * (a + 1) ≤ length ws) (
         (λ (z : k < 1024 * a). word k (λ e. omega arith) (λ e. omega arith))
         (λ (z : 1024 * (a + 1) ≤ k). word k (λ e. omega arith) (λ e. omega arith)) o;
     tag = tag-same;
-    links = λ i b. word (1024 * a + 513 + 2 * i) (λ e. omega arith) (λ e. omega arith);
+    links = λ i b. same i x
+        (λ e _. rw e (ap linkIn cell-here ∙ link-kept (getD ws (1024 * a + 512 + x) 0) (8 * 65536 + h)))
+        (λ n _. ap linkIn (cell-same i b n));
     here = slot-here;
     slots = λ r l b n. slot-same r b n;
     right = rw tag-same (record {
-      hops = λ s l b. same s (256 + x) (λ e _. rw (e, slot-here) hop) (λ n _. rw (slot-same s b n) (right .hops s l b));
+      sound = record {
+        hops = λ s l b. same s (256 + x) (λ e _. rw (e, slot-here) hop) (λ n _. rw (slot-same s b n) (right .sound .hops s l b));
+        best = best-right;
+      };
       first = λ z. slot-same 1 (omega arith) (λ e. omega arith) ∙ right .first z;
-      best = best-right;
     });
   }
 

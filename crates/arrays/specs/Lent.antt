@@ -1,5 +1,5 @@
 -- One array's words lent as a part of all: what the check of one block says of the part, it says of the array. Assumes nothing.
-use mathlib.Core.Path.{_≡_, refl, sym, _∙_}
+use mathlib.Core.Path.{_≡_, refl, sym, ap, _∙_}
 use mathlib.Core.Bool.{Bool, true≢false}
 use mathlib.Core.List.{List}
 use Prim.Native.Nat.{ℕ, zero, suc, _+_, _*_, _≤_, _<_}
@@ -8,6 +8,7 @@ use lib.ListN.{getD, take, drop}
 use lib.Seq.{getD-take, getD-drop}
 use Rattle.laws.specs.Cases.{bool}
 use Rattle.laws.specs.Tells.{Tells}
+use Rattle.array.specs.Cell.{bestIn, linkIn}
 use Rattle.array.specs.Block.{slots, bests, links}
 use Rattle.array.specs.Check.{rightB, emptyB, taken}
 use Rattle.array.specs.Decides.{right-tells, empty-tells}
@@ -36,11 +37,14 @@ module _ (ws : List ℕ) (a m : ℕ) (size : m ≡ 1024) where
   slot : (s : ℕ) → s < 512 → slots b s ≡ slotsOf ws a s
   slot s h = word s (omega arith)
 
+  cell : (i : ℕ) → i < 256 → getD b (512 + i) 0 ≡ getD ws (1024 * a + 512 + i) 0
+  cell i h = let e : 1024 * a + 512 + i ≡ 1024 * a + (512 + i) = omega arith in rw e (word (512 + i) (omega arith))
+
   best : (i : ℕ) → i < 256 → bests b i ≡ bestsOf ws a i
-  best i h = let e : 1024 * a + 512 + 2 * i ≡ 1024 * a + (512 + 2 * i) = omega arith in rw e (word (512 + 2 * i) (omega arith))
+  best i h = ap bestIn (cell i h)
 
   link : (i : ℕ) → i < 256 → links b i ≡ arraysOf ws .link a i
-  link i h = let e : 1024 * a + 513 + 2 * i ≡ 1024 * a + (513 + 2 * i) = omega arith in rw e (word (513 + 2 * i) (omega arith))
+  link i h = ap linkIn (cell i h)
 
   pub lent-right : (k : ℕ) → rightB k (slots b) (bests b) ≡ rightB k (slotsOf ws a) (bestsOf ws a)
   lent-right k =

@@ -17,11 +17,11 @@ use Rattle.arrays.specs.Check.{linksB, hungB}
 abbrev pub zeroAt : List ℕ → ℕ → ℕ → Bool
 zeroAt ws from k = eqb (getD ws (from + k) 0) 0
 
--- array a: free and all 0; or used, its block right, its links leading to arrays that name their cell, and, the root aside, hung
+-- array a: free and 0; or used, its block right, its links leading to arrays that name their cell, and, the root aside, hung
 -- where its tag says and not empty
 unfoldable pub arrayB : ℕ → List ℕ → ℕ → Bool
 arrayB L ws a =
-    cond (eqb (getD ws (1024 * a) 0) 0) (allB (zeroAt ws (1024 * a)) 1024)
+    cond (eqb (getD ws (1024 * a) 0) 0) (allB (zeroAt ws (1024 * a)) 768)
     (rightB (lev (arraysOf ws) a) (slotsOf ws a) (bestsOf ws a)
     && (linksB (arrayCount ws) L (arraysOf ws) a
     && (eqb a 1 || (hungB (arrayCount ws) (arraysOf ws) a && not (emptyB (slotsOf ws a) (arraysOf ws .link a))))))

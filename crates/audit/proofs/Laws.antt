@@ -154,7 +154,7 @@ module _ (n L : ℕ) (ws : List ℕ) (a : ℕ) (en : length ws ≡ 1024 * (n + 1
   abbrev bare : Bool
   bare = emptyB (slotsOf ws a) (t .link a)
 
-  pub array-free : t .tag a ≡ 0 → allB (zeroAt ws (1024 * a)) 1024 ≡ arrayB L ws a
+  pub array-free : t .tag a ≡ 0 → allB (zeroAt ws (1024 * a)) 768 ≡ arrayB L ws a
   unfolding arrayB
   array-free e = rw (eq-eqb (t .tag a) 0 e)
 

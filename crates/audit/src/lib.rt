@@ -65,14 +65,14 @@ fn link_ok(words: &[u32], n: usize, top: u32, a: usize, i: usize) -> bool
     requires { ⌜ Sized (now words) n × (a ≤ n) × (i < 256) ⌝ }
     ensures { λ r. ⌜ r ≡ linkB n top (arraysOf (now (words .entry))) a i ⌝ }
 {
-    let own = 1024 * a;
-    let b = words[own + 513 + 2 * i] as usize;
+    let b = arrays::below(words, a, i);
     if b == 0 {
         return true;
     }
     if n < b {
         return false;
     }
+    let own = 1024 * a;
     let level = words[own] % 32;
     if level < 1 {
         return false;
@@ -80,8 +80,8 @@ fn link_ok(words: &[u32], n: usize, top: u32, a: usize, i: usize) -> bool
     if top <= level {
         return false;
     }
-    let below = 1024 * b;
-    words[below] as usize == a * 8192 + i * 32 + (level as usize + 1)
+    let tag = 1024 * b;
+    words[tag] as usize == a * 8192 + i * 32 + (level as usize + 1)
 }
 
 fn links_ok(words: &[u32], n: usize, top: u32, a: usize) -> bool
@@ -116,7 +116,7 @@ fn hung_ok(words: &[u32], n: usize, a: usize) -> bool
         return false;
     }
     let i = (tag / 32 % 256) as usize;
-    words[1024 * p + 513 + 2 * i] as usize == a
+    arrays::below(words, p, i) == a
 }
 
 // The tag of array a, 0 past the last.
@@ -195,7 +195,7 @@ fn array_ok(words: &[u32], n: usize, top: u32, a: usize) -> bool
 {
     let own = 1024 * a;
     if words[own] == 0 {
-        return zeros(words, own, 1024);
+        return zeros(words, own, 768);
     }
     if !block_ok(words, n, a) {
         return false;

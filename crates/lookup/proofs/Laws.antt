@@ -1,5 +1,5 @@
 -- What the functions of the lookup cite: their tests, and the ways in which a turn of the walk ends. Assumes nothing.
-use mathlib.Core.Path.{_≡_, refl, ap, _∙_}
+use mathlib.Core.Path.{_≡_, sym, ap, _∙_}
 use mathlib.Core.Logic.{_≢_}
 use mathlib.Core.Bool.{true, false, cond, true≢false}
 use mathlib.Core.List.{List}
@@ -8,87 +8,109 @@ use native.Mathlib.Omega.{arith}
 use lib.Dec.{eqb}
 use lib.ListN.{length, getD}
 use borrow.Author.Tests.{lt-ltb, le-ltb, eq-eqb, ne-eqb}
-use Rattle.laws.specs.Cases.{same}
+use Rattle.laws.specs.Cases.{bool, same}
+use Rattle.routes.specs.Route.{tooLong}
 use Rattle.routes.specs.Match.{Match, none}
-use Rattle.routes.specs.Answers.{Reply, found, none as nothing, refused, matched}
+use Rattle.routes.specs.Answers.{Reply, found, none as nothing, refused}
 use Rattle.routes.specs.Seen.{misfits, lookupOn}
+use Rattle.array.specs.Cell.{bestIn, linkIn}
 use Rattle.arrays.specs.Words.{arrayCount}
 use Rattle.arrays.specs.Table.{seen}
-use Rattle.lookup.specs.Walk.{byteAt, outside, deeper, turn, ended, walkFrom, walk, walked}
+use Rattle.lookup.specs.Walk.{byteAt, hopOf, lengthOf, outside, deeper, turn, ended, walkFrom, walk, walked}
 use Rattle.lookup.specs.Longest.{walked-seen}
-
--- ---- the range of a best
-
-pub strange-high : (b : ℕ) → 65535 < b / 256 → true ≡ outside 32 b
-strange-high b h = rw (ne-eqb b 0 (λ e. omega arith), lt-ltb 65535 (b / 256) h, ne-eqb (b / 256) 0 (λ e. omega arith))
-
-pub strange-long : (b : ℕ) → b / 256 ≤ 65535 → 32 < b % 256 → true ≡ outside 32 b
-strange-long b h l =
-    same (b / 256) 0
-    (λ q e. rw (ne-eqb b 0 (λ z. omega arith), e))
-    (λ q e. rw (ne-eqb b 0 (λ z. omega arith), e, le-ltb 65535 (b / 256) h, lt-ltb 32 (b % 256) l))
-
-pub strange-none : (b : ℕ) → b ≡ 0 → false ≡ outside 32 b
-strange-none b e = rw (eq-eqb b 0 e)
-
-pub strange-bare : (b : ℕ) → b ≢ 0 → b / 256 ≤ 65535 → b % 256 ≤ 32 → eqb (b / 256) 0 ≡ outside 32 b
-strange-bare b n h l =
-    same (b / 256) 0
-    (λ q e. rw (ne-eqb b 0 n, e))
-    (λ q e. rw (ne-eqb b 0 n, e, le-ltb 65535 (b / 256) h, le-ltb 32 (b % 256) l))
 
 -- ---- what the number of a walk stands for
 
-pub ended-bad : (b : ℕ) → b ≡ 1 → refused 2 ≡ ended b
-ended-bad b e = rw (eq-eqb b 1 e)
+pub ended-bad : (b : ℕ) → 32 < b / 65536 → refused 2 ≡ ended b
+ended-bad b h = rw (lt-ltb 32 (0 + b / 65536) (omega arith))
 
-pub ended-none : (b : ℕ) → b ≡ 0 → nothing ≡ ended b
-ended-none b e = rw e
+pub ended-none : (b : ℕ) → b / 65536 ≤ 32 → b % 65536 ≡ 0 → nothing ≡ ended b
+ended-none b h e = rw (le-ltb 32 (0 + b / 65536) (omega arith), eq-eqb (b % 65536) 0 e)
 
-pub ended-found : (b : ℕ) → b ≢ 1 → b ≢ 0 → found (b / 256) (b % 256) ≡ ended b
-ended-found b n z = rw (ne-eqb b 1 n, ne-eqb b 0 z)
+pub ended-found : (b : ℕ) → b / 65536 ≤ 32 → b % 65536 ≢ 0 → found (b % 65536) (b / 65536) ≡ ended b
+ended-found b h n =
+    let e : 0 + b / 65536 ≡ b / 65536 = omega arith in
+    rw (e, le-ltb 32 (b / 65536) h, ne-eqb (b % 65536) 0 n)
 
-pub ended-best : (b : ℕ) → b ≢ 1 → ended b ≡ matched (deeper none b)
-ended-best b n = rw (ne-eqb b 1 n)
+-- ---- the best so far or the cell's own, below `base` bits: what is found down to here, and whether it is out of its range
 
--- the best so far or the cell's own: what is found down to here; neither is 1, so it is not
-pub newer-so : (best own r : ℕ) → r ≡ cond (eqb own 0) best own → best ≢ 1 → outside 32 own ≡ false → (deeper none r ≡ deeper (deeper none best) own) × (r ≢ 1)
-newer-so best own r p n b =
-    same own 0
-    (λ q e. (let s : r ≡ best = rw e at p in rw (s, e) (refl, n)))
-    (λ q e. (let s : r ≡ own = rw e at p in rw (s, e) (refl, λ z. true≢false (rw z at b))))
+module _ (best own base r : ℕ) (e : r ≡ cond (eqb (hopOf own) 0) best (base * 65536 + own)) where
+  newer-found : deeper 0 none r ≡ deeper base (deeper 0 none best) own
+  newer-found =
+      same (hopOf own) 0
+      (λ q t. (let s : r ≡ best = rw t at e in rw (t, s)))
+      (λ q t.
+      let s : r ≡ base * 65536 + own = rw t at e in
+      let h : (base * 65536 + own) % 65536 ≡ own % 65536 = omega arith in
+      let l : 0 + (base * 65536 + own) / 65536 ≡ base + own / 65536 = omega arith in
+      rw (s, h, l, t))
 
--- ---- a turn of the walk, with `left` levels left, at array a and with m found above
+  newer-long : best / 65536 ≤ 32 → tooLong 32 (lengthOf 0 r) ≡ outside 32 base own
+  newer-long h =
+      same (hopOf own) 0
+      (λ q t. (let s : r ≡ best = rw t at e in rw (t, s, le-ltb 32 (0 + best / 65536) (omega arith))))
+      (λ q t.
+      let s : r ≡ base * 65536 + own = rw t at e in
+      let l : 0 + (base * 65536 + own) / 65536 ≡ base + own / 65536 = omega arith in
+      rw (s, l, t))
 
-module _ (ws : List ℕ) (x left a : ℕ) (m : Match) where
-  -- the cell
-  abbrev c : ℕ
-  c = 1024 * a + 512 + 2 * byteAt x (left - 1)
+  -- above the last level it is not
+  newer-short : best / 65536 ≤ 32 → own < 1048576 → base ≤ 16 → r / 65536 ≤ 32
+  newer-short h b w =
+      same (hopOf own) 0
+      (λ q t. (let s : r ≡ best = rw t at e in rw s h))
+      (λ q t. (let s : r ≡ base * 65536 + own = rw t at e in omega arith))
 
-  walk-turn : 1 ≤ left → walkFrom 32 ws x left a m ≡ turn 32 (arrayCount ws) (getD ws c 0) (getD ws (c + 1) 0) m (walkFrom 32 ws x (left - 1))
-  unfolding walkFrom
-  walk-turn h =
-      let e : left ≡ suc (left - 1) = omega arith in
-      let f : c + 1 ≡ 1024 * a + 513 + 2 * byteAt x (left - 1) = omega arith in
-      ap (λ (n : ℕ). walkFrom 32 ws x n a m) e ∙ rw f
-
-  pub bad-best : 1 ≤ left → outside 32 (getD ws c 0) ≡ true → refused 2 ≡ walkFrom 32 ws x left a m
-  bad-best h b = rw (walk-turn h, b)
-
-  module _ (h : 1 ≤ left) (b : outside 32 (getD ws c 0) ≡ false) where
-    pub no-link : getD ws (c + 1) 0 ≡ 0 → matched (deeper m (getD ws c 0)) ≡ walkFrom 32 ws x left a m
-    no-link e = rw (walk-turn h, b, eq-eqb (getD ws (c + 1) 0) 0 e)
-
-    pub bad-link : getD ws (c + 1) 0 ≢ 0 → arrayCount ws < getD ws (c + 1) 0 → refused 2 ≡ walkFrom 32 ws x left a m
-    bad-link n l = rw (walk-turn h, b, ne-eqb (getD ws (c + 1) 0) 0 n, lt-ltb (arrayCount ws) (getD ws (c + 1) 0) l)
-
-    pub onward : getD ws (c + 1) 0 ≢ 0 → getD ws (c + 1) 0 ≤ arrayCount ws
-        → walkFrom 32 ws x (left - 1) (getD ws (c + 1) 0) (deeper m (getD ws c 0)) ≡ walkFrom 32 ws x left a m
-    onward n l = rw (walk-turn h, b, ne-eqb (getD ws (c + 1) 0) 0 n, le-ltb (arrayCount ws) (getD ws (c + 1) 0) l)
-
+-- no level is left
 pub walk-none : (ws : List ℕ) (x left a : ℕ) (m : Match) → left ≡ 0 → refused 2 ≡ walkFrom 32 ws x left a m
 unfolding walkFrom
 walk-none ws x left a m e = rw e
+
+-- ---- a turn of the walk, with `left` levels left, at array a and with `best` found above
+
+module _ (ws : List ℕ) (x left a best r : ℕ) where
+  -- the cell
+  abbrev word : ℕ
+  word = getD ws (1024 * a + 512 + byteAt x (left - 1)) 0
+
+  abbrev base : ℕ
+  base = 24 - 8 * (left - 1)
+
+  abbrev m : Match
+  m = deeper 0 none best
+
+  walk-turn : 1 ≤ left → left ≤ 4 → walkFrom 32 ws x left a m ≡ turn 32 (arrayCount ws) base (bestIn word) (linkIn word) m (walkFrom 32 ws x (left - 1))
+  unfolding walkFrom
+  walk-turn h w =
+      let e : left ≡ suc (left - 1) = omega arith in
+      let f : 32 - 8 * suc (left - 1) ≡ base = omega arith in
+      ap (λ (n : ℕ). walkFrom 32 ws x n a m) e ∙ rw f
+
+  module _ (h : 1 ≤ left) (w : left ≤ 4) (b : best / 65536 ≤ 32) (e : r ≡ cond (eqb (hopOf (bestIn word)) 0) best (base * 65536 + bestIn word)) where
+    pub no-link : linkIn word ≡ 0 → ended r ≡ walkFrom 32 ws x left a m
+    no-link z = rw (walk-turn h w, z, ← (newer-long best (bestIn word) base r e b), ← (newer-found best (bestIn word) base r e))
+
+    pub bad-link : linkIn word ≢ 0 → arrayCount ws < linkIn word → refused 2 ≡ walkFrom 32 ws x left a m
+    bad-link n l =
+        bool (outside 32 base (bestIn word))
+        (λ t. rw (walk-turn h w, t))
+        (λ t. rw (walk-turn h w, t, ne-eqb (linkIn word) 0 n, lt-ltb (arrayCount ws) (linkIn word) l))
+
+    pub onward : linkIn word ≢ 0 → linkIn word ≤ arrayCount ws → word < 4294967296
+        → (walkFrom 32 ws x (left - 1) (linkIn word) (deeper 0 none r) ≡ walkFrom 32 ws x left a m) × (1 ≤ left - 1 → r / 65536 ≤ 32)
+    onward n l s = (
+      bool (outside 32 base (bestIn word))
+          (λ t. last-level t)
+          (λ t. rw (walk-turn h w, t, ne-eqb (linkIn word) 0 n, le-ltb (arrayCount ws) (linkIn word) l, newer-found best (bestIn word) base r e)),
+      λ k. newer-short best (bestIn word) base r e b (omega arith) (omega arith),
+    )
+      where
+        last-level : outside 32 base (bestIn word) ≡ true → walkFrom 32 ws x (left - 1) (linkIn word) (deeper 0 none r) ≡ walkFrom 32 ws x left a m
+        last-level t =
+            same left 1
+            (λ q _. (let z : left - 1 ≡ 0 = omega arith in sym (walk-none ws x (left - 1) (linkIn word) (deeper 0 none r) z) ∙ rw (walk-turn h w, t)))
+            (λ q _. absurd (true≢false (sym t ∙ sym (newer-long best (bestIn word) base r e b)
+            ∙ le-ltb 32 (0 + r / 65536) (omega (arith, newer-short best (bestIn word) base r e b (omega arith) (omega arith))))))
 
 -- ---- the whole
 

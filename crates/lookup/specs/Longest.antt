@@ -23,7 +23,7 @@ use Rattle.arrays.specs.Need.{held-at, at-some, node-child, above}
 use Rattle.arrays.specs.Words.{arraysOf, arrayCount, slotsOf, bestsOf}
 use Rattle.arrays.specs.Table.{Table, listOf, seen}
 use Rattle.arrays.specs.View.{seen-cases}
-use Rattle.lookup.specs.Walk.{linksOf, byteAt, outside, deeper, walkFrom, walk, walked}
+use Rattle.lookup.specs.Walk.{byteAt, outside, deeper, walkFrom, walk, walked}
 use Rattle.lookup.specs.Level.{best-inside, level-last, level-first, last-skip, upTo}
 
 -- ---- bytes of an address
@@ -95,26 +95,26 @@ module _ (L : ℕ) (ws : List ℕ) (o : Table L ws) (x : ℕ) (small : x < 2 ^ (
           ∙ ap (slotsOf ws a) (sym (slot-cut i e j q))
 
       -- the best of the cell is in its range, and is the longest match down to this level
-      inside : outside (8 * L) (bestsOf ws a i) ≡ false
+      inside : outside (8 * L) (8 * L - 8 * suc n) (bestsOf ws a i) ≡ false
       inside =
-          rw (right .best i (omega arith))
-          (best-inside (8 * L) (slotsOf ws a) (8 * (k + 1 - 1)) 8 (256 + i) (right .hops) (omega arith) (omega arith) (omega arith) (omega (arith, o .shape .levels)))
+          rw (right .sound .best i (omega arith))
+          (best-inside (8 * L) (slotsOf ws a) (8 * L - 8 * suc n) 8 (256 + i) (right .sound .hops) (omega arith) (omega arith) (omega arith))
 
-      down-to : deeper (upTo along k) (bestsOf ws a i) ≡ last along (8 * suc k)
+      down-to : deeper (8 * L - 8 * suc n) (upTo along k) (bestsOf ws a i) ≡ last along (8 * suc k)
       down-to =
-          let e : 8 * (k + 1 - 1) ≡ 8 * k = omega arith in
+          let e : 8 * L - 8 * suc n ≡ 8 * k = omega arith in
           let f : 8 * suc k ≡ 8 * k + 8 = omega arith in
           let q : (256 + i) / 256 ≡ 1 = omega arith in
-          let begins = level-first along (slotsOf ws a) k (held-root t (x / 2 ^ (8 * L - 0)) (head x (suc n)) k) (λ h. right .first (omega arith)) in
-          rw (right .best i (omega arith), e, f)
-          (sym (level-last along (slotsOf ws a) (8 * k) (upTo along k) 8 (256 + i) (omega (arith, o .shape .levels)) (rw q begins) along-slot))
+          let begins = level-first along (slotsOf ws a) k (right .sound .hops 1 (omega arith) (omega arith)) (held-root t (x / 2 ^ (8 * L - 0)) (head x (suc n)) k) (λ h. right .first (omega arith)) in
+          rw (right .sound .best i (omega arith), e, f)
+          (sym (level-last along (slotsOf ws a) (right .sound .hops) (8 * k) (upTo along k) 8 (256 + i) (omega arith) (omega arith) (rw q begins) along-slot))
 
       -- the array below the cell
-      below : node t (head x n) (suc k) ≡ linksOf ws a i
+      below : node t (head x n) (suc k) ≡ t .link a i
       below = ap (λ (v : ℕ). node t v (suc k)) (head-down x n) ∙ node-child t (head x (suc n)) k i (omega arith) there
 
       -- where the path ends, nothing longer is held
-      nothing : linksOf ws a i ≡ 0 → (l : ℕ) → 8 * suc k < l → l ≤ 8 * L → along l ≡ 0
+      nothing : t .link a i ≡ 0 → (l : ℕ) → 8 * suc k < l → l ≤ 8 * L → along l ≡ 0
       nothing z l h w = same (along l) 0 (λ q _. q) (λ q _. absurd (omega (
         arith,
         below,
@@ -129,7 +129,7 @@ module _ (L : ℕ) (ws : List ℕ) (o : Table L ws) (x : ℕ) (small : x < 2 ^ (
         }),
       )))
 
-      ends : linksOf ws a i ≡ 0 → last along (8 * suc k) ≡ last along (8 * L)
+      ends : t .link a i ≡ 0 → last along (8 * suc k) ≡ last along (8 * L)
       ends z =
           let e : 8 * suc k + 8 * n ≡ 8 * L = omega arith in
           sym (rw e at (last-skip along (8 * suc k) (8 * n) (λ l h w. nothing z l h (omega arith))))
@@ -140,9 +140,9 @@ module _ (L : ℕ) (ws : List ℕ) (o : Table L ws) (x : ℕ) (small : x < 2 ^ (
       unfolding walkFrom
       turns on =
           ⊎-elim
-          (λ (z : linksOf ws a i ≡ 0). rw (inside, eq-eqb (linksOf ws a i) 0 z, down-to) (ap matched (ends z)))
-          (λ (c : Child (arrayCount ws) L t a i (linksOf ws a i)).
-          rw (inside, ne-eqb (linksOf ws a i) 0 (λ z. omega (arith, c .some)), le-ltb (arrayCount ws) (linksOf ws a i) (c .within), down-to, ← below)
+          (λ (z : t .link a i ≡ 0). rw (inside, eq-eqb (t .link a i) 0 z, down-to) (ap matched (ends z)))
+          (λ (c : Child (arrayCount ws) L t a i (t .link a i)).
+          rw (inside, ne-eqb (t .link a i) 0 (λ z. omega (arith, c .some)), le-ltb (arrayCount ws) (t .link a i) (c .within), down-to, ← below)
           (on (omega (arith, c .deep, level .level)) (rw below (c .some))))
           (o .shape .links a i there (level .within) (omega arith))
 

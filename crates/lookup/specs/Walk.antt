@@ -1,51 +1,55 @@
--- The layout's walk: what a lookup gives on any words of a right size. It goes from the root down, reads one cell an array, its best
--- and its link side by side, and keeps the last best that it met. Assumes nothing.
+-- The layout's walk: what a lookup gives on any words of a right size. It goes from the root down, reads one cell an array, a word with
+-- its best and its link, and keeps the last best that it met. Assumes nothing.
 --
 --     10.1.5.9    array 1, cell 10       array 3, cell 1        array 2, cell 5
---                 best 1/8, link 3 ──▶   best 0, link 2 ──▶     best 2/22, link 0        found 2 22
-use mathlib.Core.Bool.{Bool, cond, not, _&&_, _||_}
+--                 best 1/8, link 3 ──▶   best 0, link 2 ──▶     best 2/6, link 0        found 2 22          (hop / in-array length)
+use mathlib.Core.Bool.{Bool, false, cond}
 use mathlib.Core.List.{List}
-use Prim.Native.Nat.{ℕ, zero, suc, _+_, _*_, _/_, _%_, _^_}
+use Prim.Native.Nat.{ℕ, zero, suc, _+_, _-_, _*_, _/_, _%_, _^_}
 use lib.Dec.{ltb, eqb}
-use lib.ListN.{length, getD}
-use Rattle.routes.specs.Route.{tooLong, badHop}
+use lib.ListN.{length}
+use Rattle.routes.specs.Route.{tooLong}
 use Rattle.routes.specs.Match.{Match, none, found}
 use Rattle.routes.specs.Seen.{misfits}
 use Rattle.routes.specs.Answers.{Reply, refused, refuse, matched}
-use Rattle.arrays.specs.Words.{arrayCount, bestsOf}
-
--- the link of cell i of array a
-abbrev pub linksOf : List ℕ → ℕ → ℕ → ℕ
-linksOf ws a i = getD ws (1024 * a + 513 + 2 * i) 0
+use Rattle.arrays.specs.Words.{arraysOf, arrayCount, bestsOf}
 
 -- the byte of an address that n bytes follow
 abbrev pub byteAt : ℕ → ℕ → ℕ
 byteAt x n = x / 2 ^ (8 * n) % 256
 
--- a best that is neither 0 nor hop * 256 + length
-abbrev pub outside : ℕ → ℕ → Bool
-outside W b = not (eqb b 0) && (badHop (b / 256) || tooLong W (b % 256))
+-- a best in an array below `base` bits: its hop, 0 for none, and its length
+abbrev pub hopOf : ℕ → ℕ
+hopOf b = b % 65536
+
+abbrev pub lengthOf : ℕ → ℕ → ℕ
+lengthOf base b = base + b / 65536
+
+-- a length out of its range
+abbrev pub outside : ℕ → ℕ → ℕ → Bool
+outside W base b = cond (eqb (hopOf b) 0) false (tooLong W (lengthOf base b))
 
 -- the best of a cell, where it has one, comes before what was found above it
-abbrev pub deeper : Match → ℕ → Match
-deeper m b = cond (eqb b 0) m (found (b / 256) (b % 256))
+abbrev pub deeper : ℕ → Match → ℕ → Match
+deeper base m b = cond (eqb (hopOf b) 0) m (found (hopOf b) (lengthOf base b))
 
--- a cell with the best b and the link c, in words of A arrays: the walk ends here, or goes on
-abbrev pub turn : ℕ → ℕ → ℕ → ℕ → Match → (ℕ → Match → Reply) → Reply
-turn W A b c m on =
-    refuse 2 (outside W b)
-    (cond (eqb c 0) (matched (deeper m b))
+-- a cell with the best b and the array c below it, in words of A arrays: the walk ends here, or goes on
+abbrev pub turn : ℕ → ℕ → ℕ → ℕ → ℕ → Match → (ℕ → Match → Reply) → Reply
+turn W A base b c m on =
+    refuse 2 (outside W base b)
+    (cond (eqb c 0) (matched (deeper base m b))
     (refuse 2 (ltb A c)
-    (on c (deeper m b))))
+    (on c (deeper base m b))))
 
 -- from array a on, with n levels left and m found above; a link below the last level is out of range
 unfoldable pub walkFrom : ℕ → List ℕ → ℕ → ℕ → ℕ → Match → Reply
 walkFrom W ws x zero a m = refused 2
-walkFrom W ws x (suc n) a m = turn W (arrayCount ws) (bestsOf ws a (byteAt x n)) (linksOf ws a (byteAt x n)) m (walkFrom W ws x n)
+walkFrom W ws x (suc n) a m =
+    turn W (arrayCount ws) (W - 8 * suc n) (bestsOf ws a (byteAt x n)) (arraysOf ws .link a (byteAt x n)) m (walkFrom W ws x n)
 
--- what the number stands for that a walk ends with: its last best, or 1, which no best is, where it was refused
+-- what the number stands for that a walk ends with: the last best, with its whole length; one that is too long where it was refused
 abbrev pub ended : ℕ → Reply
-ended b = refuse 2 (eqb b 1) (matched (deeper none b))
+ended b = refuse 2 (tooLong 32 (lengthOf 0 b)) (matched (deeper 0 none b))
 
 -- L levels, from the root
 abbrev pub walk : ℕ → List ℕ → ℕ → Reply

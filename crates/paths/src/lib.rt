@@ -69,7 +69,7 @@ pub fn walk_down(words: &[u32], address: u32, k: usize) -> Stop
     let mut j = 0;
     while j < k {
         let y = byte_of(address, j);
-        let b = words[1024 * a + 513 + 2 * y] as usize;
+        let b = arrays::below(words, a, y);
         if b == 0 {
             return Stop { array: a, level: j };
         }

@@ -106,8 +106,8 @@ module _ {L : ℕ} {ws : List ℕ} {a l k d x j b : ℕ} (s : Sought L ws a l k 
         place : Place (arrayCount vs) L (arraysOf vs) r (front L a k) k d x
         place = stands-place L a l k d x (s .stands) (s .prefix) (s .inside) (arrayCount vs) (arraysOf vs) r (g .leads) (g .some)
 
-        pub announce-seat : L ≤ 16 → Seat vs r k d x
-        announce-seat w = seat-at L r vs r (front L a k) k d x (g .ok) w (s .stands .top) place
+        pub announce-seat : Seat vs r k d x
+        announce-seat = seat-at L r vs r (front L a k) k d x (g .ok) place
 
         same-before : listOf L vs ≡ listOf L ws
         same-before = same-list (8 * L) (held (arraysOf vs)) (held (arraysOf ws)) (g .held)

@@ -1,13 +1,14 @@
 -- A slot of one array of the words, as the floor of one block has it: what that floor asks, and what its promise says of the words.
 -- Assumes nothing.
 use mathlib.Core.Path.{_≡_, refl, sym, ap, _∙_}
-use mathlib.Core.Logic.{_⊎_, inl, inr, ⊎-elim}
+use mathlib.Core.Logic.{_⊎_, ⊎-elim}
 use mathlib.Core.List.{List}
 use Prim.Native.Nat.{ℕ, zero, suc, _+_, _-_, _*_, _/_, _%_, _^_, _≤_, _<_}
 use native.Mathlib.Nat.{mul-le-mul-right}
 use native.Mathlib.Omega.{arith}
 use lib.ListN.{length, getD}
 use lib.Pow.{pow-add, pow-mono}
+use Rattle.array.specs.Cell.{bestIn, linkIn}
 use Rattle.array.specs.Block.{slots, bests, links, Right}
 use Rattle.array.specs.Put.{anyUp, exposed, Spot, Reslotted}
 use Rattle.arrays.specs.Arrays.{lev}
@@ -22,20 +23,18 @@ use Rattle.array.specs.Frame.{blockOf, withBlock, block-word, block-length, wit
 pub record Seat (ws : List ℕ) (a k d x : ℕ) : Type 0 where
   pub inside : 1024 * (a + 1) ≤ length ws
   pub level : lev (arraysOf ws) a ≡ k + 1
-  pub high : k < 16
   pub deep : d ≤ 8
   pub small : x < 2 ^ d
   pub own : (1 ≤ d) ⊎ (k ≡ 0)
   pub right : Right (k + 1) (slotsOf ws a) (bestsOf ws a)
 
 -- of a table but for one array
-pub seat-at : (L e : ℕ) (ws : List ℕ) (a q k d x : ℕ) → Almost Right L e ws → L ≤ 16 → k < L → Place (arrayCount ws) L (arraysOf ws) a q k d x → Seat ws a k d x
-seat-at L e ws a q k d x ok h w p =
+pub seat-at : (L e : ℕ) (ws : List ℕ) (a q k d x : ℕ) → Almost Right L e ws → Place (arrayCount ws) L (arraysOf ws) a q k d x → Seat ws a k d x
+seat-at L e ws a q k d x ok p =
     let lv = rw (p .leads) at (node-level (arrayCount ws) L (arraysOf ws) (ok .shape) q k (rw (p .leads) (p .array))) in
     record {
       inside = omega (arith, ok .whole, ok .low, lv .within);
       level = lv .level;
-      high = omega arith;
       deep = p .deep;
       small = p .small;
       own = p .own;
@@ -48,11 +47,14 @@ module _ (ws : List ℕ) (a : ℕ) where
   block-slot : (s : ℕ) → s < 512 → slots (blockOf ws a) s ≡ slotsOf ws a s
   block-slot s h = block-word ws a s (omega arith)
 
+  block-cell : (i : ℕ) → i < 256 → getD (blockOf ws a) (512 + i) 0 ≡ getD ws (1024 * a + 512 + i) 0
+  block-cell i h = let e : 1024 * a + (512 + i) ≡ 1024 * a + 512 + i = omega arith in block-word ws a (512 + i) (omega arith) ∙ ap (λ (n : ℕ). getD ws n 0) e
+
   block-best : (i : ℕ) → i < 256 → bests (blockOf ws a) i ≡ bestsOf ws a i
-  block-best i h = let e : 1024 * a + (512 + 2 * i) ≡ 1024 * a + 512 + 2 * i = omega arith in block-word ws a (512 + 2 * i) (omega arith) ∙ ap (λ (n : ℕ). getD ws n 0) e
+  block-best i h = ap bestIn (block-cell i h)
 
   block-link : (i : ℕ) → i < 256 → links (blockOf ws a) i ≡ arraysOf ws .link a i
-  block-link i h = let e : 1024 * a + (513 + 2 * i) ≡ 1024 * a + 513 + 2 * i = omega arith in block-word ws a (513 + 2 * i) (omega arith) ∙ ap (λ (n : ℕ). getD ws n 0) e
+  block-link i h = ap linkIn (block-cell i h)
 
 any-ext : (f g : ℕ → ℕ) → ((s : ℕ) → s < 512 → f s ≡ g s) → (n s : ℕ) → s < 512 → anyUp f s n ≡ anyUp g s n
 unfolding anyUp
@@ -67,15 +69,12 @@ exposed-ext f g e d i (suc n) h = rw (any-ext f g e (8 - d) (256 + (i + n)) (ome
 -- ---- what the floor of one block asks and gives
 
 module _ (ws : List ℕ) (a k d x : ℕ) (s : Seat ws a k d x) where
-  pub seat-spot : Spot (k + 1) (blockOf ws a) d x
+  pub seat-spot : Spot (blockOf ws a) d x
   seat-spot = record {
     block = block-length ws a (s .inside);
-    low = omega arith;
-    high = omega (arith, s .high);
     depth = s .deep;
     value = s .small;
-    own = ⊎-elim (λ (z : 1 ≤ d). inl z) (λ (z : k ≡ 0). inr (omega arith)) (s .own);
-    right = best-local .ext (k + 1) (slotsOf ws a) (bestsOf ws a) (slots (blockOf ws a)) (bests (blockOf ws a)) (λ r l h. block-slot ws a r h) (block-best ws a) (s .right);
+    sound = best-local .ext (k + 1) (slotsOf ws a) (bestsOf ws a) (slots (blockOf ws a)) (bests (blockOf ws a)) (λ r l h. block-slot ws a r h) (block-best ws a) (s .right) .sound;
   }
 
   slot-lt : 2 ^ d + x < 512
@@ -93,7 +92,7 @@ module _ (ws : List ℕ) (a k d x : ℕ) (s : Seat ws a k d x) where
           let p : 2 ^ d * 2 ^ (8 - d) ≡ 256 = sym (pow-add 2 d (8 - d)) ∙ ap (λ (n : ℕ). 2 ^ n) e in
           omega (arith, mul-le-mul-right (2 ^ (8 - d)) (s .small))
 
-  pub seat-reslot : (m : List ℕ) (h : ℕ) → Reslotted (k + 1) (blockOf ws a) m (2 ^ d + x) h → Reslot Right ws (withBlock ws a m) a (2 ^ d + x) h
+  pub seat-reslot : (m : List ℕ) (h : ℕ) → Reslotted (blockOf ws a) m (2 ^ d + x) h → Reslot Right ws (withBlock ws a m) a (2 ^ d + x) h
   seat-reslot m h g = record {
     size = with-length ws a m (s .inside) whole;
     outside = with-other ws a m (s .inside) whole;
@@ -101,7 +100,7 @@ module _ (ws : List ℕ) (a k d x : ℕ) (s : Seat ws a k d x) where
     links = λ i w. link i w ∙ g .same-links i w ∙ block-link ws a i w;
     here = slot (2 ^ d + x) slot-lt ∙ g .here;
     slots = λ r l w n. slot r w ∙ g .same-slots r l w n ∙ block-slot ws a r w;
-    right = rw lv (best-local .ext (k + 1) (slots m) (bests m) (slotsOf (withBlock ws a m) a) (bestsOf (withBlock ws a m) a) (λ r l w. slot r w) best (g .right));
+    right = rw lv (best-local .ext (k + 1) (slots m) (bests m) (slotsOf (withBlock ws a m) a) (bestsOf (withBlock ws a m) a) (λ r l w. slot r w) best right);
   }
     where
       whole : length m ≡ 1024
@@ -118,11 +117,22 @@ module _ (ws : List ℕ) (a k d x : ℕ) (s : Seat ws a k d x) where
       slot : (r : ℕ) → r < 512 → slotsOf (withBlock ws a m) a r ≡ slots m r
       slot r w = word r (omega arith)
 
+      cell : (i : ℕ) → i < 256 → getD (withBlock ws a m) (1024 * a + 512 + i) 0 ≡ getD m (512 + i) 0
+      cell i w = let e : 1024 * a + 512 + i ≡ 1024 * a + (512 + i) = omega arith in rw e (word (512 + i) (omega arith))
+
       best : (i : ℕ) → i < 256 → bestsOf (withBlock ws a m) a i ≡ bests m i
-      best i w = let e : 1024 * a + 512 + 2 * i ≡ 1024 * a + (512 + 2 * i) = omega arith in rw e (word (512 + 2 * i) (omega arith))
+      best i w = ap bestIn (cell i w)
 
       link : (i : ℕ) → i < 256 → arraysOf (withBlock ws a m) .link a i ≡ links m i
-      link i w = let e : 1024 * a + 513 + 2 * i ≡ 1024 * a + (513 + 2 * i) = omega arith in rw e (word (513 + 2 * i) (omega arith))
+      link i w = ap linkIn (cell i w)
+
+      -- length 0 is the root's still: no other array has a place for it
+      right : Right (k + 1) (slots m) (bests m)
+      right = record {
+        sound = g .sound;
+        first = λ z. g .same-slots 1 (omega arith) (omega arith) (λ e. ⊎-elim (λ (w : 1 ≤ d). omega (arith, pow-mono {i = 1} {j = d} w)) (λ (w : k ≡ 0). omega arith) (s .own))
+            ∙ block-slot ws a 1 (omega arith) ∙ s .right .first z;
+      }
 
       lv : lev (arraysOf (withBlock ws a m)) a ≡ k + 1
       lv = ap (λ (n : ℕ). n % 32) tag ∙ s .level
@@ -134,6 +144,6 @@ pub record Seated (ws vs : List ℕ) (a d x hop cells : ℕ) : Type 0 where
   pub count : cells ≡ exposed (slotsOf ws a) d (x * 2 ^ (8 - d)) (2 ^ (8 - d))
 
 -- with the words as the code has them
-pub seated : (ws vs m : List ℕ) (a k d x hop cells : ℕ) → Seat ws a k d x → Reslotted (k + 1) (blockOf ws a) m (2 ^ d + x) hop
+pub seated : (ws vs m : List ℕ) (a k d x hop cells : ℕ) → Seat ws a k d x → Reslotted (blockOf ws a) m (2 ^ d + x) hop
     → cells ≡ exposed (slots (blockOf ws a)) d (x * 2 ^ (8 - d)) (2 ^ (8 - d)) → vs ≡ withBlock ws a m → Seated ws vs a d x hop cells
 seated ws vs m a k d x hop cells s g c e = rw e (record { slot = seat-reslot ws a k d x s m hop g; count = c ∙ seat-exposed ws a k d x s })

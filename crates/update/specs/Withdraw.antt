@@ -47,8 +47,8 @@ module _ {L : ℕ} {ws : List ℕ} {a l k d x j b : ℕ} (s : Sought L ws a l k 
     place : Place (arrayCount ws) L (arraysOf ws) b (front L a k) k d x
     place = sought-place s arrived
 
-    pub withdraw-seat : L ≤ 16 → Seat ws b k d x
-    withdraw-seat w = seat-at L 0 ws b (front L a k) k d x (s .ok) w (s .stands .top) place
+    pub withdraw-seat : Seat ws b k d x
+    withdraw-seat = seat-at L 0 ws b (front L a k) k d x (s .ok) place
 
     pub withdraw-slot : slotsOf ws b (2 ^ d + x) ≡ hopFound ws b j k d x
     withdraw-slot = rw (eq-eqb j k arrived)

@@ -51,10 +51,9 @@ fn set(words: &mut [u32], a: usize, p: paths::Place, hop: u32) -> u32
 {
     let from = 1024 * a;
     let to = from + 1024;
-    let k = p.level as u32 + 1;
     let d = p.depth;
     let x = p.value;
-    array::put(&mut words[from..to], k, d, x, hop)
+    array::put(&mut words[from..to], d, x, hop)
 }
 
 // The slot at a place of array a cleared, where it holds a hop.
@@ -64,10 +63,9 @@ fn clear(words: &mut [u32], a: usize, p: paths::Place) -> array::Taken
 {
     let from = 1024 * a;
     let to = from + 1024;
-    let k = p.level as u32 + 1;
     let d = p.depth;
     let x = p.value;
-    array::take(&mut words[from..to], k, d, x)
+    array::take(&mut words[from..to], d, x)
 }
 
 // A route announced to a table. A hop that is held already changes no word; another replaces the one held, in the array that is there.

@@ -39,7 +39,7 @@ fn put(hop: u32, v: usize, bits: usize, buffer: &mut [u8], at: usize) -> usize
 }
 
 // The slot of the lower half of the prefix in `slot`, 0 where there is none; the upper half's is the next. Slot s of an array has its
-// halves at 2 s and 2 s + 1; a cell's, from slot 256 on, has its link at 2 s + 1 and its halves in the array below.
+// halves at 2 s and 2 s + 1; from slot 256 on it stands above a cell, 256 words on, and has its halves in the array below that.
 fn half(words: &[u32], slot: usize) -> usize
     requires { ⌜ Within (now words) slot ⌝ }
     ensures { λ r. ⌜ r ≡ halfOf (now (words .entry)) slot ⌝ }
@@ -48,12 +48,12 @@ fn half(words: &[u32], slot: usize) -> usize
     if s < 256 {
         return slot + s;
     }
-    let at = slot + s + 1;
-    let link = words[at] as usize;
-    if link == 0 {
+    let cell = slot + 256;
+    let below = array::link_in(words[cell]);
+    if below == 0 {
         return 0;
     }
-    1024 * link + 2
+    1024 * below + 2
 }
 
 // The records of all below the prefix v above some bits, which stands in `slot`: the lower half's own and what is below it, then the

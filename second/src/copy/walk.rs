@@ -2,7 +2,7 @@
 
 use super::way::Look;
 use super::HEADER;
-use crate::layout::{cover, Found};
+use crate::layout::Found;
 use crate::refusal::Refusal;
 
 /// The words of a place.
@@ -36,6 +36,15 @@ pub fn look(words: &[u32], m: u32, bits: u32) -> Result<Option<Found>, Refusal> 
         }
     }
     Ok(None)
+}
+
+/// A best match as hop and length, refused where the hop is out of its range or the length over the longest.
+fn cover(best: u32, longest: u32) -> Result<Found, Refusal> {
+    match (best / 256, best % 256) {
+        (0, 0) => Ok(None),
+        (1..=65_535, length) if length <= longest => Ok(Some((best / 256, length))),
+        _ => Err(Refusal::NotATable),
+    }
 }
 
 /// The words of the table of length m, if they lie inside.

@@ -2,7 +2,7 @@
 
 use std::collections::BTreeMap;
 
-use super::{best_of_slots, tag_below, CELLS, ROOT_TAG};
+use super::{best_of_slots, tag_below, with_best, with_link, CELLS, ROOT_TAG};
 use crate::list::{mask, Prefix, RouteList};
 use crate::memory::ARRAY_WORDS;
 
@@ -50,7 +50,8 @@ fn parent(level: u32, head: u32) -> (u32, u32) {
 /// Links array `a` from its parent and tags it. Parents come first in the order of levels, so theirs is set already.
 fn hang(words: &mut [u32], parent: usize, a: usize, level: u32, head: u32) {
     let cell = (head >> (32 - 8 * level) & 255) as usize;
-    words[ARRAY_WORDS * parent + CELLS + 2 * cell + 1] = a as u32;
+    let word = &mut words[ARRAY_WORDS * parent + CELLS + cell];
+    *word = with_link(*word, a as u32 - 1);
     words[ARRAY_WORDS * a] = tag_below(parent, cell, words[ARRAY_WORDS * parent]);
 }
 
@@ -62,8 +63,7 @@ fn slot(prefix: Prefix) -> usize {
 }
 
 fn fill_bests(block: &mut [u32]) {
-    let level = block[0] % 32 - 1;
     for cell in 0..256 {
-        block[CELLS + 2 * cell] = best_of_slots(|slot| block[slot], level, cell);
+        block[CELLS + cell] = with_best(block[CELLS + cell], best_of_slots(|slot| block[slot], cell));
     }
 }

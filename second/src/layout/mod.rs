@@ -7,12 +7,18 @@ mod walk;
 
 pub use lay::lay;
 pub use read::{check, read};
-pub use walk::{cover, walk, Found};
+pub use walk::{walk, Found};
 
 use crate::memory::{arrays_in, ARRAY_WORDS};
 
 /// The first word of the cells within an array; before it stand the tag and the slots.
 pub const CELLS: usize = 512;
+/// The first word after the cells: from there to the array's end no word has a use, whatever it holds.
+pub const UNUSED: usize = 768;
+/// The word of a cell is its best times this, and its link.
+pub const LINKS: u32 = 4096;
+/// A best is the cover's length within the array times this, and its hop.
+pub const HOPS: u32 = 65_536;
 /// The tag of the root, which is array 1.
 pub const ROOT_TAG: u32 = 1;
 /// The levels, one for each byte of an address.
@@ -54,11 +60,15 @@ impl<'a> Arrays<'a> {
     }
 
     pub fn best(&self, a: usize, cell: usize) -> u32 {
-        self.block(a)[CELLS + 2 * cell]
+        self.block(a)[CELLS + cell] / LINKS
     }
 
-    pub fn link(&self, a: usize, cell: usize) -> u32 {
-        self.block(a)[CELLS + 2 * cell + 1]
+    /// The number of the array that the link of a cell leads to, which the words need not hold; 0 for none.
+    pub fn below(&self, a: usize, cell: usize) -> u32 {
+        match self.block(a)[CELLS + cell] % LINKS {
+            0 => 0,
+            link => link + 1,
+        }
     }
 
     /// The array of that number, if the words hold it; 0 is none.
@@ -72,16 +82,24 @@ pub fn tag_below(parent: usize, cell: usize, parent_tag: u32) -> u32 {
     parent as u32 * 8192 + cell as u32 * 32 + (parent_tag % 32 + 1)
 }
 
-/// What the best of a cell must be: the hop and full length of the longest slot of the array that covers the cell.
-pub fn best_of_slots(slots: impl Fn(usize) -> u32, level: u32, cell: usize) -> u32 {
+/// What the best of a cell must be: length within the array and hop of its longest slot that covers the cell.
+pub fn best_of_slots(slots: impl Fn(usize) -> u32, cell: usize) -> u32 {
     let mut slot = 256 + cell;
-    let mut length = 8 * level + 8;
     while slot > 1 && slots(slot) == 0 {
         slot /= 2;
-        length -= 1;
     }
     match slots(slot) {
         0 => 0,
-        hop => hop * 256 + length,
+        hop => slot.ilog2() * HOPS + hop,
     }
+}
+
+/// The word of a cell with this best, its link as it was.
+pub fn with_best(word: u32, best: u32) -> u32 {
+    best * LINKS + word % LINKS
+}
+
+/// The word of a cell with this link, its best as it was.
+pub fn with_link(word: u32, link: u32) -> u32 {
+    word / LINKS * LINKS + link
 }

@@ -1,6 +1,6 @@
 //! Which words are a table, and the list that they stand for.
 
-use super::{best_of_slots, tag_below, Arrays, LEVELS, ROOT_TAG};
+use super::{best_of_slots, tag_below, Arrays, LEVELS, ROOT_TAG, UNUSED};
 use crate::list::{Prefix, RouteList};
 use crate::memory::{Counts, Memory};
 use crate::refusal::Refusal;
@@ -39,7 +39,7 @@ fn header_right(arrays: &Arrays) -> bool {
 }
 
 fn free_is_zero(arrays: &Arrays, a: usize) -> bool {
-    arrays.tag(a) != 0 || arrays.block(a).iter().all(|&word| word == 0)
+    arrays.tag(a) != 0 || arrays.block(a)[..UNUSED].iter().all(|&word| word == 0)
 }
 
 /// A used array but the root hangs where its tag says, and holds something.
@@ -49,18 +49,18 @@ fn tag_right(arrays: &Arrays, a: usize) -> bool {
         return true;
     }
     let hangs = match arrays.held(tag / 8192) {
-        Some(parent) => arrays.link(parent, (tag / 32 % 256) as usize) == a as u32,
+        Some(parent) => arrays.below(parent, (tag / 32 % 256) as usize) == a as u32,
         None => false,
     };
-    hangs && ((2..512).any(|slot| arrays.slot(a, slot) != 0) || (0..256).any(|cell| arrays.link(a, cell) != 0))
+    hangs && ((2..512).any(|slot| arrays.slot(a, slot) != 0) || (0..256).any(|cell| arrays.below(a, cell) != 0))
 }
 
 /// Each link leads to an array whose tag names that cell, one level down, and none leaves the last level.
 fn links_right(arrays: &Arrays, a: usize) -> bool {
     let tag = arrays.tag(a);
-    (0..256).all(|cell| match arrays.link(a, cell) {
+    (0..256).all(|cell| match arrays.below(a, cell) {
         0 => true,
-        link => match arrays.held(link) {
+        number => match arrays.held(number) {
             Some(below) => tag % 32 < LEVELS && arrays.tag(below) == tag_below(a, cell, tag),
             None => false,
         },
@@ -72,10 +72,8 @@ fn slots_right(arrays: &Arrays, a: usize) -> bool {
     in_range && (a == 1 || arrays.slot(a, 1) == 0)
 }
 
-/// The level comes from a tag that hangs below the root, so it is one of the four.
 fn bests_right(arrays: &Arrays, a: usize) -> bool {
-    let level = arrays.tag(a) % 32 - 1;
-    (0..256).all(|cell| arrays.best(a, cell) == best_of_slots(|slot| arrays.slot(a, slot), level, cell))
+    (0..256).all(|cell| arrays.best(a, cell) == best_of_slots(|slot| arrays.slot(a, slot), cell))
 }
 
 /// Adds the routes of array `a`, whose head is `head`, and of all that hangs below it.
@@ -91,7 +89,7 @@ fn collect(arrays: &Arrays, a: usize, level: u32, head: u32, list: &mut RouteLis
         }
     }
     for cell in 0..256 {
-        if let Some(below) = arrays.held(arrays.link(a, cell)) {
+        if let Some(below) = arrays.held(arrays.below(a, cell)) {
             collect(arrays, below, level + 1, head | (cell as u32) << (24 - 8 * level), list);
         }
     }

@@ -5,17 +5,17 @@ use Rattle.array.proofs.Laws.{empty-slot, empty-link}
 use Rattle.array.proofs.empty.Statement.{statement}
 use Rattle.array.proofs.empty.Tie as tie
 
-zeros-requires : tie.Need-zeros-requires
-zeros-requires c κs = search needs
+slotless-requires : tie.Need-slotless-requires
+slotless-requires c κs = search needs
 
-zeros-requires-2 : tie.Need-zeros-requires-2
-zeros-requires-2 c κs = search needs
+linkless-requires : tie.Need-linkless-requires
+linkless-requires c κs = search needs
 
 returns : tie.Need-returns
-returns c = c .zeros2 .ensures ∙ empty-link (c .before .before .before .before .args .block .now) (sym (c .before .before .zeros .ensures) ∙ c .before .if1 .taken)
+returns c = c .linkless .ensures ∙ empty-link (c .before .before .before .before .args .block .now) (sym (c .before .before .slotless .ensures) ∙ c .before .if1 .taken)
 
 returns-2 : tie.Need-returns-2
-returns-2 c = c .if1 .left ∙ empty-slot (c .before .before .before .args .block .now) (sym (c .before .zeros .ensures) ∙ c .if1 .left)
+returns-2 c = c .if1 .left ∙ empty-slot (c .before .before .before .args .block .now) (sym (c .before .slotless .ensures) ∙ c .if1 .left)
 
 pub empty-spec : {M : Type 1} → statement M
-empty-spec = tie.close (tie.spec zeros-requires zeros-requires-2 returns returns-2)
+empty-spec = tie.close (tie.spec slotless-requires linkless-requires returns returns-2)

@@ -6,9 +6,6 @@ use Rattle.array.proofs.Laws.{reslot-climbs, reslot-done}
 use Rattle.array.proofs.reslot.Statement.{statement}
 use Rattle.array.proofs.reslot.Tie as tie
 
-base-of-requires : tie.Need-base-of-requires
-base-of-requires c κs = search needs
-
 slot-of-requires : tie.Need-slot-of-requires
 slot-of-requires c κs = search needs
 
@@ -32,17 +29,12 @@ slice-write-block c = search needs
 
 cover-requires : tie.Need-cover-requires
 cover-requires c κs =
-    let s = c .before .before .before .before .before .before in
-    let a = s .args in
-    let b = c .before .before .before .before .base-of in
+    let s = c .before .before .before .before .before in
     let t = c .before .before .before .slot-of in
-    reslot-climbs (a .k) (a .block .now) (a .d) (a .x) (a .hop) (b .result) (t .result) (s .pre .0) (s .pre .1) (b .ensures .0) (t .ensures .0)
+    reslot-climbs (s .args .block .now) (s .args .d) (s .args .x) (s .args .hop) (t .result) (s .pre .0) (s .pre .1) (t .ensures .0)
 
 cast-rewrite : tie.Need-cast-rewrite
 cast-rewrite c = search needs
-
-add-rewrite : tie.Need-add-rewrite
-add-rewrite c = search needs
 
 rewrite-requires : tie.Need-rewrite-requires
 rewrite-requires c κs = search needs
@@ -52,21 +44,19 @@ same-length c = c .before .before .rewrite .kept .0 ∙ simp length-set
 
 returns : tie.Need-returns
 returns c =
-    let s = c .before .before .before .before .before .before .before .before .before .before .before in
+    let s = c .before .before .before .before .before .before .before .before .before .before in
     let a = s .args in
-    let b = c .before .before .before .before .before .before .before .before .before .base-of in
     let t = c .before .before .before .before .before .before .before .before .slot-of in
     let f = c .before .before .before .before .before .before .before .first-cell in
     let z = c .before .before .before .before .before .before .pow2 in
     let v = c .before .before .before .before .cover in
     let w = c .before .before .rewrite in
-    reslot-done (a .k) (a .block .now) (a .d) (a .x) (a .hop) (b .result) (t .result) (s .pre .0) (s .pre .1) (b .ensures .0) (t .ensures .0) (f .result) (z .result) (v .result) (w .last .0) (w .result) (f .ensures .0) (z .ensures) (v .ensures) (w .ensures .0) (w .ensures .1)
+    reslot-done (a .block .now) (a .d) (a .x) (a .hop) (t .result) (s .pre .0) (s .pre .1) (t .ensures .0) (f .result) (z .result) (v .result) (w .last .0) (w .result) (f .ensures .0) (z .ensures) (v .ensures .0) (w .ensures .0) (w .ensures .1)
 
 pub reslot-spec : {M : Type 1} → statement M
 reslot-spec =
     tie.close
     (tie.spec
-    base-of-requires
     slot-of-requires
     first-cell-requires
     sub-pow2
@@ -76,7 +66,6 @@ reslot-spec =
     slice-write-block
     cover-requires
     cast-rewrite
-    add-rewrite
     rewrite-requires
     same-length
     returns)

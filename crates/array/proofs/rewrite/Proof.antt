@@ -1,77 +1,80 @@
 -- `array::rewrite` meets its contract. The block is the one at the start with the cells passed rewritten, and the number is that of those that gave way. Assumes nothing.
-use mathlib.Core.Path.{_≡_, sym, _∙_}
+use mathlib.Core.Path.{_≡_, sym, ap, _∙_}
 use mathlib.Core.Logic.{⊎-elim}
-use Prim.Native.Nat.{_-_, _≤_}
+use Prim.Native.Nat.{ℕ, _+_, _-_, _≤_}
 use native.Mathlib.Omega.{arith}
 use borrow.Author.Needs.{needs}
-use lib.ListN.{length, length-set}
-use Rattle.array.specs.Rewrite.{over, mapCells, yielding, map-none, map-given, map-kept, count-none, count-given, count-kept}
+use lib.ListN.{length, set, length-set}
+use Rattle.array.specs.Rewrite.{yieldsB, over, mapCells, yielding, map-none, map-given, map-kept, count-none, count-given, count-kept}
 use Rattle.array.proofs.rewrite.Statement.{statement}
 use Rattle.array.proofs.rewrite.Tie as tie
 
 abbrev Inv-loop : tie.InvT-loop
-Inv-loop block₀ from to len best cells₀ i₀ block cells i = (length block ≡ 1024) × (from ≤ i) × (i ≤ to) × (cells ≤ i) × (block ≡ mapCells (over len best) block₀ from (i - from)) × (cells ≡ yielding block₀ len from (i - from))
+Inv-loop block₀ from to d best cells₀ i₀ block cells i = (length block ≡ 1024) × (from ≤ i) × (i ≤ to) × (cells ≤ i) × (block ≡ mapCells (over d best) block₀ from (i - from)) × (cells ≡ yielding block₀ d from (i - from))
 
 abbrev μ-loop : tie.MeasureT-loop
-μ-loop block₀ from to len best cells₀ i₀ block cells i = to - i
+μ-loop block₀ from to d best cells₀ i₀ block cells i = to - i
 
 loop-holds : tie.Need-loop-holds Inv-loop μ-loop
 loop-holds c = (omega arith, omega arith, omega arith, omega arith, map-none _ _ _ _, count-none _ _ _)
 
-mul-cell : tie.Need-mul-cell Inv-loop μ-loop
-mul-cell c = omega arith
-
 add-cell : tie.Need-add-cell Inv-loop μ-loop
-add-cell c = omega arith
+add-cell c = search needs
 
-mul-yields : tie.Need-mul-yields Inv-loop μ-loop
-mul-yields c = omega arith
+mul-word : tie.Need-mul-word Inv-loop μ-loop
+mul-word c = search needs
 
-slice-read-yields : tie.Need-slice-read-yields Inv-loop μ-loop
-slice-read-yields c = omega arith
+slice-read-word : tie.Need-slice-read-word Inv-loop μ-loop
+slice-read-word c = search needs
+
+best-in-requires : tie.Need-best-in-requires Inv-loop μ-loop
+best-in-requires c κs = search needs
 
 yields-requires : tie.Need-yields-requires Inv-loop μ-loop
 yields-requires c κs = search needs
 
+with-best-requires : tie.Need-with-best-requires Inv-loop μ-loop
+with-best-requires c κs = search needs
+
 mul-block : tie.Need-mul-block Inv-loop μ-loop
-mul-block c = omega arith
+mul-block c = search needs
 
 slice-write-block : tie.Need-slice-write-block Inv-loop μ-loop
-slice-write-block c = omega arith
+slice-write-block c = search needs
 
 add-cells : tie.Need-add-cells Inv-loop μ-loop
-add-cells c = omega arith
+add-cells c = search needs
 
 add-i : tie.Need-add-i Inv-loop μ-loop
-add-i c = omega arith
+add-i c = search needs
 
 loop-less : tie.Need-loop-less Inv-loop μ-loop
-loop-less c = omega arith
+loop-less c = search needs
 
 loop-again : tie.Need-loop-again Inv-loop μ-loop
 loop-again c =
-    let a = c .before .before .before .before .before .before .args in
-    let l = c .before .before .before .before .loop in
+    let a = c .before .before .before .before .before .before .before .args in
+    let l = c .before .before .before .before .before .loop in
     ⊎-elim
     (λ w.
-    let h = sym (c .before .yields .ensures) ∙ w .0 .taken in
-    rw (w .1, w .2) (
+    let h = sym (c .before .yields .ensures ∙ ap (λ (z : ℕ). yieldsB z (a .d)) (c .before .before .best-in .ensures .0)) ∙ w .0 .taken in
+    rw (w .2, w .3) (
       simp length-set (omega arith),
       omega arith,
       omega arith,
       omega arith,
-      map-given (a .len) (a .best) (a .block .now) (l .block) (a .from) (l .i) (omega arith) (l .inv .4) h,
-      omega (arith, count-given (a .len) (a .best) (a .block .now) (l .block) (a .from) (l .i) (omega arith) (l .inv .4) h, l .inv .5),
+      ap (set (l .block) (512 + l .i)) (w .1 .ensures) ∙ map-given (a .d) (a .best) (a .block .now) (l .block) (a .from) (l .i) (omega arith) (l .inv .4) h,
+      omega (arith, count-given (a .d) (a .best) (a .block .now) (l .block) (a .from) (l .i) (omega arith) (l .inv .4) h, l .inv .5),
     ))
     (λ w.
-    let h = sym (c .before .yields .ensures) ∙ w .0 .left in
+    let h = sym (c .before .yields .ensures ∙ ap (λ (z : ℕ). yieldsB z (a .d)) (c .before .before .best-in .ensures .0)) ∙ w .0 .left in
     rw (w .1, w .2) (
       omega arith,
       omega arith,
       omega arith,
       omega arith,
-      map-kept (a .len) (a .best) (a .block .now) (l .block) (a .from) (l .i) (omega arith) (l .inv .4) h,
-      omega (arith, count-kept (a .len) (a .best) (a .block .now) (l .block) (a .from) (l .i) (omega arith) (l .inv .4) h, l .inv .5),
+      map-kept (a .d) (a .best) (a .block .now) (l .block) (a .from) (l .i) (omega arith) (l .inv .4) h,
+      omega (arith, count-kept (a .d) (a .best) (a .block .now) (l .block) (a .from) (l .i) (omega arith) (l .inv .4) h, l .inv .5),
     ))
     (c .if1 .came)
 
@@ -92,11 +95,12 @@ rewrite-spec =
     Inv-loop
     μ-loop
     loop-holds
-    mul-cell
     add-cell
-    mul-yields
-    slice-read-yields
+    mul-word
+    slice-read-word
+    best-in-requires
     yields-requires
+    with-best-requires
     mul-block
     slice-write-block
     add-cells

@@ -23,27 +23,23 @@ returns-2 c =
     let a = c .before .before .before .before .before .before .args in
     right-first (a .k) (a .block .now) (sym (c .before .before .before .before .hops .ensures) ∙ not-false _ (c .before .before .before .if1 .left)) (c .before .before .if2 .taken) (eqb-false _ 0 (not-true _ (c .if3 .taken)))
 
-base-of-requires : tie.Need-base-of-requires
-base-of-requires c κs = search needs
-
 covers-requires : tie.Need-covers-requires
 covers-requires c κs =
-    let a = c .before .before .before .before .before in
-    (a .pre .0, c .base-of .ensures .1, small-hops (a .args .k) (a .args .block .now) (sym (c .before .before .before .hops .ensures) ∙ not-false _ (c .before .before .if1 .left)))
+    let a = c .before .before .before .before in
+    (a .pre, small-hops (a .args .k) (a .args .block .now) (sym (c .before .before .hops .ensures) ∙ not-false _ (c .before .if1 .left)))
 
 bests-are-requires : tie.Need-bests-are-requires
 bests-are-requires c κs = search needs
 
 returns-3 : tie.Need-returns-3
 returns-3 c =
-    let a = c .before .before .before .before .before .before .before .before .args in
-    let h = sym (c .before .before .before .before .before .before .hops .ensures) ∙ not-false _ (c .before .before .before .before .before .if1 .left) in
-    let b = c .before .before .before .base-of in
+    let a = c .before .before .before .before .before .before .before .args in
+    let h = sym (c .before .before .before .before .before .hops .ensures) ∙ not-false _ (c .before .before .before .before .if1 .left) in
     c .bests-are .ensures
     ∙ ⊎-elim
-    (λ w. right-none (a .k) (a .block .now) (b .result) (b .ensures .0) h (eqb-true _ 0 (not-false _ (w .2 .left))))
-    (λ w. right-low (a .k) (a .block .now) (b .result) (b .ensures .0) h (w .left))
-    (c .before .before .before .before .if2 .came)
+    (λ w. right-none (a .k) (a .block .now) h (eqb-true _ 0 (not-false _ (w .2 .left))))
+    (λ w. right-low (a .k) (a .block .now) h (w .left))
+    (c .before .before .before .if2 .came)
 
 pub right-spec : {M : Type 1} → statement M
 right-spec =
@@ -53,7 +49,6 @@ right-spec =
     returns
     shared-slice-read-if3
     returns-2
-    base-of-requires
     covers-requires
     bests-are-requires
     returns-3)

@@ -7,7 +7,7 @@ returns : tie.Need-returns
 returns c = ended-bad _ (c .if1 .taken)
 
 returns-2 : tie.Need-returns-2
-returns-2 c = ended-none _ (c .if2 .taken)
+returns-2 c = ended-none _ (c .before .if1 .left) (c .if2 .taken)
 
 returns-3 : tie.Need-returns-3
 returns-3 c = ended-found _ (c .before .if1 .left) (c .if2 .left)

@@ -1,13 +1,20 @@
 -- `lookup::newer` keeps the best of the deeper cell: by its two cases. Assumes nothing.
 use borrow.Author.Tests.{eq-eqb, ne-eqb}
+use borrow.Author.Needs.{needs}
 use Rattle.lookup.proofs.newer.Statement.{statement}
 use Rattle.lookup.proofs.newer.Tie as tie
 
+mul-result : tie.Need-mul-result
+mul-result c = search needs
+
+add-result : tie.Need-add-result
+add-result c = search needs
+
 returns : tie.Need-returns
-returns c = rw (eq-eqb (c .before .args .own) 0 (c .if1 .taken))
+returns c = rw (eq-eqb _ 0 (c .if1 .taken))
 
 returns-2 : tie.Need-returns-2
-returns-2 c = rw (ne-eqb (c .before .args .own) 0 (c .if1 .left))
+returns-2 c = rw (ne-eqb _ 0 (c .if1 .left))
 
 pub newer-spec : {M : Type 1} → statement M
-newer-spec = tie.close (tie.spec returns returns-2)
+newer-spec = tie.close (tie.spec mul-result add-result returns returns-2)

@@ -1,7 +1,9 @@
 -- `paths::walk_down` meets its contract. At each turn a is the array of the first j bytes; a link that leads nowhere is where the path stops.
 -- Assumes nothing.
-use Prim.Native.Nat.{_+_, _-_, _*_, _≤_, _<_}
+use mathlib.Core.Path.{sym, _∙_}
+use Prim.Native.Nat.{_-_, _≤_, _<_}
 use native.Mathlib.Omega.{arith}
+use borrow.Author.Needs.{needs}
 use Rattle.paths.specs.Stop.{On, on-root, on-step}
 use Rattle.paths.proofs.walk_down.Statement.{statement}
 use Rattle.paths.proofs.walk_down.Tie as tie
@@ -16,46 +18,31 @@ loop-holds : tie.Need-loop-holds Inv-loop μ-loop
 loop-holds c = (omega arith, omega arith, on-root 4 (c .before .args .words .now) (c .before .args .address) (omega arith))
 
 byte-of-requires : tie.Need-byte-of-requires Inv-loop μ-loop
-byte-of-requires c κs = omega arith
+byte-of-requires c κs = search needs
 
-mul-b : tie.Need-mul-b Inv-loop μ-loop
-mul-b c = omega arith
-
-add-b : tie.Need-add-b Inv-loop μ-loop
-add-b c = omega arith
-
-mul-b-2 : tie.Need-mul-b-2 Inv-loop μ-loop
-mul-b-2 c = omega arith
-
-add-b-2 : tie.Need-add-b-2 Inv-loop μ-loop
-add-b-2 c = omega arith
-
-mul-b-3 : tie.Need-mul-b-3 Inv-loop μ-loop
-mul-b-3 c = omega arith
-
-shared-slice-read-b : tie.Need-shared-slice-read-b Inv-loop μ-loop
-shared-slice-read-b c = omega arith
-
-cast-b : tie.Need-cast-b Inv-loop μ-loop
-cast-b c = omega (arith, c .shared-slice-known2 .given (1024 * c .before .before .before .loop .a + 513 + 2 * c .before .byte-of .result))
+below-requires : tie.Need-below-requires Inv-loop μ-loop
+below-requires c κs =
+    let o = c .before .before .loop .inv .2 in
+    (omega (arith, o .within), omega arith, c .byte-of .ensures .1)
 
 returns : tie.Need-returns Inv-loop μ-loop
 returns c =
     let l = c .before .before .before .before .loop in
-    record { on = l .inv .2; low = omega arith; off = λ h. rw (← (c .before .before .byte-of .ensures .0)) (c .if1 .taken) }
+    record { on = l .inv .2; low = omega arith; off = λ h. rw (← (c .before .before .byte-of .ensures .0)) (sym (c .before .below .ensures .0) ∙ c .if1 .taken) }
 
 add-j : tie.Need-add-j Inv-loop μ-loop
-add-j c = omega arith
+add-j c = search needs
 
 loop-less : tie.Need-loop-less Inv-loop μ-loop
-loop-less c = omega arith
+loop-less c = search needs
 
 loop-again : tie.Need-loop-again Inv-loop μ-loop
 loop-again c =
     let l = c .before .before .before .before .loop in
     let s = c .before .before .before .before .before .before in
-    let o = on-step 4 (s .args .words .now) (s .args .address) (s .pre .1) (l .j) (l .a) (c .before .before .byte-of .result) (l .inv .2) (omega arith) (c .before .before .byte-of .ensures .0) (c .if1 .left) in
-    (omega arith, omega (arith, o .within), o)
+    let e = c .before .below .ensures .0 in
+    let o = on-step 4 (s .args .words .now) (s .args .address) (s .pre .1) (l .j) (l .a) (c .before .before .byte-of .result) (l .inv .2) (omega arith) (c .before .before .byte-of .ensures .0) (λ z. c .if1 .left (e ∙ z)) in
+    (omega arith, omega arith, rw e o)
 
 returns-2 : tie.Need-returns-2 Inv-loop μ-loop
 returns-2 c =
@@ -70,13 +57,7 @@ walk-down-spec =
     μ-loop
     loop-holds
     byte-of-requires
-    mul-b
-    add-b
-    mul-b-2
-    add-b-2
-    mul-b-3
-    shared-slice-read-b
-    cast-b
+    below-requires
     returns
     add-j
     loop-less

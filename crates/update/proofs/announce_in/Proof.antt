@@ -3,7 +3,6 @@
 -- table again. Assumes nothing.
 use mathlib.Core.Path.{sym, _∙_}
 use native.Mathlib.Omega.{arith}
-use lib.Dec.{lit≤}
 use borrow.Author.Needs.{needs}
 use Rattle.paths.specs.Held.{Sought, stands-small}
 use Rattle.update.specs.Announce.{announce-same, announce-full, announce-seat, announce-done}
@@ -55,7 +54,7 @@ set-requires : tie.Need-set-requires
 set-requires c κs =
     let w = c .before .before .before .before .before .before .before in
     let o = c .before .before .before .before .«open» in (
-      announce-seat (sought w) (c .before .before .before .before .before .before .before .before .before .before .before .before .before .args .hop) (λ z. c .before .before .before .before .before .before .if1 .left (w .hop-at .ensures ∙ z)) (c .before .before .before .before .before .before .before .before .before .before .before .before .before .pre .2) (o .last .0) (o .result) (o .ensures) (c .before .if2 .left) (lit≤ tt),
+      announce-seat (sought w) (c .before .before .before .before .before .before .before .before .before .before .before .before .before .args .hop) (λ z. c .before .before .before .before .before .before .if1 .left (w .hop-at .ensures ∙ z)) (c .before .before .before .before .before .before .before .before .before .before .before .before .before .pre .2) (o .last .0) (o .result) (o .ensures) (c .before .if2 .left),
       c .before .before .before .before .before .before .before .before .before .before .before .before .before .pre .2,
       omega (arith, c .before .before .before .before .before .before .before .before .before .before .before .before .before .pre .3),
     )

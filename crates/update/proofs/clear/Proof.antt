@@ -13,12 +13,6 @@ mul-from c = search needs
 add-to : tie.Need-add-to
 add-to c = search needs
 
-cast-k : tie.Need-cast-k
-cast-k c = search needs
-
-add-k : tie.Need-add-k
-add-k c = search needs
-
 mul-take : tie.Need-mul-take
 mul-take c = search needs
 
@@ -33,7 +27,7 @@ part-take-end c = search needs
 
 take-requires : tie.Need-take-requires
 take-requires c κs =
-    let t = c .before .before .before in
+    let t = c .before .before in
     let p = t .args .p in
     let e : 1024 * t .args .a + 1024 - 1024 * t .args .a ≡ 1024 = omega arith in
     rw (e, seat-slot (t .args .words .now) (t .args .a) (p .level) (p .depth) (p .value) (t .pre .0))
@@ -44,7 +38,7 @@ same-length c = search needs
 
 returns : tie.Need-returns
 returns c =
-    let t = c .before .before .before .before .before .before in
+    let t = c .before .before .before .before .before in
     let p = t .args .p in
     let e : 1024 * t .args .a + 1024 - 1024 * t .args .a ≡ 1024 = omega arith in
     let g = rw e at (c .before .before .take .ensures) in
@@ -59,8 +53,6 @@ clear-spec =
     (tie.spec
     mul-from
     add-to
-    cast-k
-    add-k
     mul-take
     sub-take
     part-take-start

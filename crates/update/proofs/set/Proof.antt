@@ -13,12 +13,6 @@ mul-from c = search needs
 add-to : tie.Need-add-to
 add-to c = search needs
 
-cast-k : tie.Need-cast-k
-cast-k c = search needs
-
-add-k : tie.Need-add-k
-add-k c = search needs
-
 mul-put : tie.Need-mul-put
 mul-put c = search needs
 
@@ -33,7 +27,7 @@ part-put-end c = search needs
 
 put-requires : tie.Need-put-requires
 put-requires c κs =
-    let t = c .before .before .before in
+    let t = c .before .before in
     let p = t .args .p in
     let e : 1024 * t .args .a + 1024 - 1024 * t .args .a ≡ 1024 = omega arith in
     (rw e (seat-spot (t .args .words .now) (t .args .a) (p .level) (p .depth) (p .value) (t .pre .0)), t .pre .1, t .pre .2)
@@ -43,7 +37,7 @@ same-length c = search needs
 
 returns : tie.Need-returns
 returns c =
-    let t = c .before .before .before .before .before .before in
+    let t = c .before .before .before .before .before in
     let p = t .args .p in
     let e : 1024 * t .args .a + 1024 - 1024 * t .args .a ≡ 1024 = omega arith in
     let g = rw e at (c .before .before .put .ensures) in
@@ -55,8 +49,6 @@ set-spec =
     (tie.spec
     mul-from
     add-to
-    cast-k
-    add-k
     mul-put
     sub-put
     part-put-start

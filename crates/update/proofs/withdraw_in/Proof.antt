@@ -2,7 +2,6 @@
 -- empty, and pruning makes a table again. Assumes nothing.
 use mathlib.Core.Path.{sym, _∙_}
 use native.Mathlib.Omega.{arith}
-use lib.Dec.{lit≤}
 use borrow.Author.Needs.{needs}
 use Rattle.paths.specs.Held.{Sought, stands-small}
 use Rattle.update.specs.Withdraw.{withdraw-none, withdraw-seat, withdraw-taken, withdraw-loose, withdraw-done}
@@ -40,7 +39,7 @@ returns c = withdraw-none (sought (c .before)) (sym (c .before .hop-at .ensures)
 clear-requires : tie.Need-clear-requires
 clear-requires c κs =
     let w = c .before .before in
-    (withdraw-seat (sought w) (λ z. c .before .if1 .left (w .hop-at .ensures ∙ z)) (lit≤ tt), withdraw-taken (sought w) (λ z. c .before .if1 .left (w .hop-at .ensures ∙ z)))
+    (withdraw-seat (sought w) (λ z. c .before .if1 .left (w .hop-at .ensures ∙ z)), withdraw-taken (sought w) (λ z. c .before .if1 .left (w .hop-at .ensures ∙ z)))
 
 prune-requires : tie.Need-prune-requires
 prune-requires c κs =
