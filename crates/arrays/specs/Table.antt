@@ -8,7 +8,6 @@ use lib.ListN.{length, getD}
 use Rattle.routes.specs.Seen.{Seen, misfit, foreign, table, misfits}
 use Rattle.laws.specs.Collect.{routes}
 use Rattle.laws.specs.Tells.{allB}
-use Rattle.array.specs.Block.{Right}
 use Rattle.array.specs.Check.{rightB, emptyB}
 use Rattle.arrays.specs.Arrays.{lev, held}
 use Rattle.arrays.specs.Words.{arraysOf, arrayCount, slotsOf, bestsOf, usedIn, Almost}
@@ -46,4 +45,4 @@ seen L ws = cond (misfits (length ws)) misfit (cond (tableB L ws) (table (arrayC
 
 -- the same as conditions
 abbrev pub Table : ℕ → List ℕ → Type 0
-Table L ws = Almost Right L 0 ws
+Table L ws = Almost L 0 ws

@@ -8,21 +8,19 @@ use mathlib.Core.List.{List}
 use Prim.Native.Nat.{ℕ, suc, _+_, _-_, _*_, _/_, _≤_, _<_}
 use native.Mathlib.Omega.{arith}
 use lib.ListN.{length, getD}
-use Rattle.array.specs.Block.{Right}
 use Rattle.arrays.specs.Arrays.{node, held}
 use Rattle.arrays.specs.Tree.{Level, node-level}
 use Rattle.arrays.specs.Need.{node-child, node-above}
 use Rattle.arrays.specs.Words.{arraysOf, arrayCount, firstFree, gained, Almost, Gains}
 use Rattle.arrays.specs.Hang.{Hang, hang-held, other, node-cases}
 use Rattle.arrays.specs.Rehang.{Gain, gained-hang, gained-almost, gained-length, gained-counted}
-use Rattle.arrays.specs.Best.{best-local}
 use Rattle.arrays.specs.Stock.{Found, find-some, used-full}
 use Rattle.paths.specs.Address.{front, byteOf, byte-lt, front-more, front-up}
 use Rattle.paths.specs.Alike.{Alike, gained-alike}
 
 -- a table of L levels but for b, the array of the first 8 * j bits q, whose cell i is without a link
 pub record Tip (L : ℕ) (ws : List ℕ) (q j b i : ℕ) : Type 0 where
-  pub ok : Almost Right L b ws
+  pub ok : Almost L b ws
   pub some : 1 ≤ b
   pub leads : node (arraysOf ws) q j ≡ b
   pub cells : i < 256
@@ -30,7 +28,7 @@ pub record Tip (L : ℕ) (ws : List ℕ) (q j b i : ℕ) : Type 0 where
 
 -- vs is ws with arrays hung at the levels j + 1 .. k of a's path; r is that of level k
 pub record Grown (L : ℕ) (ws vs : List ℕ) (a j k r : ℕ) : Type 0 where
-  pub ok : Almost Right L r vs
+  pub ok : Almost L r vs
   pub some : 1 ≤ r
   pub size : length vs ≡ length ws
   pub leads : node (arraysOf vs) (front L a k) k ≡ r
@@ -48,7 +46,7 @@ module _ (L : ℕ) (ws : List ℕ) (q j b i : ℕ) (tip : Tip L ws q j b i) (dee
   vs = gained ws b i f
 
   fo : Found (arraysOf ws) 1 (arrayCount ws) f
-  fo = find-some Right L b ws (tip .ok) room
+  fo = find-some L b ws (tip .ok) room
 
   lv : Level (arrayCount ws) (arraysOf ws) b j
   lv = rw (tip .leads) at (node-level (arrayCount ws) L (arraysOf ws) (tip .ok .shape) q j (rw (tip .leads) (tip .some)))
@@ -67,7 +65,7 @@ module _ (L : ℕ) (ws : List ℕ) (q j b i : ℕ) (tip : Tip L ws q j b i) (dee
   }
 
   hang : Hang (arrayCount ws) L (arraysOf ws) (arraysOf vs) b i f
-  hang = gained-hang Right best-local L ws b i f (tip .ok) gn
+  hang = gained-hang L ws b i f (tip .ok) gn
 
   pub can-gain : Gains ws b i f
   can-gain = record {
@@ -96,8 +94,8 @@ module _ (L : ℕ) (ws : List ℕ) (q j b i : ℕ) (tip : Tip L ws q j b i) (dee
   leads : node (arraysOf vs) (q * 256 + i) (suc j) ≡ f
   leads = node-child (arraysOf vs) q j i (tip .cells) (rw stay-tip (tip .some)) ∙ rw stay-tip (hang .on)
 
-  ok : Almost Right L f vs
-  ok = gained-almost Right best-local L ws b i f (tip .ok) gn
+  ok : Almost L f vs
+  ok = gained-almost L ws b i f (tip .ok) gn
 
   -- the fresh array is a tip itself, at any cell
   grow-tip : (y : ℕ) → y < 256 → Tip L vs (q * 256 + i) (suc j) f y
@@ -117,7 +115,7 @@ pub record Turn (L : ℕ) (ws vs : List ℕ) (a j i b : ℕ) : Type 0 where
   pub grown : Grown L ws vs a j i b
   pub tip : Tip L vs (front L a i) i b (byteOf L a i)
 
-pub grown-none : (L : ℕ) (ws : List ℕ) (a j b : ℕ) → Almost Right L b ws → 1 ≤ b → node (arraysOf ws) (front L a j) j ≡ b → Grown L ws ws a j j b
+pub grown-none : (L : ℕ) (ws : List ℕ) (a j b : ℕ) → Almost L b ws → 1 ≤ b → node (arraysOf ws) (front L a j) j ≡ b → Grown L ws ws a j j b
 grown-none L ws a j b ok h e = record { ok = ok; some = h; size = refl; leads = e; held = λ v l. refl; count = omega arith; others = λ c l n w m. refl }
 
 pub turn-first : (L : ℕ) (ws : List ℕ) (a j b : ℕ) → j < L → Tip L ws (front L a j) j b (byteOf L a j) → Turn L ws ws a j j b
@@ -164,10 +162,10 @@ module _ {L : ℕ} {ws vs : List ℕ} {a j i b : ℕ} (t : Turn L ws vs a j i b)
         record {
           ok = ok L vs (front L a i) i b Y (t .tip) deep room;
           some = fo L vs (front L a i) i b Y (t .tip) deep room .low;
-          size = gained-length Right best-local L vs b Y F (t .tip .ok) g ∙ t .grown .size;
+          size = gained-length L vs b Y F (t .tip .ok) g ∙ t .grown .size;
           leads = leads-on;
           held = λ v l. hang-held (arrayCount vs) L (arraysOf vs) (arraysOf U) b Y F (hang L vs (front L a i) i b Y (t .tip) deep room) (t .tip .ok .shape) v l ∙ t .grown .held v l;
-          count = omega (arith, gained-counted Right best-local L vs b Y F (t .tip .ok) g .count, t .grown .count, t .low);
+          count = omega (arith, gained-counted L vs b Y F (t .tip .ok) g .count, t .grown .count, t .low);
           others = others;
         }
 

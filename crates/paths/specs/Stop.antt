@@ -6,7 +6,6 @@ use Prim.Native.Nat.{ℕ, suc, _+_, _-_, _*_, _/_, _^_, _≤_, _<_}
 use native.Mathlib.Omega.{arith}
 use lib.ListN.{getD}
 use Rattle.laws.specs.Cases.{same}
-use Rattle.array.specs.Block.{Right}
 use Rattle.arrays.specs.Arrays.{node, Shape}
 use Rattle.arrays.specs.Tree.{node-level}
 use Rattle.arrays.specs.Need.{node-child}
@@ -79,9 +78,9 @@ pub record Opened (L : ℕ) (ws vs : List ℕ) (a j k r : ℕ) : Type 0 where
   pub none : r ≡ 0 → (vs ≡ ws) × (arrayCount ws < getD ws 0 0 + (k - j))
   pub some : r ≢ 0 → Grown L ws vs a j k r
 
-module _ (L : ℕ) (ws : List ℕ) (a k j b : ℕ) (ok : Almost Right L 0 ws) (p : Stops L ws a k j b) where
+module _ (L : ℕ) (ws : List ℕ) (a k j b : ℕ) (ok : Almost L 0 ws) (p : Stops L ws a k j b) where
   -- any array may be empty
-  weaken : Almost Right L b ws
+  weaken : Almost L b ws
   weaken = record {
     whole = ok .whole;
     low = ok .low;

@@ -18,14 +18,12 @@ use Rattle.routes.specs.Answers.{Update, announce, done, refused, lacking, verd
 use Rattle.laws.specs.Cases.{bool, same}
 use Rattle.laws.specs.Sorted.{insert-same, insert-held}
 use Rattle.laws.specs.Collect.{routes, routeOf, routes-from, routes-goods}
-use Rattle.array.specs.Block.{Right}
 use Rattle.arrays.specs.Arrays.{Arrays, node, held, HasSlot, HasLink}
 use Rattle.arrays.specs.Words.{arraysOf, arrayCount, Almost}
 use Rattle.arrays.specs.Table.{Table, listOf}
 use Rattle.arrays.specs.Tree.{Level, node-level}
 use Rattle.arrays.specs.Slot.{Place, Slotted, slotted-insert}
 use Rattle.arrays.specs.Reslot.{reslot-slotted, reslot-almost, almost-whole}
-use Rattle.arrays.specs.Best.{best-local}
 use Rattle.arrays.specs.Stock.{count-need, used-full}
 use Rattle.arrays.specs.Missing.{need-more}
 use Rattle.paths.specs.Address.{front, stands-level}
@@ -53,7 +51,7 @@ node-root t v = refl
 -- the header's count is the need of the list
 count-of : (L : ℕ) (ws : List ℕ) → Table L ws → getD ws 0 0 ≡ needTo (8 * L) (L - 1) (listOf L ws)
 count-of zero ws ok = absurd (omega (arith, ok .shape .some-level))
-count-of (suc J) ws ok = let e : suc J - 1 ≡ J = omega arith in rw e (count-need Right J ws ok)
+count-of (suc J) ws ok = let e : suc J - 1 ≡ J = omega arith in rw e (count-need J ws ok)
 
 module _ {L : ℕ} {ws : List ℕ} {a l k d x j b : ℕ} (s : Sought L ws a l k d x j b) (h : ℕ) where
   wide : 8 * L < 256
@@ -132,11 +130,11 @@ module _ {L : ℕ} {ws : List ℕ} {a l k d x j b : ℕ} (s : Sought L ws a l k 
               let lo : 1 ≤ d = ⊎-elim (λ (z : 1 ≤ d). z) (λ (z : k ≡ 0). absurd (omega (arith, sym (g .leads) ∙ ap (node (arraysOf vs) (front L a k)) z ∙ node-root (arraysOf vs) (front L a k)))) (s .stands .own) in
               inl (record { s = 2 ^ d + x; low = omega (arith, pow-mono {i = 1} {j = d} lo); high = omega (arith, place .small, pow-mono {i = d} {j = 8} (place .deep)); some = rw (p .slot .here) hop })
 
-          almost : Almost Right L r us
-          almost = reslot-almost Right best-local L r vs us r (2 ^ d + x) h (g .some) (p .slot) (g .ok) (inr refl) (omega (arith, lv .level))
+          almost : Almost L r us
+          almost = reslot-almost L r vs us r (2 ^ d + x) h (g .some) (p .slot) (g .ok) (inr refl) (omega (arith, lv .level))
 
           slotted : Slotted (arraysOf vs) (arraysOf us) r (2 ^ d + x) h
-          slotted = reslot-slotted Right best-local L r vs us r (2 ^ d + x) h (g .some) (p .slot)
+          slotted = reslot-slotted L r vs us r (2 ^ d + x) h (g .some) (p .slot)
 
           with-route : listOf L us ≡ insert (route a l h) (listOf L ws)
           with-route =
@@ -150,7 +148,7 @@ module _ {L : ℕ} {ws : List ℕ} {a l k d x j b : ℕ} (s : Sought L ws a l k 
                 rw (roomy, ne-eqb h (list.held (listOf L ws) a l) (λ z. other (sought-held s ∙ sym z)))
                 (ap (done h) (p .count ∙ cells-exposed L (arraysOf vs) r (front L a k) k wide (s .stands .top) (g .leads) (g .some) (place .head) d x h (place .deep) (place .own) (place .small)
                 ∙ ap₂ (cells (8 * L)) same-route same-before));
-            table = almost-whole Right L r us almost filled;
+            table = almost-whole L r us almost filled;
             size = p .slot .size ∙ g .size;
             list = with-route;
             kept = λ e. absurd (false≢true e);

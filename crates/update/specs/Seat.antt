@@ -13,11 +13,11 @@ use Rattle.array.specs.Block.{slots, bests, links, Right}
 use Rattle.array.specs.Put.{anyUp, exposed, Spot, Reslotted}
 use Rattle.arrays.specs.Arrays.{lev}
 use Rattle.arrays.specs.Words.{arraysOf, arrayCount, slotsOf, bestsOf, Almost}
-use Rattle.arrays.specs.Best.{best-local}
 use Rattle.arrays.specs.Tree.{node-level}
 use Rattle.arrays.specs.Slot.{Place}
 use Rattle.arrays.specs.Reslot.{Reslot}
 use Rattle.array.specs.Frame.{blockOf, withBlock, block-word, block-length, with-length, with-in, with-other}
+use Rattle.array.specs.Right.{right-ext}
 
 -- array a, of level k, is right, and has a slot of length d and value x
 pub record Seat (ws : List ℕ) (a k d x : ℕ) : Type 0 where
@@ -29,7 +29,7 @@ pub record Seat (ws : List ℕ) (a k d x : ℕ) : Type 0 where
   pub right : Right (k + 1) (slotsOf ws a) (bestsOf ws a)
 
 -- of a table but for one array
-pub seat-at : (L e : ℕ) (ws : List ℕ) (a q k d x : ℕ) → Almost Right L e ws → Place (arrayCount ws) L (arraysOf ws) a q k d x → Seat ws a k d x
+pub seat-at : (L e : ℕ) (ws : List ℕ) (a q k d x : ℕ) → Almost L e ws → Place (arrayCount ws) L (arraysOf ws) a q k d x → Seat ws a k d x
 seat-at L e ws a q k d x ok p =
     let lv = rw (p .leads) at (node-level (arrayCount ws) L (arraysOf ws) (ok .shape) q k (rw (p .leads) (p .array))) in
     record {
@@ -74,7 +74,7 @@ module _ (ws : List ℕ) (a k d x : ℕ) (s : Seat ws a k d x) where
     block = block-length ws a (s .inside);
     depth = s .deep;
     value = s .small;
-    sound = best-local .ext (k + 1) (slotsOf ws a) (bestsOf ws a) (slots (blockOf ws a)) (bests (blockOf ws a)) (λ r l h. block-slot ws a r h) (block-best ws a) (s .right) .sound;
+    sound = right-ext (k + 1) (slotsOf ws a) (bestsOf ws a) (slots (blockOf ws a)) (bests (blockOf ws a)) (λ r l h. block-slot ws a r h) (block-best ws a) (s .right) .sound;
   }
 
   slot-lt : 2 ^ d + x < 512
@@ -92,7 +92,7 @@ module _ (ws : List ℕ) (a k d x : ℕ) (s : Seat ws a k d x) where
           let p : 2 ^ d * 2 ^ (8 - d) ≡ 256 = sym (pow-add 2 d (8 - d)) ∙ ap (λ (n : ℕ). 2 ^ n) e in
           omega (arith, mul-le-mul-right (2 ^ (8 - d)) (s .small))
 
-  pub seat-reslot : (m : List ℕ) (h : ℕ) → Reslotted (blockOf ws a) m (2 ^ d + x) h → Reslot Right ws (withBlock ws a m) a (2 ^ d + x) h
+  pub seat-reslot : (m : List ℕ) (h : ℕ) → Reslotted (blockOf ws a) m (2 ^ d + x) h → Reslot ws (withBlock ws a m) a (2 ^ d + x) h
   seat-reslot m h g = record {
     size = with-length ws a m (s .inside) whole;
     outside = with-other ws a m (s .inside) whole;
@@ -100,7 +100,7 @@ module _ (ws : List ℕ) (a k d x : ℕ) (s : Seat ws a k d x) where
     links = λ i w. link i w ∙ g .same-links i w ∙ block-link ws a i w;
     here = slot (2 ^ d + x) slot-lt ∙ g .here;
     slots = λ r l w n. slot r w ∙ g .same-slots r l w n ∙ block-slot ws a r w;
-    right = rw lv (best-local .ext (k + 1) (slots m) (bests m) (slotsOf (withBlock ws a m) a) (bestsOf (withBlock ws a m) a) (λ r l w. slot r w) best right);
+    right = rw lv (right-ext (k + 1) (slots m) (bests m) (slotsOf (withBlock ws a m) a) (bestsOf (withBlock ws a m) a) (λ r l w. slot r w) best right);
   }
     where
       whole : length m ≡ 1024
@@ -140,7 +140,7 @@ module _ (ws : List ℕ) (a k d x : ℕ) (s : Seat ws a k d x) where
 -- ---- a seat set to a hop, or to 0: vs is ws but for that slot and the array's best cells, and so many cells were rewritten
 
 pub record Seated (ws vs : List ℕ) (a d x hop cells : ℕ) : Type 0 where
-  pub slot : Reslot Right ws vs a (2 ^ d + x) hop
+  pub slot : Reslot ws vs a (2 ^ d + x) hop
   pub count : cells ≡ exposed (slotsOf ws a) d (x * 2 ^ (8 - d)) (2 ^ (8 - d))
 
 -- with the words as the code has them

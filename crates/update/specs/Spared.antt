@@ -5,7 +5,6 @@ use mathlib.Core.List.{List}
 use Prim.Native.Nat.{ℕ, zero, suc, _+_, _-_, _*_, _/_, _%_, _≤_, _<_}
 use native.Mathlib.Omega.{arith}
 use Rattle.laws.specs.Cases.{same, less}
-use Rattle.array.specs.Block.{Right}
 use Rattle.arrays.specs.Arrays.{Arrays, node, par, Shape}
 use Rattle.arrays.specs.Tree.{node-level, node-tag}
 use Rattle.arrays.specs.Need.{node-above}
@@ -20,12 +19,12 @@ use Rattle.paths.specs.Shrunk.{up, Freed}
 use Rattle.update.specs.Update.{Touched}
 
 -- a slot of array a set: the others are alike
-reslot-alike : {ws vs : List ℕ} {a s h : ℕ} → Reslot Right ws vs a s h → (c : ℕ) → c ≢ a → Alike ws vs c
+reslot-alike : {ws vs : List ℕ} {a s h : ℕ} → Reslot ws vs a s h → (c : ℕ) → c ≢ a → Alike ws vs c
 reslot-alike {a = a} g c n w m = g .outside (1024 * c + w) (less c a (λ l _. inl (omega arith)) (λ l _. inr (omega arith)))
 
 -- arrays hung at the levels j + 1 .. k, then a slot set in the last
 module _ {L : ℕ} {ws vs us : List ℕ} {a j k b r s h : ℕ} (shape : Shape (arrayCount ws) L (arraysOf ws)) (top : k < L) (stop : Stops L ws a k j b) (g : Grown L ws vs a j k r)
-    (re : Reslot Right vs us r s h) (sl : Slotted (arraysOf vs) (arraysOf us) r s h) where
+    (re : Reslot vs us r s h) (sl : Slotted (arraysOf vs) (arraysOf us) r s h) where
   hung-touched : (c i : ℕ) → j ≤ i → i ≤ k → node (arraysOf vs) (front L a i) i ≡ c → Touched L (arraysOf us) (arraysOf ws) a k c
   hung-touched c i lo hi e = record {
     i = i;
@@ -62,7 +61,7 @@ up-front A L t a k b s top e h (suc n) w =
 
 -- a slot cleared in the array of level k, then it and those above it released while empty
 module _ {L : ℕ} {ws vs us : List ℕ} {a k b s h m : ℕ} (shape : Shape (arrayCount vs) L (arraysOf vs)) (left : Shape (arrayCount us) L (arraysOf us)) (top : k < L)
-    (on : On L vs a k b) (re : Reslot Right ws vs b s h) (sl : Slotted (arraysOf ws) (arraysOf vs) b s h) (f : Freed vs us b m) (deep : m ≤ k) where
+    (on : On L vs a k b) (re : Reslot ws vs b s h) (sl : Slotted (arraysOf ws) (arraysOf vs) b s h) (f : Freed vs us b m) (deep : m ≤ k) where
   -- what is free is on no path
   off : (v i : ℕ) → arraysOf us .tag (node (arraysOf vs) v i) ≡ 0 → node (arraysOf us) v i ≡ 0
   off v i z =

@@ -15,14 +15,12 @@ use Rattle.routes.specs.Cells.{cells}
 use Rattle.routes.specs.Answers.{withdraw, done}
 use Rattle.laws.specs.Sorted.{remove-same}
 use Rattle.laws.specs.Collect.{routeOf, routes-from}
-use Rattle.array.specs.Block.{Right}
 use Rattle.arrays.specs.Arrays.{held}
 use Rattle.arrays.specs.Words.{arraysOf, arrayCount, slotsOf}
 use Rattle.arrays.specs.Table.{listOf}
 use Rattle.arrays.specs.Tree.{Level, node-level}
 use Rattle.arrays.specs.Slot.{Place, Slotted, same-node, slotted-remove}
 use Rattle.arrays.specs.Reslot.{reslot-slotted, reslot-almost}
-use Rattle.arrays.specs.Best.{best-local}
 use Rattle.paths.specs.Address.{front, stands-level}
 use Rattle.paths.specs.Stop.{On}
 use Rattle.paths.specs.Shrunk.{Loose, Pruned}
@@ -66,14 +64,14 @@ module _ {L : ℕ} {ws : List ℕ} {a l k d x j b : ℕ} (s : Sought L ws a l k 
       -- the array may be empty now, and those above it after it
       pub withdraw-loose : Loose L vs b
       withdraw-loose = record {
-        ok = reslot-almost Right best-local L 0 ws vs b (2 ^ d + x) 0 (place .array) (p .slot) (s .ok) (inl refl) used;
+        ok = reslot-almost L 0 ws vs b (2 ^ d + x) 0 (place .array) (p .slot) (s .ok) (inl refl) used;
         some = place .array;
         within = rw (p .slot .size) (lv .within);
         used = rw (p .slot .tag) used;
       }
 
       slotted : Slotted (arraysOf ws) (arraysOf vs) b (2 ^ d + x) 0
-      slotted = reslot-slotted Right best-local L 0 ws vs b (2 ^ d + x) 0 (place .array) (p .slot)
+      slotted = reslot-slotted L 0 ws vs b (2 ^ d + x) 0 (place .array) (p .slot)
 
       on : On L vs a k b
       on = record {
