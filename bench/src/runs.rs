@@ -10,8 +10,8 @@ use crate::lists::{self, Load};
 use crate::lpm::Lpm;
 use crate::{accepted, flap, table, take_and_put, title, Scale, ARRAYS};
 
-/// Prefixes that stay in the cache, spread evenly over the list.
-const FEW: usize = 256;
+/// Prefixes that stay in the cache, spread evenly over the list: as many for each number of arrays from 64 on.
+const FEW: usize = 32;
 
 /// For so many addresses that a lookup is measured with, a run has one update.
 const ADDRESSES: usize = 10;
@@ -79,7 +79,7 @@ impl Flaps<'_> {
     /// Nanoseconds of an update by rte_lpm, infinitely many where there is none.
     fn by_lpm(&self, scale: &Scale, lpm: Option<&Lpm>) -> f64 {
         let Some(lpm) = lpm else { return f64::INFINITY };
-        let routes = &self.routes[..(20 * self.arrays).min(self.routes.len())];
+        let routes = &self.routes[..(20 * self.arrays).min(100 * self.prefixes).min(self.routes.len())];
         lpm.fill(&self.load.list);
         let ways = vec![Way::new("DPDK's rte_lpm_delete, rte_lpm_add", || lpm.flap(routes))];
         measure(&title("the same routes", self.load, "rte_lpm"), scale.rounds, 2 * routes.len(), ways)[0]

@@ -6,7 +6,7 @@ ghost use lib.ListN.{length};
 ghost use Rattle.laws.specs.Tells.{allB};
 ghost use Rattle.array.specs.Cell.{bestIn, linkIn, withBest, withLink};
 ghost use Rattle.array.specs.Block.{slots, bests, links, bestOf};
-ghost use Rattle.array.specs.Check.{rightB, emptyB, taken};
+ghost use Rattle.array.specs.Check.{zeroAt, rightB, emptyB, taken};
 ghost use Rattle.array.specs.Cover.{Deep, longer, Covers, Hops, Climb};
 ghost use Rattle.array.specs.Put.{exposed, Spot, Reslotted};
 ghost use Rattle.array.specs.Rewrite.{yieldsB, over, mapCells, yielding};
@@ -114,13 +114,27 @@ pub fn right(block: &[u32], k: u32) -> bool
     bests_are(block, &all)
 }
 
-// No slot but the first holds a hop.
+// The n words from `from` on are all 0. No early way out: so the loop reads several words at once.
+pub fn zeros(words: &[u32], from: usize, n: usize) -> bool
+    requires { ⌜ from + n ≤ length (now words) ⌝ }
+    ensures { λ r. ⌜ r ≡ allB (zeroAt (now (words .entry)) from) n ⌝ }
+{
+    let mut any: u32 = 0;
+    let mut i = 0;
+    while i < n {
+        any = any | words[from + i];
+        i += 1;
+    }
+    any == 0
+}
+
+// No slot but the first holds a hop: 34 at a time, as a crowded array has one soon and a bare one none at all.
 fn slotless(block: &[u32]) -> bool
     requires { ⌜ length (now block) ≡ 1024 ⌝ }
     ensures { λ r. ⌜ r ≡ allB (λ s. eqb (slots (now (block .entry)) (s + 2)) 0) 510 ⌝ }
 {
-    for s in 0..510 {
-        if block[s + 2] != 0 {
+    for g in 0..15 {
+        if !zeros(block, 34 * g + 2, 34) {
             return false;
         }
     }
@@ -132,12 +146,11 @@ fn linkless(block: &[u32]) -> bool
     requires { ⌜ length (now block) ≡ 1024 ⌝ }
     ensures { λ r. ⌜ r ≡ allB (λ i. eqb (links (now (block .entry)) i) 0) 256 ⌝ }
 {
+    let mut any: u32 = 0;
     for i in 0..256 {
-        if link_in(block[512 + i]) != 0 {
-            return false;
-        }
+        any = any | block[512 + i] % 4096;
     }
-    true
+    any == 0
 }
 
 // No route and no link, length 0 aside.
@@ -213,7 +226,20 @@ fn yields(best: u32, d: u32) -> bool
     best / 65536 <= d
 }
 
-// Writes best into each of the cells from..to that gives way to in-array length d, and counts those.
+// A cell's word with best in it, if the cell gives way to in-array length d.
+fn given(word: u32, d: u32, best: u32) -> u32
+    requires { ⌜ best < 1048576 ⌝ }
+    ensures { λ r. ⌜ r ≡ withBest word (over d best (bestIn word)) ⌝ }
+{
+    if yields(best_in(word), d) {
+        with_best(word, best)
+    } else {
+        word
+    }
+}
+
+// Writes best into each of the cells from..to that gives way to in-array length d, and counts those. The others are written too, as
+// they were: so the loop goes over several cells at once.
 fn rewrite(block: &mut [u32], from: usize, to: usize, d: u32, best: u32) -> u32
     requires { ⌜ (length (now block) ≡ 1024) × (from ≤ to) × (to ≤ 256) × (best < 1048576) ⌝ }
     ensures list { λ _. ⌜ now (block .exit) ≡ mapCells (over d best) (now (block .entry)) from (to - from) ⌝ }
@@ -224,9 +250,9 @@ fn rewrite(block: &mut [u32], from: usize, to: usize, d: u32, best: u32) -> u32
         let cell = 512 + i;
         let word = block[cell];
         if yields(best_in(word), d) {
-            block[cell] = with_best(word, best);
             cells += 1;
         }
+        block[cell] = given(word, d, best);
     }
     cells
 }

@@ -9,7 +9,7 @@ ghost use Rattle.array.specs.Check.{rightB};
 ghost use Rattle.arrays.specs.Arrays.{lev};
 ghost use Rattle.arrays.specs.Words.{arraysOf, arrayCount, slotsOf, bestsOf, usedIn};
 ghost use Rattle.arrays.specs.Check.{linkB, linksB, hungB};
-ghost use Rattle.arrays.specs.Table.{zeroAt, arrayB, groupB, headerB, tableB, seen};
+ghost use Rattle.arrays.specs.Table.{arrayB, groupB, headerB, tableB, seen};
 ghost use Rattle.arrays.specs.Taken.{takenIn, takenTo};
 ghost use Rattle.audit.specs.Size.{Sized};
 ghost use Rattle.audit.specs.Told.{Clears, toldCheck};
@@ -44,20 +44,6 @@ fn arrays_in(words: &[u32]) -> usize
     ensures { λ r. ⌜ (r ≡ arrayCount (now (words .entry))) × Sized (now (words .entry)) r ⌝ }
 {
     words.len() / 1024 - 1
-}
-
-// The n words from `from` on are all 0. No early way out: so the loop reads several words at once.
-fn zeros(words: &[u32], from: usize, n: usize) -> bool
-    requires { ⌜ from + n ≤ length (now words) ⌝ }
-    ensures { λ r. ⌜ r ≡ allB (zeroAt (now (words .entry)) from) n ⌝ }
-{
-    let mut any: u32 = 0;
-    let mut i = 0;
-    while i < n {
-        any = any | words[from + i];
-        i += 1;
-    }
-    any == 0
 }
 
 // Cell i of array a links to nothing, or to an array whose tag names it.
@@ -174,7 +160,7 @@ fn header_ok(words: &[u32], n: usize) -> bool
     if !groups_ok(words, n) {
         return false;
     }
-    zeros(words, 513, 511)
+    array::zeros(words, 513, 511)
 }
 
 // The block of array a is right for the level that its tag says.
@@ -195,7 +181,7 @@ fn array_ok(words: &[u32], n: usize, top: u32, a: usize) -> bool
 {
     let own = 1024 * a;
     if words[own] == 0 {
-        return zeros(words, own, 768);
+        return array::zeros(words, own, 768);
     }
     if !block_ok(words, n, a) {
         return false;

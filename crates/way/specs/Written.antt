@@ -11,7 +11,7 @@ use borrow.Author.Tests.{lt-ltb, le-ltb, le-leb, leb-true, eq-eqb, ne-eqb, eqb-t
 use Rattle.routes.specs.Route.{Route, key, From, All, IsRoute, IsList}
 use Rattle.routes.specs.Room.{need}
 use Rattle.routes.specs.Answers.{announce, update}
-use Rattle.routes.specs.Bytes.{one, two, four, twoAt, fourAt, recordBytes, recordsBytes, announced, written}
+use Rattle.routes.specs.Bytes.{two, four, twoAt, fourAt, recordBytes, recordsBytes, announced, written}
 use Rattle.laws.specs.Bools.{and-to, or-true}
 use Rattle.laws.specs.Tells.{allB, all-to, all-from}
 use Rattle.laws.specs.Encoded.{record-back}

@@ -6,10 +6,9 @@ use native.Mathlib.Omega.{arith}
 use borrow.Author.Needs.{needs}
 use borrow.Author.Tests.{eq-eqb, ne-eqb}
 use lib.Dec.{eqb}
-use Rattle.laws.specs.Tells.{allB, all-none, all-more, all-stop}
+use Rattle.laws.specs.Tells.{allB, all-none, all-more, all-stop, all-done}
 use Rattle.array.specs.Block.{slots, bests, bestOf}
 use Rattle.array.specs.Cover.{cell-cover}
-use Rattle.array.proofs.Laws.{all-done}
 use Rattle.array.proofs.bests_are.Statement.{statement}
 use Rattle.array.proofs.bests_are.Tie as tie
 

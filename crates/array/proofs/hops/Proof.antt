@@ -5,9 +5,8 @@ use Prim.Native.Nat.{_+_, _-_, _≤_}
 use native.Mathlib.Omega.{arith}
 use borrow.Author.Tests.{lt-ltb, le-ltb}
 use lib.Dec.{ltb}
-use Rattle.laws.specs.Tells.{allB, all-none, all-more, all-stop}
+use Rattle.laws.specs.Tells.{allB, all-none, all-more, all-stop, all-done}
 use Rattle.array.specs.Block.{slots}
-use Rattle.array.proofs.Laws.{all-done}
 use Rattle.array.proofs.hops.Statement.{statement}
 use Rattle.array.proofs.hops.Tie as tie
 

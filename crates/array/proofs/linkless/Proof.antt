@@ -1,43 +1,33 @@
--- `array::linkless` meets its contract. The cells that the loop passed have no link: one that has stops it, and none did where it ends. Assumes nothing.
-use mathlib.Core.Path.{_≡_, sym, _∙_}
-use mathlib.Core.Bool.{true}
+-- `array::linkless` meets its contract. The or of the links passed is 0 exactly where each of them is. Assumes nothing.
+use mathlib.Core.Path.{_≡_, sym, ap, _∙_}
 use Prim.Native.Nat.{_-_, _≤_}
+use native.Mathlib.Nat.{le-antisymm}
 use native.Mathlib.Omega.{arith}
 use borrow.Author.Needs.{needs}
-use borrow.Author.Tests.{eq-eqb, ne-eqb}
 use lib.Dec.{eqb}
-use Rattle.laws.specs.Tells.{allB, all-none, all-more, all-stop}
+use Rattle.laws.specs.Tells.{allB, all-none}
 use Rattle.array.specs.Block.{links}
-use Rattle.array.proofs.Laws.{all-done}
+use Rattle.array.proofs.Laws.{links-more}
 use Rattle.array.proofs.linkless.Statement.{statement}
 use Rattle.array.proofs.linkless.Tie as tie
 
 abbrev Inv-loop : tie.InvT-loop
-Inv-loop block i₀ i = (i ≤ 256) × (allB (λ j. eqb (links block j) 0) i ≡ true)
+Inv-loop block any₀ i₀ any i = (i ≤ 256) × (eqb any 0 ≡ allB (λ j. eqb (links block j) 0) i)
 
 abbrev μ-loop : tie.MeasureT-loop
-μ-loop block i₀ i = 256 - i
+μ-loop block any₀ i₀ any i = 256 - i
 
 loop-holds : tie.Need-loop-holds Inv-loop μ-loop
-loop-holds c = (omega arith, all-none _)
+loop-holds c = (omega arith, sym (all-none _))
 
-add-link-in : tie.Need-add-link-in Inv-loop μ-loop
-add-link-in c = search needs
+add-any : tie.Need-add-any Inv-loop μ-loop
+add-any c = search needs
 
-mul-link-in : tie.Need-mul-link-in Inv-loop μ-loop
-mul-link-in c = search needs
+mul-any : tie.Need-mul-any Inv-loop μ-loop
+mul-any c = search needs
 
-shared-slice-read-link-in : tie.Need-shared-slice-read-link-in Inv-loop μ-loop
-shared-slice-read-link-in c = search needs
-
-link-in-requires : tie.Need-link-in-requires Inv-loop μ-loop
-link-in-requires c κs = search needs
-
-returns : tie.Need-returns Inv-loop μ-loop
-returns c =
-    let l = c .before .before .before .before .loop in
-    let a = c .before .before .before .before .before .before .args in
-    all-stop (λ i. eqb (links (a .block .now) i) 0) 256 (l .i) (omega arith) (ne-eqb _ 0 (λ z. c .if1 .taken (c .before .link-in .ensures .0 ∙ z)))
+shared-slice-read-any : tie.Need-shared-slice-read-any Inv-loop μ-loop
+shared-slice-read-any c = search needs
 
 add-i : tie.Need-add-i Inv-loop μ-loop
 add-i c = search needs
@@ -47,15 +37,17 @@ loop-less c = search needs
 
 loop-again : tie.Need-loop-again Inv-loop μ-loop
 loop-again c =
-    let l = c .before .before .before .before .loop in
-    let a = c .before .before .before .before .before .before .args in
-    (omega arith, all-more (λ i. eqb (links (a .block .now) i) 0) (l .i) (l .inv .1) (eq-eqb _ 0 (sym (c .before .link-in .ensures .0) ∙ c .if1 .left)))
-
-returns-2 : tie.Need-returns-2 Inv-loop μ-loop
-returns-2 c =
-    let l = c .before .loop in
+    let l = c .before .before .loop in
     let a = c .before .before .before .args in
-    all-done (λ i. eqb (links (a .block .now) i) 0) 256 (l .i) (l .inv .1) (omega arith) (omega arith)
+    (omega arith, links-more (a .block .now) (l .i) (l .any) (l .inv .1))
+
+returns : tie.Need-returns Inv-loop μ-loop
+returns c =
+    let l = c .before .loop in
+    let a = c .before .before .args in
+    let h : l .i ≤ 256 = omega arith in
+    let w : 256 ≤ l .i = omega arith in
+    l .inv .1 ∙ ap (allB (λ j. eqb (links (a .block .now) j) 0)) (le-antisymm h w)
 
 pub linkless-spec : {M : Type 1} → statement M
 linkless-spec =
@@ -64,12 +56,10 @@ linkless-spec =
     Inv-loop
     μ-loop
     loop-holds
-    add-link-in
-    mul-link-in
-    shared-slice-read-link-in
-    link-in-requires
-    returns
+    add-any
+    mul-any
+    shared-slice-read-any
     add-i
     loop-less
     loop-again
-    returns-2)
+    returns)

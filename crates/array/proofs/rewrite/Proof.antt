@@ -5,7 +5,7 @@ use Prim.Native.Nat.{ℕ, _+_, _-_, _≤_}
 use native.Mathlib.Omega.{arith}
 use borrow.Author.Needs.{needs}
 use lib.ListN.{length, set, length-set}
-use Rattle.array.specs.Rewrite.{yieldsB, over, mapCells, yielding, map-none, map-given, map-kept, count-none, count-given, count-kept}
+use Rattle.array.specs.Rewrite.{yieldsB, over, mapCells, yielding, map-none, map-more, count-none, count-given, count-kept}
 use Rattle.array.proofs.rewrite.Statement.{statement}
 use Rattle.array.proofs.rewrite.Tie as tie
 
@@ -33,17 +33,17 @@ best-in-requires c κs = search needs
 yields-requires : tie.Need-yields-requires Inv-loop μ-loop
 yields-requires c κs = search needs
 
-with-best-requires : tie.Need-with-best-requires Inv-loop μ-loop
-with-best-requires c κs = search needs
+add-cells : tie.Need-add-cells Inv-loop μ-loop
+add-cells c = search needs
+
+given-requires : tie.Need-given-requires Inv-loop μ-loop
+given-requires c κs = search needs
 
 mul-block : tie.Need-mul-block Inv-loop μ-loop
 mul-block c = search needs
 
 slice-write-block : tie.Need-slice-write-block Inv-loop μ-loop
 slice-write-block c = search needs
-
-add-cells : tie.Need-add-cells Inv-loop μ-loop
-add-cells c = search needs
 
 add-i : tie.Need-add-i Inv-loop μ-loop
 add-i c = search needs
@@ -53,30 +53,28 @@ loop-less c = search needs
 
 loop-again : tie.Need-loop-again Inv-loop μ-loop
 loop-again c =
-    let a = c .before .before .before .before .before .before .before .args in
-    let l = c .before .before .before .before .before .loop in
+    let a = c .before .before .before .before .before .before .before .before .args in
+    let l = c .before .before .before .before .before .before .loop in
+    let more = ap (set (l .block) (512 + l .i)) (c .given .ensures) ∙ map-more (a .d) (a .best) (a .block .now) (l .block) (a .from) (l .i) (omega arith) (l .inv .4) in
+    let yields = c .before .before .yields .ensures ∙ ap (λ (z : ℕ). yieldsB z (a .d)) (c .before .before .before .best-in .ensures .0) in
     ⊎-elim
-    (λ w.
-    let h = sym (c .before .yields .ensures ∙ ap (λ (z : ℕ). yieldsB z (a .d)) (c .before .before .best-in .ensures .0)) ∙ w .0 .taken in
-    rw (w .2, w .3) (
+    (λ w. rw (w .1) (
       simp length-set (omega arith),
       omega arith,
       omega arith,
       omega arith,
-      ap (set (l .block) (512 + l .i)) (w .1 .ensures) ∙ map-given (a .d) (a .best) (a .block .now) (l .block) (a .from) (l .i) (omega arith) (l .inv .4) h,
-      omega (arith, count-given (a .d) (a .best) (a .block .now) (l .block) (a .from) (l .i) (omega arith) (l .inv .4) h, l .inv .5),
+      more,
+      omega (arith, count-given (a .d) (a .best) (a .block .now) (l .block) (a .from) (l .i) (omega arith) (l .inv .4) (sym yields ∙ w .0 .taken), l .inv .5),
     ))
-    (λ w.
-    let h = sym (c .before .yields .ensures ∙ ap (λ (z : ℕ). yieldsB z (a .d)) (c .before .before .best-in .ensures .0)) ∙ w .0 .left in
-    rw (w .1, w .2) (
+    (λ w. rw (w .1) (
+      simp length-set (omega arith),
       omega arith,
       omega arith,
       omega arith,
-      omega arith,
-      map-kept (a .d) (a .best) (a .block .now) (l .block) (a .from) (l .i) (omega arith) (l .inv .4) h,
-      omega (arith, count-kept (a .d) (a .best) (a .block .now) (l .block) (a .from) (l .i) (omega arith) (l .inv .4) h, l .inv .5),
+      more,
+      omega (arith, count-kept (a .d) (a .best) (a .block .now) (l .block) (a .from) (l .i) (omega arith) (l .inv .4) (sym yields ∙ w .0 .left), l .inv .5),
     ))
-    (c .if1 .came)
+    (c .before .if1 .came)
 
 same-length : tie.Need-same-length Inv-loop μ-loop
 same-length c = omega arith
@@ -100,10 +98,10 @@ rewrite-spec =
     slice-read-word
     best-in-requires
     yields-requires
-    with-best-requires
+    add-cells
+    given-requires
     mul-block
     slice-write-block
-    add-cells
     add-i
     loop-less
     loop-again

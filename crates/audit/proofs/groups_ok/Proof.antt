@@ -4,9 +4,9 @@ use mathlib.Core.Bool.{true, false}
 use Prim.Native.Nat.{_≤_, _+_, _-_}
 use native.Mathlib.Omega.{arith}
 use borrow.Author.Tests.{ne-eqb, eq-eqb}
-use Rattle.laws.specs.Tells.{allB, all-none, all-more, all-stop}
+use Rattle.laws.specs.Tells.{allB, all-none, all-more, all-stop, all-done}
 use Rattle.arrays.specs.Table.{groupB}
-use Rattle.audit.proofs.Laws.{all-done, group-is}
+use Rattle.audit.proofs.Laws.{group-is}
 use Rattle.audit.proofs.groups_ok.Statement.{statement}
 use Rattle.audit.proofs.groups_ok.Tie as tie
 

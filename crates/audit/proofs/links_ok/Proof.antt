@@ -4,10 +4,9 @@ use mathlib.Core.Bool.{true}
 use Prim.Native.Nat.{_≤_, _-_}
 use native.Mathlib.Omega.{arith}
 use borrow.Author.Tests.{not-true, not-false}
-use Rattle.laws.specs.Tells.{allB, all-none, all-more, all-stop}
+use Rattle.laws.specs.Tells.{allB, all-none, all-more, all-stop, all-done}
 use Rattle.arrays.specs.Words.{arraysOf}
 use Rattle.arrays.specs.Check.{linkB, linksB}
-use Rattle.audit.proofs.Laws.{all-done}
 use Rattle.audit.proofs.links_ok.Statement.{statement}
 use Rattle.audit.proofs.links_ok.Tie as tie
 

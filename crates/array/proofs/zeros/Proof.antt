@@ -1,14 +1,14 @@
--- `audit::zeros` tells whether the words are all 0: the or of those passed is 0 exactly where each of them is. Assumes nothing.
+-- `array::zeros` tells whether the words are all 0: the or of those passed is 0 exactly where each of them is. Assumes nothing.
 use mathlib.Core.Path.{_≡_, ap, sym, _∙_}
 use Prim.Native.Nat.{_≤_, _-_}
 use native.Mathlib.Nat.{le-antisymm}
 use native.Mathlib.Omega.{arith}
 use lib.Dec.{eqb}
 use Rattle.laws.specs.Tells.{allB, all-none}
-use Rattle.arrays.specs.Table.{zeroAt}
-use Rattle.audit.proofs.Laws.{or-more}
-use Rattle.audit.proofs.zeros.Statement.{statement}
-use Rattle.audit.proofs.zeros.Tie as tie
+use Rattle.array.specs.Check.{zeroAt}
+use Rattle.array.proofs.Laws.{or-more}
+use Rattle.array.proofs.zeros.Statement.{statement}
+use Rattle.array.proofs.zeros.Tie as tie
 
 abbrev Inv-loop : tie.InvT-loop
 Inv-loop words from n any₀ i₀ any i = (i ≤ n) × (eqb any 0 ≡ allB (zeroAt words from) i)
