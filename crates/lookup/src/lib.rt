@@ -38,8 +38,8 @@ fn descend(words: &[u32], address: u32) -> u32
         left -= 1;
         let i = ((address >> (8 * left)) % 256) as usize;
         let word = words[1024 * a + 512 + i];
-        best = newer(best, array::best_in(word), 24 - 8 * left);
-        let next = array::link_in(word);
+        best = newer(best, array::cell::best_in(word), 24 - 8 * left);
+        let next = array::cell::link_in(word);
         if next == 0 {
             return best;
         }
@@ -79,7 +79,7 @@ pub fn lookup(words: &[u32], address: u32) -> Match
     ensures { λ r. ⌜ told r ≡ lookupOn 32 (seen 4 (now (words .entry))) (walk 4 (now (words .entry)) address) address ⌝ }
     ensures any_words { λ r. ⌜ told r ≡ walked 4 (now (words .entry)) address ⌝ }
 {
-    if audit::misfit(words.len()) {
+    if audit::size::misfit(words.len()) {
         return Match::Refused(1);
     }
     answer(descend(words, address))

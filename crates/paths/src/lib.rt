@@ -92,7 +92,7 @@ pub fn hop_at(words: &[u32], s: Stop, p: Place) -> u32
     let a = s.array;
     let d = p.depth;
     let x = p.value;
-    let slot = array::slot_of(d, x);
+    let slot = array::place::slot_of(d, x);
     words[1024 * a + slot]
 }
 

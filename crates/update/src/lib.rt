@@ -53,11 +53,11 @@ fn set(words: &mut [u32], a: usize, p: paths::Place, hop: u32) -> u32
     let to = from + 1024;
     let d = p.depth;
     let x = p.value;
-    array::put(&mut words[from..to], d, x, hop)
+    array::change::put(&mut words[from..to], d, x, hop)
 }
 
 // The slot at a place of array a cleared, where it holds a hop.
-fn clear(words: &mut [u32], a: usize, p: paths::Place) -> array::Taken
+fn clear(words: &mut [u32], a: usize, p: paths::Place) -> array::change::Taken
     requires { ⌜ Seat (now words) a (p .level) (p .depth) (p .value) × (1 ≤ slotsOf (now words) a (2 ^ p .depth + p .value)) ⌝ }
     ensures { λ r. ⌜ (r .hop ≡ slotsOf (now (words .entry)) a (2 ^ p .depth + p .value)) × Seated (now (words .entry)) (now (words .exit)) a (p .depth) (p .value) 0 (r .cells) ⌝ }
 {
@@ -65,7 +65,7 @@ fn clear(words: &mut [u32], a: usize, p: paths::Place) -> array::Taken
     let to = from + 1024;
     let d = p.depth;
     let x = p.value;
-    array::take(&mut words[from..to], d, x)
+    array::change::take(&mut words[from..to], d, x)
 }
 
 // A route announced to a table. A hop that is held already changes no word; another replaces the one held, in the array that is there.
@@ -138,13 +138,13 @@ pub fn withdraw_on(words: &mut [u32], address: u32, length: u32) -> Updated
 pub fn refusal(words: &[u32], fault: u32) -> u32
     ensures { λ r. ⌜ r ≡ refusalOf (now (words .entry)) fault ⌝ }
 {
-    if audit::misfit(words.len()) {
+    if audit::size::misfit(words.len()) {
         return 1;
     }
     if fault != 0 {
         return fault;
     }
-    if !audit::is_table(words) {
+    if !audit::table::is_table(words) {
         return 2;
     }
     0

@@ -49,7 +49,7 @@ fn half(words: &[u32], slot: usize) -> usize
         return slot + s;
     }
     let cell = slot + 256;
-    let below = array::link_in(words[cell]);
+    let below = array::cell::link_in(words[cell]);
     if below == 0 {
         return 0;
     }
