@@ -14,10 +14,9 @@ use Rattle.routes.specs.Route.{Route}
 use Rattle.routes.specs.Room.{need}
 use Rattle.routes.specs.Match.{longest}
 use Rattle.routes.specs.Answers.{Update, Reply, matched}
-use Rattle.routes.specs.Bytes.{written}
+use Rattle.routes.specs.Bytes.{written, AllFit}
 use Rattle.routes.specs.Runs.{Ran as Outcome, run}
 use Rattle.routes.specs.Seen.{Answer, table, gives, lookupOn, checkOn, frontOn}
-use Rattle.laws.specs.Encoded.{AllFit}
 use Rattle.arrays.specs.Table.{seen}
 use Rattle.audit.specs.Told.{toldCheck}
 use Rattle.audit.specs.declared.Checked.{Checked}
@@ -28,9 +27,8 @@ use Rattle.feed.specs.Runs.{Runs, reportOf}
 use Rattle.feed.specs.declared.Report.{Report}
 use Rattle.feed.specs.declared.Ran.{Ran}
 use Rattle.feed.specs.declared.Ran.the-variants.{Stopped}
-use Rattle.order.specs.Feeds.{records, Weave, flip, heard, plains, kept, keptBoth, Union, Meets}
-use Rattle.order.specs.Enough.{Closes, enough}
-use Rattle.order.specs.Fed.{bytes}
+use Rattle.order.specs.Feeds.{records, Weave, flip, heard, plains, kept, keptBoth, Union, Meets, Closes, bytes}
+use Rattle.order.specs.Enough.{enough}
 use Rattle.order.specs.Joined.{demand-3-ipv4}
 use Rattle.order.specs.Calls.{Call, promise, Called, demand-3-called}
 use Rattle.calls.specs.Held.{stopped}

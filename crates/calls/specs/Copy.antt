@@ -14,7 +14,7 @@ use borrow.Author.Tests.{le-ltb}
 use Rattle.routes.specs.Route.{Route}
 use Rattle.routes.specs.Bytes.{written}
 use Rattle.routes.specs.Seen.{Seen, misfit, foreign, table, gives, refuses, lookupOn, checkOn}
-use Rattle.laws.specs.Cases.{less}
+use Rattle.logic.specs.Cases.{less}
 use Rattle.laws.specs.Round.{written-long}
 use Rattle.arrays.specs.Table.{seen}
 use Rattle.arrays.specs.View.{no-misfit-fits}

@@ -7,7 +7,7 @@ use Prim.Native.Nat.{ℕ, _+_, _-_, _*_, _/_, _≤_}
 use native.Mathlib.Omega.{arith}
 use lib.Dec.{lit<, lit≤}
 use lib.ListN.{length}
-use Rattle.laws.specs.Cases.{bool}
+use Rattle.logic.specs.Cases.{bool}
 use Rattle.routes.specs.Route.{Route, IsList}
 use Rattle.routes.specs.Room.{need}
 use Rattle.routes.specs.Seen.{gives, refuses, table, misfits}

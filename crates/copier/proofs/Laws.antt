@@ -7,7 +7,7 @@ use Prim.Native.Nat.{ℕ, zero, suc, _+_, _-_, _*_, _/_, _^_, _≤_, _<_}
 use native.Mathlib.Omega.{arith}
 use lib.ListN.{length, getD, set, length-set}
 use lib.Seq.{getD-set-same, getD-set-other}
-use Rattle.laws.specs.Cases.{same}
+use Rattle.logic.specs.Cases.{same}
 use Rattle.way.specs.Way.{miss, hit, outside}
 use Rattle.way.specs.Marks.{bestAt}
 use Rattle.way.specs.Listed.{routeAt, listOf}

@@ -7,7 +7,7 @@ use Prim.Native.Nat.{ℕ, zero, _+_, _*_, _/_, _%_, _≤_, _<_}
 use native.Mathlib.Omega.{arith}
 use lib.ListN.{length, getD, set, length-set}
 use lib.Seq.{getD-set-same, getD-set-other}
-use Rattle.laws.specs.Cases.{same}
+use Rattle.logic.specs.Cases.{same}
 use Rattle.way.specs.Listed.{routeAt, listOf}
 use Rattle.copy.specs.Layout.{beginOf, sizeOf}
 use Rattle.copy.specs.Copy.{table-same}

@@ -13,7 +13,7 @@ use Rattle.routes.specs.Route.{Route, key, From, hopAt, IsList}
 use Rattle.routes.specs.Room.{distinct, need}
 use Rattle.routes.specs.Seen.{gives, refuses}
 use Rattle.laws.specs.Sorted.{hop-below}
-use Rattle.laws.specs.Longest.{last}
+use Rattle.routes.specs.Match.{last}
 use Rattle.way.specs.Marks.{entries, bestAt, wordsFor, markers}
 use Rattle.way.specs.Entries.{entriesTo, entries-all}
 use Rattle.way.specs.Listed.{routeAt, routesFrom, listOf, wholeB, Listed, unlisted, listed, listedIn, needOn, buildOn}

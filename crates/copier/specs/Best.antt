@@ -11,13 +11,13 @@ use lib.Pow.{shr-shr, shr-lt}
 use borrow.Author.Tests.{le-leb}
 use Rattle.routes.specs.Route.{Route, key, From, hopAt, IsRoute, IsList, All}
 use Rattle.routes.specs.Room.{mem}
-use Rattle.laws.specs.Cases.{bool, same}
+use Rattle.logic.specs.Cases.{bool, same}
 use Rattle.laws.specs.Sorted.{hop-head, hop-skip}
 use Rattle.laws.specs.Longest.{Wfs, last-found}
 use Rattle.way.specs.Way.{miss, hit, turnsAt, code, best}
 use Rattle.way.specs.Finds.{last-past}
 use Rattle.way.specs.Marks.{picks, heldAt, entries, bestAt}
-use Rattle.laws.specs.Bools.{or-left}
+use Rattle.logic.specs.Bools.{or-left}
 use Rattle.way.specs.Entries.{own, own-held, key-own, mem-either}
 use Rattle.way.specs.Held.{best-same}
 use Rattle.way.specs.Listed.{routeAt, routesFrom, listOf}

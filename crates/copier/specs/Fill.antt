@@ -11,8 +11,8 @@ use lib.Dec.{eqb}
 use borrow.Author.Tests.{eqb-true, eq-eqb}
 use Rattle.routes.specs.Route.{Route, IsList}
 use Rattle.routes.specs.Room.{mem, distinct}
-use Rattle.laws.specs.Cases.{bool, same}
-use Rattle.laws.specs.Bools.{or-left, or-right, or-to}
+use Rattle.logic.specs.Cases.{bool, same}
+use Rattle.logic.specs.Bools.{or-left, or-right, or-to}
 use Rattle.laws.specs.Room.{distinct-le}
 use Rattle.way.specs.Way.{miss, hit, turnsAt}
 use Rattle.way.specs.Marks.{picks, heldAt, entries, bestAt}

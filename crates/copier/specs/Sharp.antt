@@ -8,7 +8,7 @@ use Rattle.routes.specs.Route.{Route, IsList}
 use Rattle.routes.specs.Match.{longest}
 use Rattle.routes.specs.Answers.{Reply, matched}
 use Rattle.routes.specs.Seen.{Answer}
-use Rattle.laws.specs.Cases.{less}
+use Rattle.logic.specs.Cases.{less}
 use Rattle.way.specs.Marks.{wordsFor}
 use Rattle.way.specs.Listed.{unlisted, listed, listedIn, needOn, buildOn, Counts}
 use Rattle.way.specs.Records.{Bytes}

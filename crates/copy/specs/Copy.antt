@@ -7,12 +7,11 @@ use native.Mathlib.Omega.{arith}
 use lib.ListN.{length, getD}
 use borrow.Author.Tests.{le-ltb, le-leb, lt-leb, ne-eqb}
 use Rattle.routes.specs.Route.{Route, key, All, hopAt, IsRoute, IsList}
-use Rattle.routes.specs.Match.{Match, none, found, longest}
+use Rattle.routes.specs.Match.{Match, none, found, longest, orShorter, last}
 use Rattle.routes.specs.Room.{mem}
 use Rattle.routes.specs.Answers.{matched}
-use Rattle.laws.specs.Cases.{same}
-use Rattle.laws.specs.Longest.{last, along, longest-last}
-use Rattle.laws.specs.Longest as longs
+use Rattle.logic.specs.Cases.{same}
+use Rattle.laws.specs.Longest.{along, longest-last}
 use Rattle.way.specs.Way.{miss, hit, search, code, best}
 use Rattle.way.specs.Marks.{heldAt, entries, bestAt, wordsFor}
 use Rattle.way.specs.Held.{list-way}
@@ -43,7 +42,7 @@ low-more : (m n : ℕ) (x : Match) → m ≤ n → Low m x → Low n x
 low-more m n none h w = tt
 low-more m n (found a b) h w = (w .0, w .1, omega arith)
 
-hit-low : (h l m n : ℕ) (x : Match) → h ≤ 65535 → l ≤ n → m ≤ n → Low m x → Low n (longs.hit h l x)
+hit-low : (h l m n : ℕ) (x : Match) → h ≤ 65535 → l ≤ n → m ≤ n → Low m x → Low n (orShorter h l x)
 hit-low zero l m n x a b c w = low-more m n x c w
 hit-low (suc h) l m n x a b c w = (omega arith, a, b)
 

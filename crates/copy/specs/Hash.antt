@@ -9,7 +9,7 @@ use native.Mathlib.Omega.{arith}
 use lib.Dec.{ltb, eqb}
 use borrow.Author.Tests.{lt-ltb, le-ltb, eq-eqb, ne-eqb}
 use Rattle.routes.specs.Room.{mem, distinct}
-use Rattle.laws.specs.Cases.{bool, same, less}
+use Rattle.logic.specs.Cases.{bool, same, less}
 use Rattle.way.specs.Way.{Look, miss, hit, outside}
 use Rattle.copy.specs.Layout.{Places, badBest, ranged, start, place, lookAt, probe, find}
 

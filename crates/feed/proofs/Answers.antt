@@ -12,7 +12,8 @@ use Rattle.routes.specs.Bytes.{twoAt, fourAt}
 use Rattle.routes.specs.Runs.{size}
 use Rattle.routes.specs.Seen.{Seen, misfit, foreign, table, answerOn, afterOn, lookupOn}
 use Rattle.laws.specs.Turns.{size-pos}
-use Rattle.arrays.specs.Table.{Table, seen}
+use Rattle.arrays.specs.Table.{seen}
+use Rattle.arrays.specs.Almost.{Table}
 use Rattle.arrays.specs.View.{seen-cases}
 use Rattle.update.specs.Update.{Updates, told as toldUpdate}
 use Rattle.update.specs.declared.Updated.{Updated}

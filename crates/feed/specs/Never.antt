@@ -11,7 +11,7 @@ use native.Mathlib.Omega.{arith}
 use lib.Dec.{eqb}
 use lib.ListN.{length, getD, take, drop}
 use lib.Seq.{take-at}
-use Rattle.laws.specs.Cases.{bool}
+use Rattle.logic.specs.Cases.{bool}
 use Rattle.routes.specs.Route.{Route, route, tooLong, stray, badHop, held}
 use Rattle.routes.specs.Match.{Match, longest}
 use Rattle.routes.specs.Match as match

@@ -13,8 +13,9 @@ use Rattle.routes.specs.Route.{Route, route, key, IsList}
 use Rattle.routes.specs.Bytes.{twoAt, fourAt}
 use Rattle.routes.specs.Room.{distinct, need, needTo}
 use Rattle.routes.specs.Seen.{gives, refuses}
-use Rattle.laws.specs.Cases.{same, less}
-use Rattle.laws.specs.Tells.{allB, all-stop}
+use Rattle.logic.specs.Cases.{same, less}
+use Rattle.logic.specs.Every.{allB}
+use Rattle.logic.specs.Tells.{all-stop}
 use Rattle.way.specs.Marks.{picks, markers, entries}
 use Rattle.way.specs.Count.{firstOr, heads-picks}
 use Rattle.way.specs.Entries.{tally, entriesTo, own-distinct, entries-all}

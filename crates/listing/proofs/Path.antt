@@ -8,7 +8,7 @@ use native.Mathlib.Omega.{arith}
 use lib.Dec.{eqb}
 use borrow.Author.Tests.{lt-ltb, le-ltb, eq-eqb, ne-eqb}
 use Rattle.routes.specs.Room.{mem}
-use Rattle.laws.specs.Cases.{same}
+use Rattle.logic.specs.Cases.{same}
 use Rattle.way.specs.Way.{turns}
 
 pub half : (n : ℕ) → 1 ≤ n → 2 ^ n ≡ 2 * 2 ^ (n - 1)

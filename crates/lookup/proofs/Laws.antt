@@ -8,7 +8,7 @@ use native.Mathlib.Omega.{arith}
 use lib.Dec.{eqb}
 use lib.ListN.{length, getD}
 use borrow.Author.Tests.{lt-ltb, le-ltb, eq-eqb, ne-eqb}
-use Rattle.laws.specs.Cases.{bool, same}
+use Rattle.logic.specs.Cases.{bool, same}
 use Rattle.routes.specs.Route.{tooLong}
 use Rattle.routes.specs.Match.{Match, none}
 use Rattle.routes.specs.Answers.{Reply, found, none as nothing, refused}
@@ -16,7 +16,8 @@ use Rattle.routes.specs.Seen.{misfits, lookupOn}
 use Rattle.array.specs.Cell.{bestIn, linkIn}
 use Rattle.arrays.specs.Words.{arrayCount}
 use Rattle.arrays.specs.Table.{seen}
-use Rattle.lookup.specs.Walk.{byteAt, hopOf, lengthOf, outside, deeper, turn, ended, walkFrom, walk, walked}
+use Rattle.lookup.specs.Walk.{byteAt, hopOf, lengthOf, outside, deeper, turn, walkFrom, walk, walked}
+use Rattle.lookup.specs.Ended.{ended}
 use Rattle.lookup.specs.Longest.{walked-seen}
 
 -- ---- what the number of a walk stands for

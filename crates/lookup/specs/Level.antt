@@ -7,9 +7,8 @@ use native.Mathlib.Omega.{arith}
 use lib.Dec.{eqb}
 use lib.Pow.{pow-pos, shr-shr}
 use borrow.Author.Tests.{ne-eqb, le-ltb}
-use Rattle.routes.specs.Match.{Match, none}
-use Rattle.laws.specs.Cases.{same}
-use Rattle.laws.specs.Longest.{hit, last}
+use Rattle.routes.specs.Match.{Match, none, orShorter, last}
+use Rattle.logic.specs.Cases.{same}
 use Rattle.array.specs.Block.{bestOf}
 use Rattle.array.specs.Best.{best-parts}
 use Rattle.lookup.specs.Walk.{hopOf, lengthOf, outside, deeper}
@@ -25,7 +24,7 @@ best-inside W f base d s hops h b w =
 -- ---- the lengths of one array
 
 -- one length more
-pub hit-deeper : (h base d : ℕ) (m : Match) (b : ℕ) → h < 65536 → hit h (base + d) (deeper base m b) ≡ deeper base m (cond (eqb h 0) b (d * 65536 + h))
+pub hit-deeper : (h base d : ℕ) (m : Match) (b : ℕ) → h < 65536 → orShorter h (base + d) (deeper base m b) ≡ deeper base m (cond (eqb h 0) b (d * 65536 + h))
 hit-deeper zero base d m b w = refl
 hit-deeper (suc h) base d m b w =
     let p : (d * 65536 + suc h) % 65536 ≡ suc h = omega arith in
@@ -69,7 +68,7 @@ pub level-first : (g f : ℕ → ℕ) (k : ℕ) → f 1 < 65536 → (k ≡ 0 →
 unfolding last bestOf
 level-first g f zero small root below = rw (root refl) (first (f 1) small)
   where
-    first : (h : ℕ) → h < 65536 → hit h 0 none ≡ deeper 0 none h
+    first : (h : ℕ) → h < 65536 → orShorter h 0 none ≡ deeper 0 none h
     first zero b = refl
     first (suc h) b =
         let p : suc h % 65536 ≡ suc h = omega arith in

@@ -1,4 +1,5 @@
 pub mod Walk
+pub mod Ended
 pub mod Level
 pub mod Longest
 pub mod Told

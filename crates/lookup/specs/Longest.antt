@@ -11,17 +11,19 @@ use native.Mathlib.Nat.{mul-add-div-right, mul-assoc}
 use native.Mathlib.Omega.{arith}
 use lib.Pow.{pow-pos, pow-add, shr-shr, shr-lt}
 use borrow.Author.Tests.{eq-eqb, ne-eqb, le-ltb}
-use Rattle.routes.specs.Match.{longest}
+use Rattle.routes.specs.Match.{longest, last}
 use Rattle.routes.specs.Answers.{matched}
 use Rattle.routes.specs.Seen.{lookupOn}
-use Rattle.laws.specs.Cases.{same}
-use Rattle.laws.specs.Longest.{last, longest-walk}
-use Rattle.array.specs.Block.{Right}
-use Rattle.arrays.specs.Arrays.{Arrays, at, node, held, Child}
+use Rattle.logic.specs.Cases.{same}
+use Rattle.laws.specs.Longest.{longest-walk}
+use Rattle.array.specs.Right.{Right}
+use Rattle.arrays.specs.Arrays.{Arrays, at, node, held}
+use Rattle.arrays.specs.Shape.{Child}
 use Rattle.arrays.specs.Tree.{Level, node-level}
 use Rattle.arrays.specs.Need.{held-at, at-some, node-child, above}
 use Rattle.arrays.specs.Words.{arraysOf, arrayCount, slotsOf, bestsOf}
-use Rattle.arrays.specs.Table.{Table, listOf, seen}
+use Rattle.arrays.specs.Table.{listOf, seen}
+use Rattle.arrays.specs.Almost.{Table}
 use Rattle.arrays.specs.View.{seen-cases}
 use Rattle.lookup.specs.Walk.{byteAt, outside, deeper, walkFrom, walk, walked}
 use Rattle.lookup.specs.Level.{best-inside, level-last, level-first, last-skip, upTo}

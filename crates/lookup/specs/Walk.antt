@@ -47,10 +47,6 @@ walkFrom W ws x zero a m = refused 2
 walkFrom W ws x (suc n) a m =
     turn W (arrayCount ws) (W - 8 * suc n) (bestsOf ws a (byteAt x n)) (arraysOf ws .link a (byteAt x n)) m (walkFrom W ws x n)
 
--- what the number stands for that a walk ends with: the last best, with its whole length; one that is too long where it was refused
-abbrev pub ended : ℕ → Reply
-ended b = refuse 2 (tooLong 32 (lengthOf 0 b)) (matched (deeper 0 none b))
-
 -- L levels, from the root
 abbrev pub walk : ℕ → List ℕ → ℕ → Reply
 walk L ws x = walkFrom (8 * L) ws x L 1 none

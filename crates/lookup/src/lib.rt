@@ -8,7 +8,8 @@ ghost use mathlib.Core.Bool.{cond};
 ghost use lib.Dec.{eqb};
 ghost use Rattle.arrays.specs.Table.{seen};
 ghost use Rattle.arrays.specs.Decides.{Fits};
-ghost use Rattle.lookup.specs.Walk.{hopOf, ended, walk, walked};
+ghost use Rattle.lookup.specs.Walk.{hopOf, walk, walked};
+ghost use Rattle.lookup.specs.Ended.{ended};
 ghost use Rattle.matches.specs.Told.{told};
 
 // The best so far, or that of a cell that has one, in an array below `base` bits: then with its whole length. No branch, which would

@@ -13,14 +13,13 @@ use borrow.Author.Tests.{le-ltb}
 use Rattle.routes.specs.Route.{Route}
 use Rattle.routes.specs.Match.{longest}
 use Rattle.routes.specs.Answers.{Update, Reply, matched}
-use Rattle.routes.specs.Bytes.{repliesBytes, written}
+use Rattle.routes.specs.Bytes.{repliesBytes, written, AllFit}
 use Rattle.routes.specs.Runs.{Ran, run}
 use Rattle.routes.specs.Seen.{Seen, table, gives, lookupOn, checkOn, countOn, frontOn, runOn, ranOn, repliedOn}
-use Rattle.laws.specs.Encoded.{AllFit}
 use Rattle.arrays.specs.Table.{seen}
-use Rattle.order.specs.Feeds.{records, Weave, said, kept, keptBoth, Meets, Independent}
-use Rattle.order.specs.Enough.{Closes, enough}
-use Rattle.order.specs.Fed.{bytes, Fed, Answered, answered, Together, demand-3-fed}
+use Rattle.order.specs.Feeds.{records, Weave, said, kept, keptBoth, Meets, Independent, Closes, bytes, Answered}
+use Rattle.order.specs.Enough.{enough}
+use Rattle.order.specs.Fed.{Fed, answered, Together, demand-3-fed}
 
 -- what the run promises of the words ws, a feed and the reply bytes b, where it leaves vs and c and has the outcome o
 pub record Promise (ws feed b vs c : List ℕ) (o : Ran) : Type 0 where

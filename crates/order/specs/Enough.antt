@@ -10,10 +10,11 @@ use lib.Dec.{ltb, leb, eqb}
 use borrow.Author.Tests.{le-ltb}
 use Rattle.routes.specs.Route.{Route}
 use Rattle.routes.specs.Answers.{Record}
-use Rattle.routes.specs.Bytes.{recordsBytes}
+use Rattle.routes.specs.Bytes.{recordsBytes, AllFit}
 use Rattle.routes.specs.Runs.{State, size, finish, halts, Ran, decide, taken, runs, fresh, run}
-use Rattle.laws.specs.Cases.{bool, same, less}
-use Rattle.laws.specs.Encoded.{AllFit, ended, run-records, run-ended}
+use Rattle.logic.specs.Cases.{bool, same, less}
+use Rattle.laws.specs.Encoded.{ended, run-records, run-ended}
+use Rattle.order.specs.Feeds.{Closes, bytes}
 
 -- the tests find the same with more room, unless they find too little
 halts-more : (feed : List ℕ) (room more at out : ℕ) → room ≤ more → halts feed room at out ≢ 4 → halts feed more at out ≡ halts feed room at out
@@ -41,11 +42,6 @@ runs-more (suc n) A feed room more s h q =
     (λ e d. rw (z, d))
 
 -- ---- a feed of records, and what may follow them
-
--- nothing; or an end, and whatever comes after it
-abbrev pub Closes : List ℕ → Type 0
-Closes [] = Unit {0}
-Closes (k ∷ t) = k ≡ 0
 
 -- where it leaves a run that took all the records
 abbrev pub closed : List ℕ → State → Ran

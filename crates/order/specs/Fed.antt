@@ -3,24 +3,22 @@
 use mathlib.Core.Path.{_≡_, refl, sym, ap, ap₂, _∙_}
 use mathlib.Core.Logic.{_≢_}
 use mathlib.Core.Bool.{Bool, cond}
-use mathlib.Core.List.{List, [], _∷_, _++_}
+use mathlib.Core.List.{List, [], _∷_}
 use Prim.Native.Nat.{ℕ, _+_, _*_, _≤_}
 use native.Mathlib.Omega.{arith}
 use lib.ListN.{length}
 use Rattle.routes.specs.Route.{Route}
-use Rattle.routes.specs.Answers.{Update, update, Reply, done, found, none, refused, isDone, isRefused, next, replies}
-use Rattle.routes.specs.Bytes.{recordsBytes, repliesBytes}
+use Rattle.routes.specs.Answers.{Update, update, Reply, done, found, none, refused, isDone, isRefused, next, replies, count}
+use Rattle.routes.specs.Bytes.{AllFit}
 use Rattle.routes.specs.Runs.{Ran, fresh, run}
-use Rattle.laws.specs.Encoded.{AllFit, count, ended}
-use Rattle.order.specs.Feeds.{records, Weave, nothing, left, right, flip, heard, plain, plains, join, said, kept, Meets, Independent}
+use Rattle.laws.specs.Encoded.{ended}
+use Rattle.order.specs.Feeds.{records, Weave, nothing, left, right, flip, heard, plain, plains, join, said, Meets}
+use Rattle.order.specs.Feeds.{Independent, Closes, bytes, Answered}
 use Rattle.order.specs.Steps.{plain-done}
 use Rattle.order.specs.Joined.{demand-3-ipv4}
-use Rattle.order.specs.Enough.{Closes, closed, run-enough, enough}
+use Rattle.order.specs.Enough.{closed, run-enough, enough}
 
 -- ---- a feed of updates, run
-
-abbrev pub bytes : List Update → List ℕ → List ℕ
-bytes us rest = recordsBytes (records us) ++ rest
 
 -- its numbers fit their bytes; after its records comes nothing, or an end and whatever follows; and the run does not stop for want of
 -- reply room
@@ -33,24 +31,6 @@ pub record Fed (A : ℕ) (us : List Update) : Type 0 where
 
 abbrev pub outcome : {A : ℕ} {us : List Update} → Fed A us → Ran
 outcome {A} {us} f = run A [] (bytes us (f .rest)) (f .room)
-
--- stop 0 at an end, which is consumed too
-abbrev pub stopOf : List ℕ → ℕ
-stopOf [] = 1
-stopOf (k ∷ t) = 0
-
-abbrev pub endOf : List ℕ → ℕ
-endOf [] = 0
-endOf (k ∷ t) = 1
-
--- each record was answered, in order, as the list answers it
-pub record Answered (A : ℕ) (us : List Update) (rest : List ℕ) (o : Ran) : Type 0 where
-  pub stop : o .stop ≡ stopOf rest
-  pub consumed : o .end .consumed ≡ length (recordsBytes (records us)) + endOf rest
-  pub replies : o .end .replies ≡ repliesBytes (said 32 A us)
-  pub accepted : o .end .accepted ≡ count isDone (said 32 A us)
-  pub refused : o .end .refused ≡ count isRefused (said 32 A us)
-  pub list : o .end .list ≡ kept 32 A us
 
 pub answered : {A : ℕ} {us : List Update} (f : Fed A us) → Answered A us (f .rest) (outcome f)
 answered {A} {us} f = rw (run-enough A [] (records us) (f .fits) (f .rest) (f .closes) (f .room) (f .enough)) (of (f .rest))

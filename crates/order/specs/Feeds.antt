@@ -7,13 +7,16 @@ use mathlib.Core.Path.{_≡_}
 use mathlib.Core.Logic.{_≢_, _⊎_}
 use mathlib.Core.Bool.{Bool, true, cond, not, _&&_}
 use mathlib.Core.List.{List, [], _∷_, _++_}
-use Prim.Native.Nat.{ℕ, _≤_}
+use Prim.Native.Nat.{ℕ, _+_, _≤_}
 use lib.Dec.{eqb}
+use lib.ListN.{length}
 use Rattle.routes.specs.Route.{Route, route, tooLong, stray, From, hopAt, insert}
 use Rattle.routes.specs.Match.{longest}
 use Rattle.routes.specs.Room.{need}
 use Rattle.routes.specs.Answers.{Update, announce, withdraw, Record, update, Reply, done, found, none, refused, replies, leaves}
-use Rattle.routes.specs.Bytes.{written}
+use Rattle.routes.specs.Answers.{isDone, isRefused, count}
+use Rattle.routes.specs.Bytes.{recordsBytes, repliesBytes, written}
+use Rattle.routes.specs.Runs.{Ran}
 
 -- ---- feeds of announcements and withdrawals
 
@@ -123,3 +126,31 @@ pub record Meets (W A : ℕ) (xs ys : List Update) : Type 0 where
 -- in every interleaving
 abbrev pub Demand3 : ℕ → Type 0
 Demand3 W = (A : ℕ) (xs ys zs : List Update) (w : Weave xs ys zs) → Meets W A xs ys → Independent W A w
+
+-- ---- a feed as bytes, run
+
+abbrev pub bytes : List Update → List ℕ → List ℕ
+bytes us rest = recordsBytes (records us) ++ rest
+
+-- what may follow the records: nothing; or an end, and whatever comes after it
+abbrev pub Closes : List ℕ → Type 0
+Closes [] = Unit {0}
+Closes (k ∷ t) = k ≡ 0
+
+-- stop 0 at an end, which is consumed too
+abbrev pub stopOf : List ℕ → ℕ
+stopOf [] = 1
+stopOf (k ∷ t) = 0
+
+abbrev pub endOf : List ℕ → ℕ
+endOf [] = 0
+endOf (k ∷ t) = 1
+
+-- each record was answered, in order, as the list answers it
+pub record Answered (A : ℕ) (us : List Update) (rest : List ℕ) (o : Ran) : Type 0 where
+  pub stop : o .stop ≡ stopOf rest
+  pub consumed : o .end .consumed ≡ length (recordsBytes (records us)) + endOf rest
+  pub replies : o .end .replies ≡ repliesBytes (said 32 A us)
+  pub accepted : o .end .accepted ≡ count isDone (said 32 A us)
+  pub refused : o .end .refused ≡ count isRefused (said 32 A us)
+  pub list : o .end .list ≡ kept 32 A us

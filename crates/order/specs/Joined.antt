@@ -13,9 +13,9 @@ use Rattle.routes.specs.Match.{longest}
 use Rattle.routes.specs.Room.{mem, need}
 use Rattle.routes.specs.Answers.{Update, announce, withdraw, answer, isDone, after, replies, leaves}
 use Rattle.routes.specs.Bytes.{written}
-use Rattle.laws.specs.Cases.{bool, same}
+use Rattle.logic.specs.Cases.{bool, same}
 use Rattle.laws.specs.Sorted.{Good, ext, insert-from, all-insert, insert-same, insert-other}
-use Rattle.laws.specs.Bools.{or-left, or-right}
+use Rattle.logic.specs.Bools.{or-left, or-right}
 use Rattle.order.specs.Feeds.{records, Weave, nothing, left, right, flip, heard, prefix, proper, Each, Apart, named, plain, plains, join, Union, kept, Independent, Demand3}
 use Rattle.order.specs.Steps.{at, newHop, each-map, proper-short, after-other, after-same, improper-after, Names, names-first, names-second, Fair, fair-empty, after-fair, plainly, plain-done, answer-plain, improper-plain}
 

@@ -10,9 +10,9 @@ use borrow.Author.Tests.{ltb-false, eqb-false, le-ltb}
 use Rattle.routes.specs.Route.{Route, route, tooLong, stray, badHop, key, From, All, hopAt, insert, remove}
 use Rattle.routes.specs.Room.{mem, heads, need}
 use Rattle.routes.specs.Answers.{Update, announce, withdraw, Reply, done, found, none, refused, refuse, faulty, answer, isDone, after}
-use Rattle.laws.specs.Cases.{bool, same}
+use Rattle.logic.specs.Cases.{bool, same}
 use Rattle.laws.specs.Sorted.{Good, insert-from, remove-from, all-insert, all-remove, insert-same, insert-other, remove-same, remove-other}
-use Rattle.laws.specs.Bools.{or-left, or-case, or-false}
+use Rattle.logic.specs.Bools.{or-left, or-case, or-false}
 use Rattle.laws.specs.Room.{hit, mem-heads, heads-insert, Under, need-le, mem-skip, under-first, under-second}
 use Rattle.order.specs.Feeds.{prefix, proper, Each, named, plain}
 

@@ -6,7 +6,7 @@ use mathlib.Core.Path.{_≡_, refl, ap}
 use mathlib.Core.Bool.{Bool, true, false, cond}
 use mathlib.Core.List.{List, [], _∷_}
 use Rattle.routes.specs.Answers.{Update}
-use Rattle.laws.specs.Cases.{bool}
+use Rattle.logic.specs.Cases.{bool}
 use Rattle.order.specs.Feeds.{Weave, nothing, left, right}
 
 pub record Marked : Type 0 where

@@ -8,7 +8,7 @@ use Prim.Native.Nat.{ℕ, suc, _+_, _-_, _*_, _/_, _%_, _^_, _≤_, _<_}
 use native.Mathlib.Nat.{mod-lt}
 use native.Mathlib.Omega.{arith}
 use lib.Pow.{pow-pos, shr-shr, shr-lt, split, field}
-use Rattle.laws.specs.Cases.{same}
+use Rattle.logic.specs.Cases.{same}
 use Rattle.routes.specs.Room.{level}
 
 -- the first 8 * i bits

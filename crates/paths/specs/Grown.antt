@@ -11,7 +11,9 @@ use lib.ListN.{length, getD}
 use Rattle.arrays.specs.Arrays.{node, held}
 use Rattle.arrays.specs.Tree.{Level, node-level}
 use Rattle.arrays.specs.Need.{node-child, node-above}
-use Rattle.arrays.specs.Words.{arraysOf, arrayCount, firstFree, gained, Almost, Gains}
+use Rattle.arrays.specs.Words.{arraysOf, arrayCount}
+use Rattle.arrays.specs.Almost.{Almost}
+use Rattle.arrays.specs.Gained.{firstFree, gained, Gains}
 use Rattle.arrays.specs.Hang.{Hang, hang-held, other, node-cases}
 use Rattle.arrays.specs.Rehang.{Gain, gained-hang, gained-almost, gained-length, gained-counted}
 use Rattle.arrays.specs.Stock.{Found, find-some, used-full}

@@ -8,15 +8,17 @@ use native.Mathlib.Nat.{mul-le-mul-right}
 use native.Mathlib.Omega.{arith}
 use lib.Dec.{eqb}
 use lib.Pow.{pow-add}
-use Rattle.laws.specs.Cases.{same}
+use Rattle.logic.specs.Cases.{same}
 use Rattle.routes.specs.Route.{route}
 use Rattle.routes.specs.Route as list
-use Rattle.laws.specs.Collect.{routes, routeOf, routes-hop}
+use Rattle.laws.specs.Collect.{routes-hop}
+use Rattle.routes.specs.Collect.{routes, routeOf}
 use Rattle.arrays.specs.Arrays.{Arrays, node, held}
 use Rattle.arrays.specs.Need.{held-at}
 use Rattle.arrays.specs.Slot.{Place, held-place, at-none}
 use Rattle.arrays.specs.Words.{arraysOf, arrayCount, slotsOf}
-use Rattle.arrays.specs.Table.{Table, listOf}
+use Rattle.arrays.specs.Table.{listOf}
+use Rattle.arrays.specs.Almost.{Table}
 use Rattle.paths.specs.Address.{front, value-lt, front-lt, prefix-whole, IsPrefix, Stands}
 use Rattle.paths.specs.Stop.{Stops, stops-short}
 

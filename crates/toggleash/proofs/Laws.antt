@@ -7,7 +7,7 @@ use native.Mathlib.Omega.{arith}
 use lib.ListN.{length, drop}
 use Rattle.routes.specs.Answers.{Update, refused, isRefused}
 use Rattle.routes.specs.Seen.{Answer, gives, refuses, countOn, frontOn}
-use Rattle.laws.specs.Cases.{less}
+use Rattle.logic.specs.Cases.{less}
 use Rattle.arrays.specs.Table.{seen}
 use Rattle.audit.specs.declared.Cleared.{Cleared}
 use Rattle.audit.specs.Told.{toldClear, Clears as Below}

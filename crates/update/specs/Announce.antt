@@ -15,12 +15,15 @@ use Rattle.routes.specs.Route as list
 use Rattle.routes.specs.Room.{needTo, need}
 use Rattle.routes.specs.Cells.{cells}
 use Rattle.routes.specs.Answers.{Update, announce, done, refused, lacking, verdict}
-use Rattle.laws.specs.Cases.{bool, same}
+use Rattle.logic.specs.Cases.{bool, same}
 use Rattle.laws.specs.Sorted.{insert-same, insert-held}
-use Rattle.laws.specs.Collect.{routes, routeOf, routes-from, routes-goods}
-use Rattle.arrays.specs.Arrays.{Arrays, node, held, HasSlot, HasLink}
-use Rattle.arrays.specs.Words.{arraysOf, arrayCount, Almost}
-use Rattle.arrays.specs.Table.{Table, listOf}
+use Rattle.laws.specs.Collect.{routes-from, routes-goods}
+use Rattle.routes.specs.Collect.{routes, routeOf}
+use Rattle.arrays.specs.Arrays.{Arrays, node, held}
+use Rattle.arrays.specs.Shape.{HasSlot, HasLink}
+use Rattle.arrays.specs.Words.{arraysOf, arrayCount}
+use Rattle.arrays.specs.Almost.{Almost, Table}
+use Rattle.arrays.specs.Table.{listOf}
 use Rattle.arrays.specs.Tree.{Level, node-level}
 use Rattle.arrays.specs.Slot.{Place, Slotted, slotted-insert}
 use Rattle.arrays.specs.Reslot.{reslot-slotted, reslot-almost, almost-whole}

@@ -8,17 +8,17 @@ use Prim.Native.Nat.{ℕ, zero, suc, _+_, _-_, _*_, _/_, _^_, _≤_, _<_}
 use native.Mathlib.Nat.{mul-div-cancel, mul-le-mul-right, mul-add-div-right, add-mul, mul-assoc, one-mul}
 use native.Mathlib.Omega.{arith}
 use lib.Pow.{pow-pos, pow-add, shr-shr, shr-lt}
-use Rattle.laws.specs.Cases.{bool}
+use Rattle.logic.specs.Cases.{bool}
 use Rattle.routes.specs.Route.{hopAt}
 use Rattle.routes.specs.Cells.{hidden, cells}
-use Rattle.laws.specs.Collect.{routes, routeOf, routes-hop}
+use Rattle.laws.specs.Collect.{routes-hop}
+use Rattle.routes.specs.Collect.{routes, routeOf}
 use Rattle.laws.specs.Longest.{routes-wfs}
 use Rattle.laws.specs.Cells.{open-cells, cells-open}
 use Rattle.laws.specs.Hidden.{cellKey, heldPast, hidden-held}
 use Rattle.array.specs.Put.{anyUp, exposed}
 use Rattle.arrays.specs.Arrays.{Arrays, node, held}
-use Rattle.arrays.specs.Need.{at-some}
-use Rattle.arrays.specs.Need.{held-at}
+use Rattle.arrays.specs.Need.{at-some, held-at}
 
 -- the low bits apart
 quot : (q i e m : ℕ) → e + m ≡ 8 → (q * 256 + i) / 2 ^ m ≡ q * 2 ^ e + i / 2 ^ m

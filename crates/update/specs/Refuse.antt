@@ -8,12 +8,13 @@ use native.Mathlib.Omega.{arith}
 use lib.Dec.{eqb}
 use lib.ListN.{length}
 use borrow.Author.Tests.{eq-eqb, ne-eqb}
-use Rattle.laws.specs.Cases.{bool, less, same}
+use Rattle.logic.specs.Cases.{bool, less, same}
 use Rattle.routes.specs.Route.{Route, tooLong, stray, badHop}
 use Rattle.routes.specs.Answers.{Update, announce, withdraw, Reply, refused, faulty, verdict, answer}
 use Rattle.routes.specs.Seen.{Seen, misfit, foreign, table, misfits, answerOn, afterOn}
 use Rattle.arrays.specs.Words.{arrayCount}
-use Rattle.arrays.specs.Table.{Table, tableB, listOf, seen}
+use Rattle.arrays.specs.Table.{tableB, listOf, seen}
+use Rattle.arrays.specs.Almost.{Table}
 use Rattle.arrays.specs.View.{fits-no-misfit, no-misfit-fits, table-fits, seen-misfit, seen-foreign, seen-table, seen-cases}
 use Rattle.arrays.specs.Decides.{table-tells}
 use Rattle.paths.specs.Address.{IsPrefix}

@@ -9,15 +9,16 @@ use native.Mathlib.Omega.{arith}
 use lib.ListN.{length, getD}
 use lib.Pow.{pow-add, pow-mono}
 use Rattle.array.specs.Cell.{bestIn, linkIn}
-use Rattle.array.specs.Block.{slots, bests, links, Right}
+use Rattle.array.specs.Block.{slots, bests, links}
+use Rattle.array.specs.Right.{Right, right-ext}
 use Rattle.array.specs.Put.{anyUp, exposed, Spot, Reslotted}
 use Rattle.arrays.specs.Arrays.{lev}
-use Rattle.arrays.specs.Words.{arraysOf, arrayCount, slotsOf, bestsOf, Almost}
+use Rattle.arrays.specs.Words.{arraysOf, arrayCount, slotsOf, bestsOf}
+use Rattle.arrays.specs.Almost.{Almost}
 use Rattle.arrays.specs.Tree.{node-level}
 use Rattle.arrays.specs.Slot.{Place}
 use Rattle.arrays.specs.Reslot.{Reslot}
 use Rattle.array.specs.Frame.{blockOf, withBlock, block-word, block-length, with-length, with-in, with-other}
-use Rattle.array.specs.Right.{right-ext}
 
 -- array a, of level k, is right, and has a slot of length d and value x
 pub record Seat (ws : List ℕ) (a k d x : ℕ) : Type 0 where

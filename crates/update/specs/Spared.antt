@@ -4,8 +4,9 @@ use mathlib.Core.Logic.{_≢_, inl, inr, ⊎-elim}
 use mathlib.Core.List.{List}
 use Prim.Native.Nat.{ℕ, zero, suc, _+_, _-_, _*_, _/_, _%_, _≤_, _<_}
 use native.Mathlib.Omega.{arith}
-use Rattle.laws.specs.Cases.{same, less}
-use Rattle.arrays.specs.Arrays.{Arrays, node, par, Shape}
+use Rattle.logic.specs.Cases.{same, less}
+use Rattle.arrays.specs.Arrays.{Arrays, node, par}
+use Rattle.arrays.specs.Shape.{Shape}
 use Rattle.arrays.specs.Tree.{node-level, node-tag}
 use Rattle.arrays.specs.Need.{node-above}
 use Rattle.arrays.specs.Words.{arraysOf, arrayCount}

@@ -13,7 +13,8 @@ use Rattle.routes.specs.Answers.{Update, announce, withdraw, Reply, done, refus
 use Rattle.routes.specs.Seen.{misfits, answerOn, afterOn}
 use Rattle.arrays.specs.Arrays.{Arrays, node}
 use Rattle.arrays.specs.Words.{arraysOf, arrayCount}
-use Rattle.arrays.specs.Table.{Table, tableB, listOf, seen}
+use Rattle.arrays.specs.Table.{tableB, listOf, seen}
+use Rattle.arrays.specs.Almost.{Table}
 use Rattle.paths.specs.Address.{front}
 use Rattle.paths.specs.Alike.{Alike}
 use Rattle.update.specs.declared.Updated.{Updated}

@@ -8,13 +8,14 @@ use Prim.Native.Nat.{ℕ, _+_, _-_, _*_, _%_, _^_, _≤_, _<_}
 use native.Mathlib.Omega.{arith}
 use lib.ListN.{getD}
 use borrow.Author.Tests.{eq-eqb, ne-eqb}
-use Rattle.laws.specs.Cases.{same}
+use Rattle.logic.specs.Cases.{same}
 use Rattle.routes.specs.Route.{Route, route, key, remove}
 use Rattle.routes.specs.Route as list
 use Rattle.routes.specs.Cells.{cells}
 use Rattle.routes.specs.Answers.{withdraw, done}
 use Rattle.laws.specs.Sorted.{remove-same}
-use Rattle.laws.specs.Collect.{routeOf, routes-from}
+use Rattle.laws.specs.Collect.{routes-from}
+use Rattle.routes.specs.Collect.{routeOf}
 use Rattle.arrays.specs.Arrays.{held}
 use Rattle.arrays.specs.Words.{arraysOf, arrayCount, slotsOf}
 use Rattle.arrays.specs.Table.{listOf}

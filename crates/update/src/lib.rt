@@ -3,7 +3,7 @@ ghost use mathlib.Core.Path.{_≡_};
 ghost use Prim.Native.Nat.{_+_, _*_, _-_, _^_, _<_, _≤_};
 ghost use Rattle.routes.specs.Answers.{announce as announced, withdraw as withdrawn};
 ghost use Rattle.arrays.specs.Words.{slotsOf};
-ghost use Rattle.arrays.specs.Table.{Table};
+ghost use Rattle.arrays.specs.Almost.{Table};
 ghost use Rattle.paths.specs.Address.{IsPrefix};
 ghost use Rattle.update.specs.Seat.{Seat, Seated};
 ghost use Rattle.update.specs.Update.{Updates, Applies, faultOf, refusalOf};

@@ -10,7 +10,7 @@ use lib.Pow.{shr-mono}
 use borrow.Author.Tests.{eq-eqb, ne-eqb}
 use Rattle.routes.specs.Route.{Route, key, From}
 use Rattle.routes.specs.Room.{mem, distinct, heads}
-use Rattle.laws.specs.Cases.{bool, same}
+use Rattle.logic.specs.Cases.{bool, same}
 use Rattle.laws.specs.Longest.{Wfs}
 use Rattle.way.specs.Marks.{picks}
 

@@ -12,10 +12,10 @@ use lib.Pow.{pow-pos}
 use borrow.Author.Tests.{eq-eqb, ne-eqb}
 use Rattle.routes.specs.Route.{Route, key, From, Wf}
 use Rattle.routes.specs.Room.{mem, distinct}
-use Rattle.laws.specs.Cases.{bool, same}
+use Rattle.logic.specs.Cases.{bool, same}
 use Rattle.laws.specs.Sorted.{hop-head, hop-skip, hop-below}
 use Rattle.laws.specs.Longest.{Wfs, whole}
-use Rattle.laws.specs.Bools.{or-left, or-right}
+use Rattle.logic.specs.Bools.{or-left, or-right}
 use Rattle.laws.specs.Room.{distinct-mem}
 use Rattle.way.specs.Way.{turnsAt}
 use Rattle.way.specs.Marks.{picks, heldAt, unheld, marks, markersTo, markers, entries}

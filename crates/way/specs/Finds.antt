@@ -10,9 +10,9 @@ use lib.Dec.{eqb}
 use lib.Pow.{pow-pos}
 use borrow.Author.Tests.{lt-ltb, le-ltb, eq-eqb}
 use Rattle.routes.specs.Room.{mem}
-use Rattle.laws.specs.Cases.{bool, same, less}
-use Rattle.laws.specs.Bools.{or-left, or-right}
-use Rattle.laws.specs.Longest.{last}
+use Rattle.logic.specs.Cases.{bool, same, less}
+use Rattle.logic.specs.Bools.{or-left, or-right}
+use Rattle.routes.specs.Match.{last}
 use Rattle.way.specs.Way.{Look, miss, hit, after, search, turns, turnsAt, best}
 
 -- ---- lengths with nothing held add nothing

@@ -11,10 +11,10 @@ use borrow.Author.Tests.{eq-eqb}
 use Rattle.routes.specs.Route.{Route, key}
 use Rattle.routes.specs.Match.{longest}
 use Rattle.routes.specs.Room.{mem}
-use Rattle.laws.specs.Cases.{same, less}
+use Rattle.logic.specs.Cases.{same, less}
 use Rattle.laws.specs.Sorted.{hop-skip}
 use Rattle.laws.specs.Longest.{Wfs, keyAt, along, longest-last, last-same}
-use Rattle.laws.specs.Bools.{or-left, or-right}
+use Rattle.logic.specs.Bools.{or-left, or-right}
 use Rattle.way.specs.Way.{Look, miss, hit, search, turns, turnsAt, code, best}
 use Rattle.way.specs.Finds.{Marked, way-finds}
 use Rattle.way.specs.Marks.{picks, heldAt, isEntry, entries, bestAt}

@@ -10,7 +10,7 @@ use Rattle.routes.specs.Route.{Route, route, key, tooLong, stray, badHop}
 use Rattle.routes.specs.Room.{need}
 use Rattle.routes.specs.Bytes.{twoAt, fourAt}
 use Rattle.routes.specs.Seen.{Answer, gives, refuses}
-use Rattle.laws.specs.Tells.{allB}
+use Rattle.logic.specs.Every.{allB}
 use Rattle.way.specs.Marks.{markers, wordsFor}
 
 -- the route of record i

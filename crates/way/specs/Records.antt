@@ -13,11 +13,12 @@ use borrow.Author.Tests.{ltb-true, ltb-false, eqb-true, eqb-false, eq-eqb, ne-eq
 use Rattle.routes.specs.Route.{Route, key, From, All, Wf, IsRoute, IsList}
 use Rattle.routes.specs.Room.{mem, distinct}
 use Rattle.routes.specs.Bytes.{twoAt, fourAt}
-use Rattle.laws.specs.Cases.{bool}
+use Rattle.logic.specs.Cases.{bool}
 use Rattle.laws.specs.Sorted.{from-weaken, all-map}
 use Rattle.laws.specs.Longest.{Wfs}
-use Rattle.laws.specs.Bools.{and-to}
-use Rattle.laws.specs.Tells.{allB, all-to}
+use Rattle.logic.specs.Bools.{and-to}
+use Rattle.logic.specs.Every.{allB}
+use Rattle.logic.specs.Tells.{all-to}
 use Rattle.way.specs.Marks.{picks}
 use Rattle.way.specs.Count.{Rising, firstOr, distinct-step, picks-rising}
 use Rattle.way.specs.Listed.{routeAt, routesFrom, listOf, routeB, recordB, wholeB}

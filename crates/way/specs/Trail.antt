@@ -8,8 +8,8 @@ use lib.ListN.{length}
 use lib.Dec.{eqb}
 use borrow.Author.Tests.{eq-eqb}
 use Rattle.routes.specs.Room.{mem}
-use Rattle.laws.specs.Cases.{bool}
-use Rattle.laws.specs.Bools.{or-left, or-right}
+use Rattle.logic.specs.Cases.{bool}
+use Rattle.logic.specs.Bools.{or-left, or-right}
 use Rattle.way.specs.Way.{Look, miss, hit, outside, after, search}
 
 -- after a look: what follows a miss, and what follows a hit

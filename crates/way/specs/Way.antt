@@ -10,9 +10,8 @@ use mathlib.Core.Bool.{Bool, cond}
 use mathlib.Core.List.{List, [], _∷_}
 use Prim.Native.Nat.{ℕ, zero, suc, _+_, _-_, _*_, _^_}
 use lib.Dec.{ltb, eqb}
-use Rattle.routes.specs.Match.{Match, none, found}
+use Rattle.routes.specs.Match.{Match, none, found, last}
 use Rattle.routes.specs.Room.{mem}
-use Rattle.laws.specs.Longest.{last}
 
 -- what a look at one length gives: no entry; an entry with its best match; a number outside its range
 pub data Look : Type 0 where

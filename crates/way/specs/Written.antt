@@ -12,8 +12,9 @@ use Rattle.routes.specs.Route.{Route, key, From, All, IsRoute, IsList}
 use Rattle.routes.specs.Room.{need}
 use Rattle.routes.specs.Answers.{announce, update}
 use Rattle.routes.specs.Bytes.{two, four, twoAt, fourAt, recordBytes, recordsBytes, announced, written}
-use Rattle.laws.specs.Bools.{and-to, or-true}
-use Rattle.laws.specs.Tells.{allB, all-to, all-from}
+use Rattle.logic.specs.Bools.{and-to, or-true}
+use Rattle.logic.specs.Every.{allB}
+use Rattle.logic.specs.Tells.{all-to, all-from}
 use Rattle.laws.specs.Encoded.{record-back}
 use Rattle.laws.specs.Round.{written-long}
 use Rattle.way.specs.Listed.{routeAt, routesFrom, listOf, routeB, recordB, wholeB, unlisted, listed, listedIn}

@@ -2,7 +2,8 @@
 use mathlib.Core.Path.{_≡_, sym, _∙_}
 use mathlib.Core.Bool.{true}
 use Prim.Native.Nat.{_-_, _≤_}
-use Rattle.laws.specs.Tells.{allB, all-none, all-more}
+use Rattle.logic.specs.Every.{allB}
+use Rattle.logic.specs.Tells.{all-none, all-more}
 use Rattle.way.specs.Listed.{recordB}
 use Rattle.listing.proofs.Laws.{on, whole-odd, whole-unended, whole-broken, whole-right}
 use native.Mathlib.Omega.{arith}

@@ -1,0 +1,4 @@
+pub mod Every
+pub mod Cases
+pub mod Bools
+pub mod Tells
