@@ -32,7 +32,7 @@ use Rattle.order.specs.Enough.{enough}
 use Rattle.order.specs.Joined.{demand-3-ipv4}
 use Rattle.order.specs.Calls.{Call, promise, Called, demand-3-called}
 use Rattle.calls.specs.Held.{stopped}
-use Rattle.calls.specs.Series.{Series, all-answered}
+use Rattle.feed.specs.Series.{Series, all-answered}
 
 -- ---- words that stand for a list
 

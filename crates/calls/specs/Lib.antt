@@ -1,5 +1,4 @@
 pub mod Held
-pub mod Series
 pub mod Rows
 pub mod Round
 pub mod Both

@@ -18,7 +18,7 @@ use Rattle.audit.specs.declared.Cleared.the-variants.{Done}
 use Rattle.audit.specs.declared.Checked.{Checked}
 use Rattle.order.specs.Feeds.{records}
 use Rattle.calls.specs.Held.{cleared-done}
-use Rattle.calls.specs.Series.{Asked, Series, answered, all-answered}
+use Rattle.feed.specs.Series.{Asked, Series, answered, all-answered}
 
 -- ---- a row, by the definitions
 

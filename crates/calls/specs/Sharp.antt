@@ -28,7 +28,7 @@ use Rattle.writing.specs.declared.Counted.{Counted}
 use Rattle.feed.specs.Runs.{Runs}
 use Rattle.feed.specs.Sharp as feed
 use Rattle.feed.specs.declared.Ran.{Ran}
-use Rattle.calls.specs.Series.{Series, all-answered}
+use Rattle.feed.specs.Series.{Series, all-answered}
 
 -- ---- clear, check
 

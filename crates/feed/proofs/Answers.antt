@@ -1,5 +1,5 @@
--- Records answered on a table: what the calls promise of any words, read for words that are one. Assumes nothing.
-use mathlib.Core.Path.{_≡_, refl, _∙_}
+-- Records answered by their calls, and what the feed's bytes say of the record that is next. Assumes nothing.
+use mathlib.Core.Path.{_≡_, refl}
 use mathlib.Core.Logic.{_≢_}
 use mathlib.Core.List.{List}
 use Prim.Native.Nat.{ℕ, _+_, _≤_, _<_}
@@ -7,17 +7,21 @@ use native.Mathlib.Omega.{arith}
 use lib.ListN.{length, getD}
 use lib.Dec.{eqb}
 use borrow.Author.Tests.{ne-eqb}
-use Rattle.routes.specs.Answers.{Update, announce, withdraw, update, lookup, Reply as Said, reply, next}
+use Rattle.routes.specs.Answers.{Update, announce, withdraw, update}
 use Rattle.routes.specs.Bytes.{twoAt, fourAt}
 use Rattle.routes.specs.Runs.{size}
-use Rattle.routes.specs.Seen.{Seen, misfit, foreign, table, answerOn, afterOn, lookupOn}
+use Rattle.routes.specs.Seen.{Seen, misfit, foreign, table, lookupOn}
 use Rattle.laws.specs.Turns.{size-pos}
 use Rattle.arrays.specs.Table.{seen}
 use Rattle.arrays.specs.Almost.{Table}
 use Rattle.arrays.specs.View.{seen-cases}
 use Rattle.update.specs.Update.{Updates, told as toldUpdate}
 use Rattle.update.specs.declared.Updated.{Updated}
-use Rattle.feed.specs.Turns.{IsTable, roomIn, listIn, told, Answered, announceAt, withdrawAt, lookupAt, here, Asks, one}
+use Rattle.matches.specs.Told.{told as toldMatch}
+use Rattle.matches.specs.declared.Match.{Match}
+use Rattle.lookup.specs.Walk.{walk}
+use Rattle.feed.specs.Series.{Asked, updated, looked}
+use Rattle.feed.specs.Turns.{IsTable, roomIn, listIn, told, announceAt, withdrawAt, lookupAt, here, Asks, one}
 use Rattle.feed.specs.declared.Reply.{Reply}
 
 -- ---- words that are a table
@@ -32,41 +36,23 @@ pub is-table : (ws : List ℕ) → IsTable (seen 4 ws) → Table 4 ws
 is-table ws t =
     seen-cases 4 ws (omega arith) (omega arith) (λ _ e. absurd (rw e at t)) (λ _ _ e. absurd (rw e at t)) (λ _ _ k _. k)
 
-update-on : (s : Seen) (u : Update) → IsTable s → answerOn 32 s u ≡ reply 32 (roomIn s) (listIn s) (update u)
-update-on misfit u t = absurd t
-update-on foreign u t = absurd t
-update-on (table A rs) u t = refl
+-- ---- the calls: each answer is its promise's, told as a reply
 
-after-on : (s : Seen) (u : Update) → IsTable s → afterOn 32 s u ≡ table (roomIn s) (next 32 (roomIn s) (listIn s) (update u))
-after-on misfit u t = absurd t
-after-on foreign u t = absurd t
-after-on (table A rs) u t = refl
+module _ (ws vs : List ℕ) (r : Reply) (feed : List ℕ) (i : ℕ) where
+  asked-update : (u : Update) (x : Updated) → Updates ws vs u x → told r ≡ toldUpdate x → Asked ws (update u) (told r) vs
+  asked-update u x p q = rw q (updated x p)
 
-lookup-on : (s : Seen) (w : Said) (a : ℕ) → IsTable s → lookupOn 32 s w a ≡ reply 32 (roomIn s) (listIn s) (lookup a)
-lookup-on misfit w a t = absurd t
-lookup-on foreign w a t = absurd t
-lookup-on (table A rs) w a t = refl
+  pub asked-announce : (a l h : ℕ) (x : Updated) → a ≡ fourAt feed (i + 1) → l ≡ getD feed (i + 5) 0 → h ≡ twoAt feed (i + 6)
+      → Updates ws vs (announce a l h) x → told r ≡ toldUpdate x → Asked ws (announceAt feed i) (told r) vs
+  asked-announce a l h x ea el eh p q = rw (← ea, ← el, ← eh) (asked-update (announce a l h) x p q)
 
--- ---- the calls
+  pub asked-withdraw : (a l : ℕ) (x : Updated) → a ≡ fourAt feed (i + 1) → l ≡ getD feed (i + 5) 0
+      → Updates ws vs (withdraw a l) x → told r ≡ toldUpdate x → Asked ws (withdrawAt feed i) (told r) vs
+  asked-withdraw a l x ea el p q = rw (← ea, ← el) (asked-update (withdraw a l) x p q)
 
-module _ (ws vs : List ℕ) (r : Reply) (t : IsTable (seen 4 ws)) where
-  answered-update : (u : Update) (x : Updated) → Updates ws vs u x → told r ≡ toldUpdate x → Answered ws (update u) vs r
-  answered-update u x p q = record { answer = q ∙ p .answer ∙ update-on (seen 4 ws) u t; list = p .list ∙ after-on (seen 4 ws) u t }
-
-  module _ (feed : List ℕ) (i : ℕ) where
-    pub answered-announce : (a l h : ℕ) (x : Updated) → a ≡ fourAt feed (i + 1) → l ≡ getD feed (i + 5) 0 → h ≡ twoAt feed (i + 6)
-        → Updates ws vs (announce a l h) x → told r ≡ toldUpdate x → Answered ws (announceAt feed i) vs r
-    answered-announce a l h x ea el eh p q = rw (← ea, ← el, ← eh) (answered-update (announce a l h) x p q)
-
-    pub answered-withdraw : (a l : ℕ) (x : Updated) → a ≡ fourAt feed (i + 1) → l ≡ getD feed (i + 5) 0
-        → Updates ws vs (withdraw a l) x → told r ≡ toldUpdate x → Answered ws (withdrawAt feed i) vs r
-    answered-withdraw a l x ea el p q = rw (← ea, ← el) (answered-update (withdraw a l) x p q)
-
--- whatever the walk gives on words that are no table
-pub answered-lookup : (ws : List ℕ) (r : Reply) → IsTable (seen 4 ws) → (feed : List ℕ) (i a : ℕ) (w x : Said) → a ≡ fourAt feed (i + 1)
-    → x ≡ lookupOn 32 (seen 4 ws) w a → told r ≡ x → Answered ws (lookupAt feed i) ws r
-answered-lookup ws r t feed i a w x e p q =
-    rw (← e) (record { answer = q ∙ p ∙ lookup-on (seen 4 ws) w a t; list = table-eq (seen 4 ws) t })
+pub asked-lookup : (ws : List ℕ) (r : Reply) (feed : List ℕ) (i a : ℕ) (x : Match) → a ≡ fourAt feed (i + 1)
+    → toldMatch x ≡ lookupOn 32 (seen 4 ws) (walk 4 ws a) a → told r ≡ toldMatch x → Asked ws (lookupAt feed i) (told r) ws
+asked-lookup ws r feed i a x e p q = rw (← e, q) (looked x p)
 
 -- ---- by the kind
 

@@ -2,7 +2,7 @@
 --
 --     feed   ██████████████░░░░░░░░        reply   ██████████░░░░░░░░░░
 --            consumed      at                      written   out, the rest as it was
-use mathlib.Core.Path.{_≡_, refl, sym, ap, ap₂, _∙_}
+use mathlib.Core.Path.{_≡_, refl, sym, ap, ap₂, subst, _∙_}
 use mathlib.Core.Logic.{_≢_}
 use mathlib.Core.Bool.{Bool, true, false, cond}
 use mathlib.Core.List.{List, _++_}
@@ -12,18 +12,21 @@ use native.Mathlib.Omega.{arith}
 use lib.ListN.{length, getD, take, drop, take-append-drop}
 use lib.Seq.{length-sets, length-take-le, drop-drop}
 use lib.Dec.{eqb}
-use Rattle.routes.specs.Answers.{reply, isDone, isRefused}
+use Rattle.routes.specs.Route.{Route}
+use Rattle.routes.specs.Answers.{reply, replies, isDone, isRefused}
 use Rattle.routes.specs.Bytes.{replyBytes}
-use Rattle.routes.specs.Runs.{State, Ran as Outcome, size, tally, finish, halts, taken, runs, run}
+use Rattle.routes.specs.Runs.{State, Ran as Outcome, size, tally, finish, halts, taken, runs, fresh, run, recordsFrom}
 use Rattle.routes.specs.Seen.{Seen, misfit, foreign, table, gives}
 use Rattle.laws.specs.Turns.{Clear, size-pos, halts-clear, runs-on, runs-stop, runs-enough}
+use Rattle.laws.specs.Taken.{ahead, records-stop, records-on}
 use Rattle.laws.specs.Encoded.{reply-short}
 use Rattle.arrays.specs.Table.{seen}
 use Rattle.arrays.specs.View.{seen-table, seen-cases}
 use Rattle.update.specs.Update.{refusalOf}
 use Rattle.update.specs.Refuse.{refusal-size, refusal-foreign, refusal-none, passed}
 use Rattle.feed.specs.Runs.{reportOf, Runs}
-use Rattle.feed.specs.Turns.{IsTable, roomIn, listIn, told, one, Answered, here, Wrote, stateOf, Placed, Takes, Took}
+use Rattle.feed.specs.Series.{Asked, Series, nothing, more, Answered, answered}
+use Rattle.feed.specs.Turns.{IsTable, roomIn, listIn, told, one, here, Wrote, stateOf, Placed, Takes, Took}
 use Rattle.feed.specs.declared.Reply.{Reply}
 use Rattle.feed.specs.declared.Progress.{Progress}
 use Rattle.feed.specs.declared.Report.{Report}
@@ -42,22 +45,32 @@ one-le true = omega arith
 one-le false = omega arith
 
 module _ (p : Progress) (ws feed b : List ℕ) (t : Takes p ws feed b) (n : ℕ) (vs : List ℕ) (r : Reply) (q : ℕ) (c : List ℕ) (x y : ℕ)
-    (en : n ≡ size (getD feed (p .at) 0)) (asked : Answered ws (here feed (p .at)) vs r) (w : Wrote b (p .out) (replyBytes (told r)) q c)
+    (en : n ≡ size (getD feed (p .at) 0)) (asked : Asked ws (here feed (p .at)) (told r) vs) (w : Wrote b (p .out) (replyBytes (told r)) q c)
     (ex : x ≡ one (isDone (told r))) (ey : y ≡ one (isRefused (told r))) where
+  abbrev A : ℕ
+  A = roomIn (seen 4 ws)
+
+  abbrev rs : List Route
+  rs = listIn (seen 4 ws)
+
+  answer : Answered A rs (here feed (p .at)) (told r) vs
+  answer = answered A rs (table-eq (seen 4 ws) (t .isTable)) asked
+
   fits : p .out + length (replyBytes (told r)) ≤ length b
   fits = omega (arith, reply-short (told r), t .clear .free)
 
   pub took : Took p ws feed b (record { at = p .at + n; out = q; accepted = p .accepted + x; refused = p .refused + y }) vs c
   took =
       record {
+        asked = rw said at asked;
         state = λ i. record {
-          list = ap listIn (asked .list) i;
+          list = ap listIn (answer .list) i;
           consumed = p .at + en i;
           replies = reps i;
           accepted = acc i;
           refused = ref i;
         };
-        list = asked .list ∙ ap (table (roomIn (seen 4 ws))) (sym (ap listIn (asked .list)));
+        list = answer .list ∙ ap (table A) (sym (ap listIn (answer .list)));
         rest = ap₂ (λ (m : ℕ) (l : List ℕ). drop m l) (w .place) (w .list) ∙ drop-sets b (p .out) (replyBytes (told r)) fits ∙ ap (λ (m : ℕ). drop m b) (sym (w .place));
         placed = record {
           at = omega (arith, t .clear .body);
@@ -69,22 +82,31 @@ module _ (p : Progress) (ws feed b : List ℕ) (t : Takes p ws feed b) (n : ℕ)
         past = omega (arith, w .place);
       }
     where
-      said : told r ≡ reply 32 (roomIn (seen 4 ws)) (listIn (seen 4 ws)) (here feed (p .at))
-      said = asked .answer
+      said : told r ≡ reply 32 A rs (here feed (p .at))
+      said = answer .answer
 
-      reps : take q c ≡ take (p .out) b ++ replyBytes (reply 32 (roomIn (seen 4 ws)) (listIn (seen 4 ws)) (here feed (p .at)))
+      reps : take q c ≡ take (p .out) b ++ replyBytes (reply 32 A rs (here feed (p .at)))
       reps = ap₂ (λ (m : ℕ) (l : List ℕ). take m l) (w .place) (w .list) ∙ take-sets b (p .out) (replyBytes (told r)) fits ∙ ap (λ z. take (p .out) b ++ replyBytes z) said
 
-      acc : p .accepted + x ≡ tally (isDone (reply 32 (roomIn (seen 4 ws)) (listIn (seen 4 ws)) (here feed (p .at)))) (p .accepted)
+      acc : p .accepted + x ≡ tally (isDone (reply 32 A rs (here feed (p .at)))) (p .accepted)
       acc = ap (λ (m : ℕ). p .accepted + m) ex ∙ one-tally (isDone (told r)) (p .accepted) ∙ ap (λ z. tally (isDone z) (p .accepted)) said
 
-      ref : p .refused + y ≡ tally (isRefused (reply 32 (roomIn (seen 4 ws)) (listIn (seen 4 ws)) (here feed (p .at)))) (p .refused)
+      ref : p .refused + y ≡ tally (isRefused (reply 32 A rs (here feed (p .at)))) (p .refused)
       ref = ap (λ (m : ℕ). p .refused + m) ey ∙ one-tally (isRefused (told r)) (p .refused) ∙ ap (λ z. tally (isRefused z) (p .refused)) said
 
 -- ---- the loop
 
 abbrev pub whole : List ℕ → List ℕ → List ℕ → Outcome
 whole ws feed b = run (roomIn (seen 4 ws)) (listIn (seen 4 ws)) feed (length b)
+
+-- a call was made for each record that is left from the state s on: they began with the words ws and left us
+abbrev pub Ahead : ℕ → List ℕ → ℕ → State → List ℕ → List ℕ → Type 0
+Ahead A feed room s ws us =
+    Series ws (recordsFrom (length feed) A feed room s) (replies 32 A (s .list) (recordsFrom (length feed) A feed room s)) us
+
+ahead-more : (A : ℕ) (feed : List ℕ) (room : ℕ) (s : State) {ws vs us : List ℕ} → halts feed room (s .consumed) (length (s .replies)) ≡ 5
+    → Asked ws (ahead feed s) (reply 32 A (s .list) (ahead feed s)) vs → Ahead A feed room (taken A feed s) vs us → Ahead A feed room s ws us
+ahead-more A feed room s e a x = rw (records-on A feed room s e) (more a x)
 
 -- a run from ws₀ and b₀ has come to p, with the words ws and the reply bytes b, and `stop` is what the next tests find
 pub record Going (ws₀ feed b₀ ws b : List ℕ) (p : Progress) (stop : ℕ) : Type 0 where
@@ -95,6 +117,9 @@ pub record Going (ws₀ feed b₀ ws b : List ℕ) (p : Progress) (stop : ℕ) :
   pub long : length b ≡ length b₀
   pub wide : length ws ≡ length ws₀
   pub halted : stop ≡ halts feed (length b₀) (p .at) (p .out)
+  -- a series of calls for the records that are left makes one for all
+  pub series : (us : List ℕ) → Ahead (roomIn (seen 4 ws₀)) feed (length b₀) (stateOf p ws b) ws us
+      → Ahead (roomIn (seen 4 ws₀)) feed (length b₀) (fresh (listIn (seen 4 ws₀))) ws₀ us
 
 pub start : (ws feed b : List ℕ) (stop : ℕ) → IsTable (seen 4 ws) → stop ≡ halts feed (length b) 0 0
     → Going ws feed b ws b (record { at = 0; out = 0; accepted = 0; refused = 0 }) stop
@@ -107,6 +132,7 @@ start ws feed b stop t e =
       long = refl;
       wide = refl;
       halted = e;
+      series = λ us h. h;
     }
 
 out-length : (p : Progress) (feed b : List ℕ) → Placed p feed b → length (take (p .out) b) ≡ p .out
@@ -150,6 +176,9 @@ module _ (ws₀ feed b₀ ws b : List ℕ) (p : Progress) (stop : ℕ) (g : Goin
         long = lc ∙ g .long;
         wide = lv ∙ g .wide;
         halted = h;
+        series = λ us x. g .series us
+            (ahead-more A feed (length b₀) (stateOf p ws b) (halted-at ∙ e) (rw same-room at (t .asked))
+            (subst (λ (s : State). Ahead A feed (length b₀) s vs us) (t .state ∙ ap (λ (n : ℕ). taken n feed (stateOf p ws b)) same-room) x));
       }
     where
       A : ℕ
@@ -186,14 +215,27 @@ module _ (ws₀ feed b₀ ws b : List ℕ) (p : Progress) (stop : ℕ) (g : Goin
     replies = kept;
   }
 
-  runs-as : (s : Seen) → seen 4 ws₀ ≡ s → IsTable s → (r : Report) → Ended (run (roomIn s) (listIn s) feed (length b₀)) (roomIn s) b₀ ws b r → Runs ws₀ feed b₀ ws b (Stopped r)
-  runs-as misfit e t r x = absurd t
-  runs-as foreign e t r x = absurd t
-  runs-as (table A rs) e t r x = record { answer = rw e (ap gives (x .report)); list = rw e (x .list); replies = rw e (x .replies); kept = λ n z. (let y : _≡_ {A = ℕ} 0 1 = cc in absurd (omega arith)) }
+  -- no record is left
+  all-asked : stop ≢ 5 → Ahead (roomIn (seen 4 ws₀)) feed (length b₀) (fresh (listIn (seen 4 ws₀))) ws₀ ws
+  all-asked n =
+      g .series ws (rw (records-stop (roomIn (seen 4 ws₀)) feed (length b₀) (stateOf p ws b) (length feed) (λ e. n (sym halted-at ∙ e))) nothing)
+
+  runs-as : (s : Seen) → seen 4 ws₀ ≡ s → IsTable s → (r : Report) → Ended (run (roomIn s) (listIn s) feed (length b₀)) (roomIn s) b₀ ws b r
+      → Ahead (roomIn s) feed (length b₀) (fresh (listIn s)) ws₀ ws → Runs ws₀ feed b₀ ws b (Stopped r)
+  runs-as misfit e t r x a = absurd t
+  runs-as foreign e t r x a = absurd t
+  runs-as (table A rs) e t r x a =
+      record {
+        answer = rw e (ap gives (x .report));
+        list = rw e (x .list);
+        replies = rw e (x .replies);
+        kept = λ n z. (let y : _≡_ {A = ℕ} 0 1 = cc in absurd (omega arith));
+        series = rw e a;
+      }
 
   pub stopped : IsTable (seen 4 ws₀) → (n : ℕ) → stop ≢ 5 → n ≡ one (eqb stop 0)
       → Runs ws₀ feed b₀ ws b (Stopped (record { stop = stop; consumed = p .at + n; written = p .out; accepted = p .accepted; refused = p .refused }))
-  stopped t n h e = runs-as (seen 4 ws₀) refl t _ (rw (e, ended h) (report (eqb stop 0)))
+  stopped t n h e = runs-as (seen 4 ws₀) refl t _ (rw (e, ended h) (report (eqb stop 0))) (all-asked h)
 
 -- ---- the test at the start
 
@@ -201,8 +243,8 @@ module _ (ws : List ℕ) (n : ℕ) (first : n ≡ refusalOf ws 0) where
   pub run-refused : (feed b : List ℕ) → n ≢ 0 → Runs ws feed b ws b (Refused n)
   run-refused feed b z =
       seen-cases 4 ws (omega arith) (omega arith)
-      (λ m e. (let q : n ≡ 1 = first ∙ sym (refusal-size ws 0 m) in record { answer = rw (e, q); list = rw e; replies = rw e; kept = λ _ _. refl }))
-      (λ m t e. (let q : n ≡ 2 = first ∙ sym (refusal-foreign ws 0 m refl t) in record { answer = rw (e, q); list = rw e; replies = rw e; kept = λ _ _. refl }))
+      (λ m e. (let q : n ≡ 1 = first ∙ sym (refusal-size ws 0 m) in record { answer = rw (e, q); list = rw e; replies = rw e; kept = λ _ _. refl; series = rw e nothing }))
+      (λ m t e. (let q : n ≡ 2 = first ∙ sym (refusal-foreign ws 0 m refl t) in record { answer = rw (e, q); list = rw e; replies = rw e; kept = λ _ _. refl; series = rw e nothing }))
       (λ m t _ _. absurd (z (first ∙ sym (refusal-none ws 0 m refl t))))
 
   pub run-started : n ≡ 0 → IsTable (seen 4 ws)

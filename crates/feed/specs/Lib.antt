@@ -1,4 +1,7 @@
+pub mod Series
 pub mod Runs
 pub mod Turns
 pub mod Sharp
+pub mod Kept
+pub mod Passes
 pub mod Never

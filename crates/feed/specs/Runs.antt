@@ -4,8 +4,9 @@ use mathlib.Core.List.{List}
 use Prim.Native.Nat.{ℕ}
 use lib.ListN.{length}
 use Rattle.routes.specs.Runs.{Ran as Outcome}
-use Rattle.routes.specs.Seen.{Answer, gives, refuses, runOn, ranOn, repliedOn}
+use Rattle.routes.specs.Seen.{Answer, gives, refuses, runOn, ranOn, repliedOn, recordsOn, answersOn}
 use Rattle.arrays.specs.Table.{seen}
+use Rattle.feed.specs.Series.{Series}
 use Rattle.feed.specs.declared.Report.{Report}
 use Rattle.feed.specs.declared.Ran.{Ran}
 use Rattle.feed.specs.declared.Ran.the-variants.{Stopped, Refused}
@@ -36,3 +37,5 @@ pub record Runs (ws feed b vs c : List ℕ) (r : Ran) : Type 0 where
   pub list : seen 4 vs ≡ ranOn (seen 4 ws) feed b
   pub replies : c ≡ repliedOn (seen 4 ws) feed b
   pub kept : (n : ℕ) → r ≡ Refused n → vs ≡ ws
+  -- a call for each record taken: a lookup, and a record that is refused, leave every word
+  pub series : Series ws (recordsOn (seen 4 ws) feed b) (answersOn (seen 4 ws) feed b) vs

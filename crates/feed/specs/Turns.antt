@@ -6,12 +6,13 @@ use Prim.Native.Nat.{ℕ, _+_, _≤_, _<_}
 use lib.ListN.{length, getD, take, drop}
 use lib.Seq.{sets}
 use Rattle.routes.specs.Route.{Route}
-use Rattle.routes.specs.Answers.{Record, update, announce, withdraw, lookup, Reply as Said, done, found, none, refused, reply, next}
+use Rattle.routes.specs.Answers.{Record, update, announce, withdraw, lookup, Reply as Said, done, found, none, refused, reply}
 use Rattle.routes.specs.Bytes.{twoAt, fourAt}
 use Rattle.routes.specs.Runs.{State, size, recordAt, taken}
 use Rattle.routes.specs.Seen.{Seen, misfit, foreign, table}
 use Rattle.laws.specs.Turns.{Clear}
 use Rattle.arrays.specs.Table.{seen}
+use Rattle.feed.specs.Series.{Asked}
 use Rattle.feed.specs.declared.Reply.{Reply}
 use Rattle.feed.specs.declared.Reply.the-variants.{Done, Found, Nothing, Refused}
 use Rattle.feed.specs.declared.Progress.{Progress}
@@ -40,11 +41,6 @@ told (Done h c) = done h c
 told (Found h l) = found h l
 told Nothing = none
 told (Refused n) = refused n
-
--- the record x was answered by r on the words ws, a table, and left the table vs
-pub record Answered (ws : List ℕ) (x : Record) (vs : List ℕ) (r : Reply) : Type 0 where
-  pub answer : told r ≡ reply 32 (roomIn (seen 4 ws)) (listIn (seen 4 ws)) x
-  pub list : seen 4 vs ≡ table (roomIn (seen 4 ws)) (next 32 (roomIn (seen 4 ws)) (listIn (seen 4 ws)) x)
 
 -- the records of each kind that begin at i
 abbrev pub announceAt : List ℕ → ℕ → Record
@@ -97,6 +93,7 @@ pub record Takes (p : Progress) (ws feed b : List ℕ) : Type 0 where
 
 -- the record after p was answered: the run has come to q, the words are vs and the reply bytes c
 pub record Took (p : Progress) (ws feed b : List ℕ) (q : Progress) (vs c : List ℕ) : Type 0 where
+  pub asked : Asked ws (here feed (p .at)) (reply 32 (roomIn (seen 4 ws)) (listIn (seen 4 ws)) (here feed (p .at))) vs
   pub state : stateOf q vs c ≡ taken (roomIn (seen 4 ws)) feed (stateOf p ws b)
   pub list : seen 4 vs ≡ table (roomIn (seen 4 ws)) (listIn (seen 4 vs))
   pub rest : drop (q .out) c ≡ drop (q .out) b

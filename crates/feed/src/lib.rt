@@ -10,7 +10,8 @@ ghost use Rattle.arrays.specs.Table.{seen};
 ghost use Rattle.update.specs.Update.{told as toldUpdate};
 ghost use Rattle.matches.specs.Told.{told as toldMatch};
 ghost use Rattle.feed.specs.Runs.{Runs};
-ghost use Rattle.feed.specs.Turns.{told, one, Wrote, IsTable, announceAt, withdrawAt, lookupAt, Asks, Answered, here, Takes, Took};
+ghost use Rattle.feed.specs.Series.{Asked};
+ghost use Rattle.feed.specs.Turns.{told, one, Wrote, IsTable, announceAt, withdrawAt, lookupAt, Asks, here, Takes, Took};
 ghost use Rattle.feed.specs.declared.Ran.the-variants.{Stopped};
 
 // What a record is answered with.
@@ -158,7 +159,7 @@ pub fn size(kind: u8) -> usize
 // Answers the record at `at`.
 fn ask(words: &mut [u32], feed: &[u8], at: usize) -> Reply
     requires { ⌜ Asks (now words) (now feed) at ⌝ }
-    ensures { λ r. ⌜ Answered (now (words .entry)) (here (now (feed .entry)) at) (now (words .exit)) r ⌝ }
+    ensures { λ r. ⌜ Asked (now (words .entry)) (here (now (feed .entry)) at) (told r) (now (words .exit)) ⌝ }
 {
     let kind = feed[at];
     if kind == 1 {
@@ -173,7 +174,7 @@ fn ask(words: &mut [u32], feed: &[u8], at: usize) -> Reply
 // Answers the announcement at `at`.
 fn announce(words: &mut [u32], feed: &[u8], at: usize) -> Reply
     requires { ⌜ IsTable (seen 4 (now words)) × (at + 8 ≤ length (now feed)) ⌝ }
-    ensures { λ r. ⌜ Answered (now (words .entry)) (announceAt (now (feed .entry)) at) (now (words .exit)) r ⌝ }
+    ensures { λ r. ⌜ Asked (now (words .entry)) (announceAt (now (feed .entry)) at) (told r) (now (words .exit)) ⌝ }
 {
     let address = numbers::four_at(feed, at + 1);
     let length = feed[at + 5] as u32;
@@ -184,7 +185,7 @@ fn announce(words: &mut [u32], feed: &[u8], at: usize) -> Reply
 // Answers the withdrawal at `at`.
 fn withdraw(words: &mut [u32], feed: &[u8], at: usize) -> Reply
     requires { ⌜ IsTable (seen 4 (now words)) × (at + 6 ≤ length (now feed)) ⌝ }
-    ensures { λ r. ⌜ Answered (now (words .entry)) (withdrawAt (now (feed .entry)) at) (now (words .exit)) r ⌝ }
+    ensures { λ r. ⌜ Asked (now (words .entry)) (withdrawAt (now (feed .entry)) at) (told r) (now (words .exit)) ⌝ }
 {
     let address = numbers::four_at(feed, at + 1);
     let length = feed[at + 5] as u32;
@@ -194,7 +195,7 @@ fn withdraw(words: &mut [u32], feed: &[u8], at: usize) -> Reply
 // Answers the lookup at `at`.
 fn lookup(words: &[u32], feed: &[u8], at: usize) -> Reply
     requires { ⌜ IsTable (seen 4 (now words)) × (at + 5 ≤ length (now feed)) ⌝ }
-    ensures { λ r. ⌜ Answered (now (words .entry)) (lookupAt (now (feed .entry)) at) (now (words .entry)) r ⌝ }
+    ensures { λ r. ⌜ Asked (now (words .entry)) (lookupAt (now (feed .entry)) at) (told r) (now (words .entry)) ⌝ }
 {
     of_match(lookup::lookup_on(words, numbers::four_at(feed, at + 1)))
 }

@@ -67,6 +67,7 @@ ran-so ws feed b vs c r x p e =
       list = p .list;
       replies = p .replies;
       kept = λ n q. p .kept n (told-refused r n (p .answer ∙ ap reported q));
+      series = p .series;
     }
 
 -- ---- the copy's build

@@ -4,8 +4,9 @@ use mathlib.Core.List.{List, _++_}
 use Prim.Native.Nat.{ℕ}
 use lib.ListN.{length, drop}
 use Rattle.routes.specs.Answers.{Update, Reply, done, found, none, refused}
-use Rattle.routes.specs.Seen.{Answer, gives, refuses, Counts, answerOn, afterOn, clearOn, clearedOn, countOn, frontOn, runOn, ranOn, repliedOn}
+use Rattle.routes.specs.Seen.{Answer, gives, refuses, Counts, answerOn, afterOn, clearOn, clearedOn, countOn, frontOn, runOn, ranOn, repliedOn, recordsOn, answersOn}
 use Rattle.arrays.specs.Table.{seen}
+use Rattle.feed.specs.Series.{Series}
 use Rattle.feed.specs.declared.Report.{Report}
 use Rattle.feed.specs.Runs.{reported}
 use Rattle.toggleash.specs.declared.Counted.{Counted}
@@ -68,3 +69,5 @@ pub record Runs (ws feed b vs c : List ℕ) (r : Fields) : Type 0 where
   pub list : seen 4 vs ≡ ranOn (seen 4 ws) feed b
   pub replies : c ≡ repliedOn (seen 4 ws) feed b
   pub kept : (n : ℕ) → runOn (seen 4 ws) feed b ≡ refuses n → vs ≡ ws
+  -- a call for each record taken: a lookup, and a record that is refused, leave every word
+  pub series : Series ws (recordsOn (seen 4 ws) feed b) (answersOn (seen 4 ws) feed b) vs

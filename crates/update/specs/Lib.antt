@@ -6,3 +6,4 @@ pub mod Sharp
 pub mod Spared
 pub mod Withdraw
 pub mod Refuse
+pub mod Passes

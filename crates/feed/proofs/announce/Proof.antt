@@ -1,8 +1,8 @@
--- The record read from the feed's bytes is the one announced, and on a table the call answers as the list does. Assumes nothing.
+-- The record read from the feed's bytes is the one announced, and the answer is the call's. Assumes nothing.
 use native.Mathlib.Omega.{arith}
 use mathlib.Core.Path.{refl}
 use Prim.Native.Nat.{_+_}
-use Rattle.feed.proofs.Answers.{is-table, answered-announce}
+use Rattle.feed.proofs.Answers.{is-table, asked-announce}
 use borrow.Author.Needs.{needs}
 use Rattle.feed.proofs.announce.Statement.{statement}
 use Rattle.feed.proofs.announce.Tie as tie
@@ -38,7 +38,10 @@ same-length : tie.Need-same-length
 same-length c = search needs
 
 returns : tie.Need-returns
-returns c = answered-announce _ _ _ (c .before .before .before .before .before .before .before .before .before .before .pre .0) (c .before .before .before .before .before .before .before .before .before .before .args .feed .now) (c .before .before .before .before .before .before .before .before .before .before .args .at) _ _ _ _ (c .before .before .before .before .before .before .before .four-at .ensures) refl (c .before .before .before .before .before .two-at .ensures .0) (c .before .before .before .announce-on .ensures) (c .of-update .ensures)
+returns c =
+    let s = c .before .before .before .before .before .before .before .before .before .before in
+    asked-announce _ _ (c .of-update .result) (s .args .feed .now) (s .args .at) _ _ _ (c .before .before .before .announce-on .result) (c .before .before .before .before .before .before .before .four-at .ensures) refl
+    (c .before .before .before .before .before .two-at .ensures .0) (c .before .before .before .announce-on .ensures) (c .of-update .ensures)
 
 pub announce-spec : {M : Type 1} → statement M
 announce-spec =

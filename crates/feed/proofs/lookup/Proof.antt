@@ -1,5 +1,5 @@
--- The address read from the feed's bytes is looked up, and on a table the walk gives the longest match. Assumes nothing.
-use Rattle.feed.proofs.Answers.{is-table, answered-lookup}
+-- The address read from the feed's bytes is looked up, and the answer is the call's. Assumes nothing.
+use Rattle.feed.proofs.Answers.{is-table, asked-lookup}
 use borrow.Author.Needs.{needs}
 use Rattle.arrays.specs.View.{table-fits}
 use Rattle.feed.proofs.lookup.Statement.{statement}
@@ -18,7 +18,9 @@ of-match-requires : tie.Need-of-match-requires
 of-match-requires c κs = search needs
 
 returns : tie.Need-returns
-returns c = answered-lookup _ _ (c .before .before .before .before .before .pre .0) (c .before .before .before .before .before .args .feed .now) (c .before .before .before .before .before .args .at) _ _ _ (c .before .before .four-at .ensures) (c .before .lookup-on .ensures) (c .of-match .ensures)
+returns c =
+    let s = c .before .before .before .before .before in
+    asked-lookup (s .args .words .now) (c .of-match .result) (s .args .feed .now) (s .args .at) _ (c .before .lookup-on .result) (c .before .before .four-at .ensures) (c .before .lookup-on .ensures) (c .of-match .ensures)
 
 pub lookup-spec : {M : Type 1} → statement M
 lookup-spec =

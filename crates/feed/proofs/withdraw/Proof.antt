@@ -1,8 +1,8 @@
--- The record read from the feed's bytes is the one withdrawn, and on a table the call answers as the list does. Assumes nothing.
+-- The record read from the feed's bytes is the one withdrawn, and the answer is the call's. Assumes nothing.
 use native.Mathlib.Omega.{arith}
 use mathlib.Core.Path.{refl}
 use Prim.Native.Nat.{_+_}
-use Rattle.feed.proofs.Answers.{is-table, answered-withdraw}
+use Rattle.feed.proofs.Answers.{is-table, asked-withdraw}
 use borrow.Author.Needs.{needs}
 use Rattle.feed.proofs.withdraw.Statement.{statement}
 use Rattle.feed.proofs.withdraw.Tie as tie
@@ -32,7 +32,10 @@ same-length : tie.Need-same-length
 same-length c = search needs
 
 returns : tie.Need-returns
-returns c = answered-withdraw _ _ _ (c .before .before .before .before .before .before .before .before .before .pre .0) (c .before .before .before .before .before .before .before .before .before .args .feed .now) (c .before .before .before .before .before .before .before .before .before .args .at) _ _ _ (c .before .before .before .before .before .before .four-at .ensures) refl (c .before .before .before .withdraw-on .ensures) (c .of-update .ensures)
+returns c =
+    let s = c .before .before .before .before .before .before .before .before .before in
+    asked-withdraw _ _ (c .of-update .result) (s .args .feed .now) (s .args .at) _ _ (c .before .before .before .withdraw-on .result) (c .before .before .before .before .before .before .four-at .ensures) refl
+    (c .before .before .before .withdraw-on .ensures) (c .of-update .ensures)
 
 pub withdraw-spec : {M : Type 1} → statement M
 withdraw-spec =

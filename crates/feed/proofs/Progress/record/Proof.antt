@@ -41,7 +41,10 @@ same-length-2 : tie.Need-same-length-2
 same-length-2 c = search needs
 
 returns : tie.Need-returns
-returns c = took _ _ _ _ (c .before .before .before .before .before .before .before .before .before .before .before .before .before .before .before .before .before .pre) _ _ _ _ _ _ _ (c .before .before .before .before .before .before .before .before .before .before .before .before .size .ensures .0) (c .before .before .before .before .before .before .before .before .before .before .ask .ensures) (c .before .before .before .before .before .before .put .ensures) (c .before .before .before .accepts .ensures .0) (c .before .refuses .ensures .0)
+returns c =
+    let a = c .before .before .before .before .before .before .before .before .before .before in
+    took _ _ _ _ (a .before .before .before .before .before .before .before .pre) _ _ (a .ask .result) _ _ _ _ (a .before .before .size .ensures .0) (a .ask .ensures) (c .before .before .before .before .before .before .put .ensures)
+    (c .before .before .before .accepts .ensures .0) (c .before .refuses .ensures .0)
 
 pub record-spec : {M : Type 1} → statement M
 record-spec =

@@ -1,5 +1,5 @@
 -- Calls one after the other on lent words, each known by its promise alone: on a table they are answered as its list answers them.
--- Assumes nothing.
+-- A lookup leaves every word, an update those that its own promise says. Assumes nothing.
 --
 --     words    ws ──▶ . ──▶ . ──▶ vs         seen as table A rs first, and as table A of what the records leave last
 --     calls       x₁    x₂    x₃             announce, withdraw or lookup

@@ -1,0 +1,59 @@
+-- What a run leaves of the words that it is lent: a lookup and a refused record leave every word, and so does a run that accepts
+-- nothing. Assumes nothing.
+use mathlib.Core.Path.{_≡_, refl, sym, _∙_}
+use mathlib.Core.Bool.{false}
+use mathlib.Core.List.{List, [], _∷_}
+use Prim.Native.Nat.{ℕ, _+_}
+use native.Mathlib.Omega.{arith}
+use lib.ListN.{length}
+use Rattle.routes.specs.Answers.{Record, Reply, done, found, none, refused, isDone, count}
+use Rattle.routes.specs.Runs.{run}
+use Rattle.routes.specs.Seen.{Seen, misfit, foreign, table, runOn, answersOn}
+use Rattle.laws.specs.Taken.{run-came}
+use Rattle.arrays.specs.Table.{seen}
+use Rattle.update.specs.declared.Updated.the-variants.{Done, Refused as Unfit}
+use Rattle.feed.specs.Series.{Asked, updated, looked, Series, nothing, more}
+use Rattle.feed.specs.Runs.{told, reported, Runs}
+use Rattle.feed.specs.declared.Ran.{Ran}
+use Rattle.feed.specs.declared.Ran.the-variants.{Stopped, Refused}
+
+-- ---- one record
+
+-- a record that is not accepted, a lookup among them, leaves every word
+pub asked-kept : {ws vs : List ℕ} {x : Record} {y : Reply} → Asked ws x y vs → isDone y ≡ false → vs ≡ ws
+asked-kept (updated (Done h c) p) e = let z : _≡_ {A = ℕ} 0 1 = cc in absurd (omega arith)
+asked-kept (updated (Unfit n) p) e = p .kept refl
+asked-kept (looked r p) e = refl
+
+-- ---- all of them
+
+counted : (y : Reply) (n : ℕ) → count isDone (y ∷ []) + n ≡ 0 → isDone y ≡ false
+counted (done h c) n e = absurd (omega arith)
+counted (found h l) n e = refl
+counted none n e = refl
+counted (refused m) n e = refl
+
+pub series-kept : {ws vs : List ℕ} {xs : List Record} {ys : List Reply} → Series ws xs ys vs → count isDone ys ≡ 0 → vs ≡ ws
+series-kept nothing e = refl
+series-kept (more {y = y} {ys = ys} a s) e = series-kept s (omega arith) ∙ asked-kept a (counted y (count isDone ys) (omega arith))
+
+-- ---- a run
+
+-- the updates that it says it accepted
+abbrev pub acceptedBy : Ran → ℕ
+acceptedBy (Stopped r) = r .accepted
+acceptedBy (Refused n) = 0
+
+accepted-count : (s : Seen) (feed b : List ℕ) (r : Ran) → told r ≡ reported (runOn s feed b) → acceptedBy r ≡ count isDone (answersOn s feed b)
+accepted-count misfit feed b (Stopped r) e = let z : _≡_ {A = ℕ} 0 1 = cc in absurd (omega arith)
+accepted-count foreign feed b (Stopped r) e = let z : _≡_ {A = ℕ} 0 1 = cc in absurd (omega arith)
+accepted-count (table A rs) feed b (Stopped r) e =
+    let n : r .accepted ≡ run A rs feed (length b) .end .accepted = cc in
+    omega (arith, n, run-came A rs feed (length b) .accepted)
+accepted-count misfit feed b (Refused n) e = refl
+accepted-count foreign feed b (Refused n) e = refl
+accepted-count (table A rs) feed b (Refused n) e = let z : _≡_ {A = ℕ} 0 1 = cc in absurd (omega arith)
+
+-- nothing accepted, nothing changed
+pub unaccepted-kept : (ws feed b vs c : List ℕ) (r : Ran) → Runs ws feed b vs c r → acceptedBy r ≡ 0 → vs ≡ ws
+unaccepted-kept ws feed b vs c r p e = series-kept (p .series) (sym (accepted-count (seen 4 ws) feed b r (p .answer)) ∙ e)

@@ -1,0 +1,28 @@
+-- The test of the whole table that an update makes first: where it passes before an update, it passes after it, so a later one need not
+-- be made. Assumes nothing.
+use mathlib.Core.Path.{_≡_, refl, sym, _∙_}
+use mathlib.Core.List.{List}
+use Prim.Native.Nat.{ℕ}
+use native.Mathlib.Omega.{arith}
+use Rattle.routes.specs.Route.{Route}
+use Rattle.routes.specs.Answers.{Update}
+use Rattle.routes.specs.Seen.{table}
+use Rattle.arrays.specs.Table.{seen}
+use Rattle.arrays.specs.View.{seen-table, table-of, table-true, table-fits, fits-no-misfit}
+use Rattle.update.specs.declared.Updated.{Updated}
+use Rattle.update.specs.Update.{refusalOf, Updates}
+use Rattle.update.specs.Refuse.{refusal-none, passed}
+
+-- the test finds no number
+abbrev pub Passes : List ℕ → Type 0
+Passes ws = refusalOf ws 0 ≡ 0
+
+pub seen-passes : (ws : List ℕ) (A : ℕ) (rs : List Route) → seen 4 ws ≡ table A rs → Passes ws
+seen-passes ws A rs e =
+    let t = table-of 4 ws (omega arith) (omega arith) A rs e .table in
+    sym (refusal-none ws 0 (fits-no-misfit _ (table-fits 4 ws t)) refl (table-true 4 ws t))
+
+pub update-passes : (ws vs : List ℕ) (u : Update) (r : Updated) → Updates ws vs u r → Passes ws → Passes vs
+update-passes ws vs u r p e =
+    let t = seen-table 4 ws (passed ws 0 e .0) in
+    seen-passes vs _ _ (rw t at (p .list))
