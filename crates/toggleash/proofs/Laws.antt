@@ -36,7 +36,13 @@ cleared ws vs r n b e =
 
 pub made : (ws vs : List ℕ) (u : Update) (r : Answered) (x : Updated) → Made ws vs u r → x ≡ updated (told r) → Updates ws vs u x
 made ws vs u r x m e =
-    record { answer = e ∙ ap updated (m .answer); list = m .list; kept = λ n q. m .kept (ap isRefused (m .answer ∙ q)); still = m .still }
+    record {
+      answer = e ∙ ap updated (m .answer);
+      list = m .list;
+      kept = λ n q. m .kept (ap isRefused (m .answer ∙ q));
+      still = m .still;
+      frame = m .frame;
+    }
 
 -- ---- writing out
 

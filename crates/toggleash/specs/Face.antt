@@ -1,11 +1,13 @@
 -- What the C face's numbers say: the refusal's number, or 0 and the values; every field not meant is 0. Assumes nothing.
 use mathlib.Core.Path.{_≡_}
 use mathlib.Core.List.{List, _++_}
-use Prim.Native.Nat.{ℕ}
+use Prim.Native.Nat.{ℕ, _≤_}
 use lib.ListN.{length, drop}
 use Rattle.routes.specs.Answers.{Update, Reply, done, found, none, refused}
 use Rattle.routes.specs.Seen.{Answer, gives, refuses, Counts, answerOn, afterOn, clearOn, clearedOn, countOn, frontOn, runOn, ranOn, repliedOn, recordsOn, answersOn}
 use Rattle.arrays.specs.Table.{seen}
+use Rattle.paths.specs.Alike.{Alike}
+use Rattle.update.specs.Update.{Touches}
 use Rattle.feed.specs.Series.{Series}
 use Rattle.feed.specs.declared.Report.{Report}
 use Rattle.feed.specs.Runs.{reported}
@@ -59,6 +61,8 @@ pub record Updates (ws vs : List ℕ) (u : Update) (r : Updated) : Type 0 where
   pub kept : (n : ℕ) → answerOn 32 (seen 4 ws) u ≡ refused n → vs ≡ ws
   -- a hop that is held already changes no word
   pub still : seen 4 vs ≡ seen 4 ws → vs ≡ ws
+  -- an array that the route's path does not touch has the same words
+  pub frame : (c : ℕ) → 1 ≤ c → ¬ Touches 4 u ws vs c → Alike ws vs c
 
 pub record Writes (ws b c : List ℕ) (r : Written) : Type 0 where
   pub answer : r ≡ wrote (countOn (seen 4 ws) (length b))

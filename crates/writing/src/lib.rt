@@ -119,7 +119,8 @@ pub fn fill(words: &[u32], buffer: &mut [u8]) -> usize
 
 // The front of the buffer, written: the list's bytes, or none where the count refuses.
 pub fn write_out<'a>(words: &[u32], buffer: &'a mut [u8]) -> &'a mut [u8]
-    ensures { λ r. ⌜ now r ≡ frontOn (seen 4 (now (words .entry))) (length (now (buffer .entry))) ⌝ }
+    ensures place { λ r. ⌜ r .ptr ≡ buffer .entry .ptr ⌝ }
+    ensures bytes { λ r. ⌜ now r ≡ frontOn (seen 4 (now (words .entry))) (length (now (buffer .entry))) ⌝ }
 {
     let n = fill(words, &mut buffer[..]);
     &mut buffer[..n]
