@@ -27,7 +27,7 @@ use Rattle.feed.specs.Runs.{Runs, reportOf}
 use Rattle.feed.specs.declared.Report.{Report}
 use Rattle.feed.specs.declared.Ran.{Ran}
 use Rattle.feed.specs.declared.Ran.the-variants.{Stopped}
-use Rattle.order.specs.Feeds.{records, Weave, flip, heard, plains, kept, keptBoth, Union, Meets, Closes, bytes}
+use Rattle.order.specs.Feeds.{records, Weave, flip, heard, plains, kept, keptBoth, Union, Meets, Closes, bytes, readBack}
 use Rattle.order.specs.Enough.{enough}
 use Rattle.order.specs.Joined.{demand-3-ipv4}
 use Rattle.order.specs.Calls.{Call, promise, Called, demand-3-called}
@@ -94,6 +94,10 @@ module _ {A : ℕ} {us : List Update} (c : Run A us) where
     enough = λ e. c .enough (ap (λ (p : Report). p .stop) reported ∙ e);
   }
 
+  -- the replies, one for each update, read back from the reply bytes
+  abbrev pub replies : List Reply
+  replies = readBack us (c .reply′)
+
 -- any run of them with five reply bytes for each record is one
 abbrev pub roomy : {A : ℕ} {us : List Update} (ws rest b vs c : List ℕ) (r : Ran) → seen 4 ws ≡ table A [] → AllFit (records us) → Closes rest → 5 * length (records us) ≤ length b
     → Runs ws (bytes us rest) b vs c r → Run A us
@@ -114,6 +118,9 @@ roomy {A} {us} ws rest b vs c r t f e h p =
 
 -- the three runs: each answer, the counts, and the words that the joint one leaves
 pub record RanBoth {A : ℕ} {xs ys zs : List Update} (w : Weave xs ys zs) (j : Run A zs) (f : Run A xs) (s : Run A ys) : Type 0 where
+  -- the replies read back from the joint run's reply bytes are those read back from each feed's own, cells excepted
+  pub first : plains (heard w (replies j)) ≡ plains (replies f)
+  pub second : plains (heard (flip w) (replies j)) ≡ plains (replies s)
   -- answers alike, cells excepted; reply bytes, stop and bytes consumed of each; the union
   pub called : Called w (call j) (call f) (call s)
   pub accepted : j .report .accepted ≡ f .report .accepted + s .report .accepted
@@ -124,6 +131,8 @@ pub demand-3-run : {A : ℕ} {xs ys zs : List Update} (w : Weave xs ys zs) → M
 demand-3-run {A} {xs} {ys} w m j f s =
     let c = demand-3-called w m (call j) (call f) (call s) in
     record {
+      first = c .first-read;
+      second = c .second-read;
       called = c;
       accepted = rw (reported j, reported f, reported s) (c .accepted);
       refused = rw (reported j, reported f, reported s) (c .refused);

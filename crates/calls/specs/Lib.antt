@@ -5,3 +5,9 @@ pub mod Both
 pub mod Sharp
 pub mod Face
 pub mod Copy
+pub mod Below
+pub mod Exported
+pub mod ExportedRound
+pub mod ExportedBoth
+pub mod ExportedRows
+pub mod ExportedNever

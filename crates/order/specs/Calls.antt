@@ -17,9 +17,10 @@ use Rattle.routes.specs.Bytes.{repliesBytes, written, AllFit}
 use Rattle.routes.specs.Runs.{Ran, run}
 use Rattle.routes.specs.Seen.{Seen, table, gives, lookupOn, checkOn, countOn, frontOn, runOn, ranOn, repliedOn}
 use Rattle.arrays.specs.Table.{seen}
-use Rattle.order.specs.Feeds.{records, Weave, said, kept, keptBoth, Meets, Independent, Closes, bytes, Answered}
+use Rattle.order.specs.Feeds.{records, Weave, flip, heard, plains, said, kept, keptBoth, Meets, Independent}
+use Rattle.order.specs.Feeds.{Closes, bytes, readBack, Answered}
 use Rattle.order.specs.Enough.{enough}
-use Rattle.order.specs.Fed.{Fed, answered, Together, demand-3-fed}
+use Rattle.order.specs.Fed.{read-said, Fed, answered, Together, demand-3-fed}
 
 -- what the run promises of the words ws, a feed and the reply bytes b, where it leaves vs and c and has the outcome o
 pub record Promise (ws feed b vs c : List ℕ) (o : Ran) : Type 0 where
@@ -93,6 +94,13 @@ module _ {A : ℕ} {us : List Update} (c : Call A us) where
         list = (rw (c .cleared) at (c .runs .list)) ∙ ap (table A) (answered fed .list);
       }
 
+  -- the replies, read back from the reply bytes
+  abbrev pub replied : List Reply
+  replied = readBack us (c .reply′)
+
+  replied-said : replied ≡ said 32 A us
+  replied-said = ap (readBack us) (left .replies) ∙ read-said A us _
+
 -- ---- three calls
 
 -- the joint call j beside the calls f and s of its two feeds alone
@@ -100,6 +108,9 @@ pub record Called {A : ℕ} {xs ys zs : List Update} (w : Weave xs ys zs) (j : C
   pub joint : Left j
   pub first : Left f
   pub second : Left s
+  -- the replies to each feed, read back from the joint call's reply bytes, are those of that feed's own call, cells excepted
+  pub first-read : plains (heard w (replied j)) ≡ plains (replied f)
+  pub second-read : plains (heard (flip w) (replied j)) ≡ plains (replied s)
   -- their answers are alike, and their lists joined are a union
   pub independent : Independent 32 A w
   pub accepted : j .ran .end .accepted ≡ f .ran .end .accepted + s .ran .end .accepted
@@ -118,6 +129,8 @@ demand-3-called {A} {xs} {ys} {zs} w m j f s =
       joint = left j;
       first = left f;
       second = left s;
+      first-read = rw (replied-said j, replied-said f) (t .independent .first-heard);
+      second-read = rw (replied-said j, replied-said s) (t .independent .second-heard);
       independent = t .independent;
       accepted = rw (← ran-is j, ← ran-is f, ← ran-is s) (t .accepted);
       refused = rw (← ran-is j, ← ran-is f, ← ran-is s) (t .refused);

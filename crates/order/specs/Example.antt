@@ -15,9 +15,10 @@ use Rattle.routes.specs.Match.{found, longest}
 use Rattle.routes.specs.Room.{needTo}
 use Rattle.routes.specs.Cells.{cells, shown}
 use Rattle.routes.specs.Answers.{Update, announce, withdraw, done, refused, answer}
+use Rattle.routes.specs.Runs.{runs, halts}
 use Rattle.order.specs.Feeds.{Weave, nothing, left, right, Each, Apart, prefix, proper, said, kept, keptBoth, Meets, Independent}
 use Rattle.order.specs.Joined.{demand-3-ipv4}
-use Rattle.order.specs.Fed.{Fed, roomy, Together, demand-3-fed}
+use Rattle.order.specs.Fed.{Fed, roomy, replied, Together, demand-3-fed}
 
 -- 10.0.0.0
 abbrev ten : ℕ
@@ -113,6 +114,16 @@ first = roomy ((lit< tt, lit< tt, lit< tt), ((lit< tt, lit< tt, lit< tt), ((lit<
 
 abbrev second : Fed 2 ys
 second = roomy ((lit< tt, lit< tt, lit< tt), ((lit< tt, lit< tt, lit< tt), ((lit< tt, lit< tt, lit< tt), tt))) [] tt 15 (lit≤ tt)
+
+-- read back from the bytes, cells and all
+pub read-joint : replied joint
+    ≡ done 1 1 ∷ done 2 128 ∷ refused 3 ∷ done 3 64 ∷ done 4 128 ∷ refused 3 ∷ done 2 64 ∷ refused 7 ∷ []
+unfolding answer cells shown needTo runs halts
+read-joint = refl
+
+pub read-first : replied first ≡ done 2 128 ∷ refused 3 ∷ done 4 128 ∷ done 2 128 ∷ refused 7 ∷ []
+unfolding answer cells shown needTo runs halts
+read-first = refl
 
 pub together : Together woven joint first second
 together = demand-3-fed woven meets joint first second

@@ -3,17 +3,18 @@
 use mathlib.Core.Path.{_≡_, refl, sym, ap, ap₂, _∙_}
 use mathlib.Core.Logic.{_≢_}
 use mathlib.Core.Bool.{Bool, cond}
-use mathlib.Core.List.{List, [], _∷_}
-use Prim.Native.Nat.{ℕ, _+_, _*_, _≤_}
+use mathlib.Core.List.{List, [], _∷_, _++_, append-nil}
+use Prim.Native.Nat.{ℕ, suc, _+_, _*_, _≤_}
 use native.Mathlib.Omega.{arith}
 use lib.ListN.{length}
 use Rattle.routes.specs.Route.{Route}
 use Rattle.routes.specs.Answers.{Update, update, Reply, done, found, none, refused, isDone, isRefused, next, replies, count}
-use Rattle.routes.specs.Bytes.{AllFit}
+use Rattle.routes.specs.Bytes.{AllFit, repliesBytes}
 use Rattle.routes.specs.Runs.{Ran, fresh, run}
 use Rattle.laws.specs.Encoded.{ended}
+use Rattle.laws.specs.Replies.{answers-back}
 use Rattle.order.specs.Feeds.{records, Weave, nothing, left, right, flip, heard, plain, plains, join, said, Meets}
-use Rattle.order.specs.Feeds.{Independent, Closes, bytes, Answered}
+use Rattle.order.specs.Feeds.{Independent, Closes, bytes, readBack, Answered}
 use Rattle.order.specs.Steps.{plain-done}
 use Rattle.order.specs.Joined.{demand-3-ipv4}
 use Rattle.order.specs.Enough.{closed, run-enough, enough}
@@ -42,6 +43,25 @@ answered {A} {us} f = rw (run-enough A [] (records us) (f .fits) (f .rest) (f .c
 -- five reply bytes for each record are enough
 abbrev pub roomy : {A : ℕ} {us : List Update} → AllFit (records us) → (rest : List ℕ) → Closes rest → (room : ℕ) → 5 * length (records us) ≤ room → Fed A us
 roomy {A} {us} f rest c room h = record { fits = f; rest = rest; closes = c; room = room; enough = enough A [] (records us) f rest c room h }
+
+-- ---- its replies, read back from their bytes
+
+-- those that a run wrote
+abbrev pub replied : {A : ℕ} {us : List Update} → Fed A us → List Reply
+replied {us = us} f = readBack us (outcome f .end .replies)
+
+as-many : (us : List Update) → length (records us) ≡ length us
+as-many [] = refl
+as-many (u ∷ us) = ap suc (as-many us)
+
+-- they are what was answered, whatever follows them
+pub read-said : (A : ℕ) (us : List Update) (rest : List ℕ) → readBack us (repliesBytes (said 32 A us) ++ rest) ≡ said 32 A us
+read-said A us rest = rw (as-many us) at (answers-back A [] (records us) [] rest tt)
+
+pub replied-said : {A : ℕ} {us : List Update} (f : Fed A us) → replied f ≡ said 32 A us
+replied-said {A} {us} f =
+    let bs : List ℕ = repliesBytes (said 32 A us) in
+    ap (readBack us) (answered f .replies ∙ sym (append-nil bs)) ∙ read-said A us []
 
 -- ---- the counts
 
@@ -79,6 +99,9 @@ pub record Together {A : ℕ} {xs ys zs : List Update} (w : Weave xs ys zs) (j :
   pub joint : Answered A zs (j .rest) (outcome j)
   pub first : Answered A xs (f .rest) (outcome f)
   pub second : Answered A ys (s .rest) (outcome s)
+  -- the replies of the joint run to each feed, read back from its bytes, are those of that feed's own run, cells excepted
+  pub first-read : plains (heard w (replied j)) ≡ plains (replied f)
+  pub second-read : plains (heard (flip w) (replied j)) ≡ plains (replied s)
   -- these answers are alike, and the list is the join
   pub independent : Independent 32 A w
   pub list : outcome j .end .list ≡ join (outcome f .end .list) (outcome s .end .list)
@@ -91,6 +114,8 @@ demand-3-fed {A} {xs} {ys} {zs} w m j f s =
       joint = answered j;
       first = answered f;
       second = answered s;
+      first-read = rw (replied-said j, replied-said f) (i .first-heard);
+      second-read = rw (replied-said j, replied-said s) (i .second-heard);
       independent = i;
       list = answered j .list ∙ i .joined ∙ sym (ap₂ join (answered f .list) (answered s .list));
       accepted = answered j .accepted ∙ counted A w i isDone plain-done ∙ sym (ap₂ _+_ (answered f .accepted) (answered s .accepted));

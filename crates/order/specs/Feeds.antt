@@ -15,7 +15,7 @@ use Rattle.routes.specs.Match.{longest}
 use Rattle.routes.specs.Room.{need}
 use Rattle.routes.specs.Answers.{Update, announce, withdraw, Record, update, Reply, done, found, none, refused, replies, leaves}
 use Rattle.routes.specs.Answers.{isDone, isRefused, count}
-use Rattle.routes.specs.Bytes.{recordsBytes, repliesBytes, written}
+use Rattle.routes.specs.Bytes.{recordsBytes, repliesBytes, repliesAt, written}
 use Rattle.routes.specs.Runs.{Ran}
 
 -- ---- feeds of announcements and withdrawals
@@ -154,3 +154,7 @@ pub record Answered (A : ℕ) (us : List Update) (rest : List ℕ) (o : Ran) : T
   pub accepted : o .end .accepted ≡ count isDone (said 32 A us)
   pub refused : o .end .refused ≡ count isRefused (said 32 A us)
   pub list : o .end .list ≡ kept 32 A us
+
+-- the replies to a feed, one for each update, read back from the first of the reply bytes on
+abbrev pub readBack : List Update → List ℕ → List Reply
+readBack us bs = repliesAt (length us) bs 0

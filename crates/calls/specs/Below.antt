@@ -1,0 +1,273 @@
+-- From each call of the C face to the Rattle call below it: where the C call's promise holds of some numbers, there is an answer
+-- of the call below that tells these numbers, and for which its promise holds. So what is stated of the Rattle calls holds of the
+-- exported ones. Assumes nothing.
+--
+--     toggleash_run   its promise holds of the numbers n
+--          │
+--         run         its promise holds of an answer r, and r tells n
+use mathlib.Core.Path.{_≡_, refl, sym, ap, _∙_}
+use mathlib.Core.Bool.{Bool, true, false, false≢true}
+use mathlib.Core.List.{List, _++_}
+use Prim.Native.Nat.{ℕ, zero, suc, _+_, _-_, _*_, _≤_}
+use native.Mathlib.Omega.{arith}
+use lib.Dec.{ltb, eqb}
+use lib.ListN.{length, drop}
+use Rattle.routes.specs.Route.{Route, route, tooLong, stray, badHop, held}
+use Rattle.routes.specs.Match.{Match as Best, longest}
+use Rattle.routes.specs.Match as best
+use Rattle.routes.specs.Cells.{cells}
+use Rattle.routes.specs.Answers.{Update, announce, withdraw, Reply, done, found, none, refused}
+use Rattle.routes.specs.Answers.{refuse, faulty, lacking, reloaded, verdict, answer, isRefused, matched}
+use Rattle.routes.specs.Runs.{Ran as Outcome}
+use Rattle.routes.specs.Seen.{Seen, misfit, foreign, table, Answer, gives, refuses, Counts}
+use Rattle.routes.specs.Seen.{answerOn, lookupOn, clearOn, checkOn, countOn, frontOn, runOn}
+use Rattle.logic.specs.Cases.{bool}
+use Rattle.arrays.specs.Table.{seen}
+use Rattle.arrays.specs.Words.{arraysOf, arrayCount, bestsOf}
+use Rattle.audit.specs.Told as audit
+use Rattle.audit.specs.declared.Cleared.{Cleared}
+use Rattle.audit.specs.declared.Cleared.the-variants as cleared
+use Rattle.audit.specs.declared.Checked.{Checked}
+use Rattle.audit.specs.declared.Checked.the-variants as checked
+use Rattle.matches.specs.Told as matches
+use Rattle.matches.specs.declared.Match.{Match}
+use Rattle.matches.specs.declared.Match.the-variants as match
+use Rattle.lookup.specs.Walk.{byteAt, outside, deeper, walkFrom, walk}
+use Rattle.update.specs.Update as update
+use Rattle.update.specs.declared.Updated.{Updated as Made}
+use Rattle.update.specs.declared.Updated.the-variants as made
+use Rattle.writing.specs.Told.{toldCount, Fills, front-length, front-none}
+use Rattle.writing.specs.declared.Counted.{Counted as Size}
+use Rattle.writing.specs.declared.Counted.the-variants as size
+use Rattle.feed.specs.Runs as feed
+use Rattle.feed.specs.declared.Report.{Report}
+use Rattle.feed.specs.declared.Ran.{Ran}
+use Rattle.feed.specs.declared.Ran.the-variants as stop
+use Rattle.toggleash.specs.Face.{refusal, counted, looked, updated, wrote, ran, Clears, Updates, Writes, Runs}
+use Rattle.toggleash.specs.declared.Counted.{Counted}
+use Rattle.toggleash.specs.declared.Found.{Found}
+use Rattle.toggleash.specs.declared.Updated.{Updated}
+use Rattle.toggleash.specs.declared.Written.{Written}
+use Rattle.toggleash.specs.declared.Ran.{Ran as Fields}
+
+-- an answer of the call below tells the numbers n, and its promise P holds of that answer
+pub record Below {T N : Type 0} (numbers : T → N) (P : T → Type 0) (n : N) : Type 0 where
+  pub answer : T
+  pub told : n ≡ numbers answer
+  pub promise : P answer
+
+-- ---- toggleash_clear, toggleash_check
+
+abbrev asCleared : Answer (Unit {0}) → Cleared
+asCleared (gives u) = cleared.Done
+asCleared (refuses n) = cleared.Refused n
+
+clear-back : (a : Answer (Unit {0})) → audit.toldClear (asCleared a) ≡ a
+clear-back (gives u) = refl
+clear-back (refuses n) = refl
+
+pub clear-below : (ws vs : List ℕ) (n : ℕ) → Clears ws vs n → Below (λ r. refusal (audit.toldClear r)) (audit.Clears 4 ws vs) n
+clear-below ws vs n p =
+    let e = clear-back (clearOn (length ws)) in
+    record {
+      answer = asCleared (clearOn (length ws));
+      told = p .answer ∙ ap refusal (sym e);
+      promise = record { answer = e; left = p .left; kept = λ m q. p .kept m (sym e ∙ q) };
+    }
+
+abbrev asChecked : Answer Counts → Checked
+asChecked (gives c) = checked.Counts (c .routes) (c .arrays)
+asChecked (refuses n) = checked.Refused n
+
+check-back : (a : Answer Counts) → audit.toldCheck (asChecked a) ≡ a
+check-back (gives c) = refl
+check-back (refuses n) = refl
+
+pub check-below : (ws : List ℕ) (r : Counted) → r ≡ counted (checkOn 32 (seen 4 ws))
+    → Below (λ c. counted (audit.toldCheck c)) (λ c. audit.toldCheck c ≡ checkOn 32 (seen 4 ws)) r
+check-below ws r p =
+    let e = check-back (checkOn 32 (seen 4 ws)) in
+    record { answer = asChecked (checkOn 32 (seen 4 ws)); told = p ∙ ap counted (sym e); promise = e }
+
+-- ---- toggleash_lookup
+
+-- no lookup is answered by `done`, and none refused by the number 0
+abbrev pub OfLookup : Reply → Type 0
+OfLookup (done h c) = ⊥
+OfLookup (found h l) = Unit {0}
+OfLookup none = Unit {0}
+OfLookup (refused n) = 1 ≤ n
+
+best-looks : (m : Best) → OfLookup (matched m)
+best-looks best.none = tt
+best-looks (best.found h l) = tt
+
+refuse-looks : (n : ℕ) (b : Bool) (y : Reply) → 1 ≤ n → OfLookup y → OfLookup (refuse n b y)
+refuse-looks n true y h p = h
+refuse-looks n false y h p = p
+
+walk-looks : (W : ℕ) (ws : List ℕ) (x n a : ℕ) (m : Best) → OfLookup (walkFrom W ws x n a m)
+unfolding walkFrom
+walk-looks W ws x zero a m = omega arith
+walk-looks W ws x (suc n) a m =
+    let base : ℕ = W - 8 * suc n in
+    let b : ℕ = bestsOf ws a (byteAt x n) in
+    let c : ℕ = arraysOf ws .link a (byteAt x n) in
+    refuse-looks 2 (outside W base b) _ (omega arith)
+    (bool (eqb c 0)
+    (λ e. rw e (best-looks (deeper base m b)))
+    (λ e. rw e (refuse-looks 2 (ltb (arrayCount ws) c) _ (omega arith) (walk-looks W ws x n c (deeper base m b)))))
+
+pub lookup-looks : (ws : List ℕ) (a : ℕ) → OfLookup (lookupOn 32 (seen 4 ws) (walk 4 ws a) a)
+lookup-looks ws a = go (seen 4 ws)
+  where
+    go : (s : Seen) → OfLookup (lookupOn 32 s (walk 4 ws a) a)
+    go misfit = omega arith
+    go foreign = walk-looks 32 ws a 4 1 best.none
+    go (table A rs) = best-looks (longest 32 a rs)
+
+abbrev asMatch : Reply → Match
+asMatch (done h c) = match.Nothing
+asMatch (found h l) = match.Found h l
+asMatch none = match.Nothing
+asMatch (refused n) = match.Refused n
+
+match-back : (y : Reply) → OfLookup y → matches.told (asMatch y) ≡ y
+match-back (done h c) p = absurd p
+match-back (found h l) p = refl
+match-back none p = refl
+match-back (refused n) p = refl
+
+pub lookup-below : (ws : List ℕ) (a : ℕ) (r : Found) → r ≡ looked (lookupOn 32 (seen 4 ws) (walk 4 ws a) a)
+    → Below (λ m. looked (matches.told m)) (λ m. matches.told m ≡ lookupOn 32 (seen 4 ws) (walk 4 ws a) a) r
+lookup-below ws a r p =
+    let y : Reply = lookupOn 32 (seen 4 ws) (walk 4 ws a) a in
+    let e = match-back y (lookup-looks ws a) in
+    record { answer = asMatch y; told = p ∙ ap looked (sym e); promise = e }
+
+-- ---- toggleash_announce, toggleash_withdraw
+
+-- no update is answered by `found` or `none`, and none refused by the number 0
+abbrev pub OfUpdate : Reply → Type 0
+OfUpdate (done h c) = Unit {0}
+OfUpdate (found h l) = ⊥
+OfUpdate none = ⊥
+OfUpdate (refused n) = 1 ≤ n
+
+refuse-made : (n : ℕ) (b : Bool) (y : Reply) → 1 ≤ n → OfUpdate y → OfUpdate (refuse n b y)
+refuse-made n true y h p = h
+refuse-made n false y h p = p
+
+faulty-made : (W : ℕ) (u : Update) (y : Reply) → OfUpdate y → OfUpdate (faulty W u y)
+faulty-made W (announce a l h) y p =
+    refuse-made 3 (tooLong W l) _ (omega arith)
+    (refuse-made 4 (stray W a l) _ (omega arith) (refuse-made 5 (badHop h) y (omega arith) p))
+faulty-made W (withdraw a l) y p =
+    refuse-made 3 (tooLong W l) _ (omega arith) (refuse-made 4 (stray W a l) y (omega arith) p)
+
+verdict-made : (W A : ℕ) (rs : List Route) (u : Update) → OfUpdate (verdict W A rs u)
+verdict-made W A rs (announce a l h) = refuse-made 8 (lacking W A rs a l h) (done h (reloaded W rs a l h)) (omega arith) tt
+verdict-made W A rs (withdraw a l) =
+    refuse-made 7 (eqb (held rs a l) 0) (done (held rs a l) (cells W (route a l 0) rs)) (omega arith) tt
+
+pub answer-made : (s : Seen) (u : Update) → OfUpdate (answerOn 32 s u)
+unfolding answer
+answer-made misfit u = omega arith
+answer-made foreign u = faulty-made 32 u (refused 2) (omega arith)
+answer-made (table A rs) u = faulty-made 32 u (verdict 32 A rs u) (verdict-made 32 A rs u)
+
+abbrev asMade : Reply → Made
+asMade (done h c) = made.Done h c
+asMade (found h l) = made.Refused 0
+asMade none = made.Refused 0
+asMade (refused n) = made.Refused n
+
+made-back : (y : Reply) → OfUpdate y → update.told (asMade y) ≡ y
+made-back (done h c) p = refl
+made-back (found h l) p = absurd p
+made-back none p = absurd p
+made-back (refused n) p = refl
+
+pub update-below : (ws vs : List ℕ) (u : Update) (r : Updated) → Updates ws vs u r
+    → Below (λ m. updated (update.told m)) (update.Updates ws vs u) r
+update-below ws vs u r p =
+    let y : Reply = answerOn 32 (seen 4 ws) u in
+    let e = made-back y (answer-made (seen 4 ws) u) in
+    record {
+      answer = asMade y;
+      told = p .answer ∙ ap updated (sym e);
+      promise = record {
+        answer = e;
+        list = p .list;
+        kept = λ q. kept y refl (sym (ap isRefused e) ∙ q);
+        still = p .still;
+        frame = p .frame;
+      };
+    }
+  where
+    kept : (y : Reply) → answerOn 32 (seen 4 ws) u ≡ y → isRefused y ≡ true → vs ≡ ws
+    kept (done h c) e q = absurd (false≢true q)
+    kept (found h l) e q = absurd (false≢true q)
+    kept none e q = absurd (false≢true q)
+    kept (refused n) e q = p .kept n e
+
+-- ---- toggleash_write_out
+
+abbrev asSize : Answer ℕ → Size
+asSize (gives n) = size.Bytes n
+asSize (refuses n) = size.Refused n
+
+size-back : (a : Answer ℕ) → toldCount (asSize a) ≡ a
+size-back (gives n) = refl
+size-back (refuses n) = refl
+
+-- two calls stand below it: the count, and the fill
+pub write-below : (ws b c : List ℕ) (r : Written) → Writes ws b c r
+    → Below (λ t. wrote (toldCount t)) (λ t. (toldCount t ≡ countOn (seen 4 ws) (length b)) × Fills (seen 4 ws) b (r .bytes) c) r
+write-below ws b c r p =
+    let e = size-back (countOn (seen 4 ws) (length b)) in
+    record {
+      answer = asSize (countOn (seen 4 ws) (length b));
+      told = p .answer ∙ ap wrote (sym e);
+      promise = (
+        e,
+        record { count = many; list = p .front ∙ ap (λ (n : ℕ). frontOn (seen 4 ws) (length b) ++ drop n b) (sym many) },
+      );
+    }
+  where
+    long : (a : Answer ℕ) → countOn (seen 4 ws) (length b) ≡ a → wrote a .bytes ≡ length (frontOn (seen 4 ws) (length b))
+    long (gives n) e = sym (front-length (seen 4 ws) (length b) n e)
+    long (refuses n) e = sym (ap length (front-none (seen 4 ws) (length b) n e))
+
+    many : r .bytes ≡ length (frontOn (seen 4 ws) (length b))
+    many = ap (λ (x : Written). x .bytes) (p .answer) ∙ long (countOn (seen 4 ws) (length b)) refl
+
+-- ---- toggleash_run
+
+abbrev asRan : Answer Report → Ran
+asRan (gives p) = stop.Stopped p
+asRan (refuses n) = stop.Refused n
+
+ran-back : (a : Answer Report) → feed.told (asRan a) ≡ a
+ran-back (gives p) = refl
+ran-back (refuses n) = refl
+
+pub run-below : (ws bytes b vs c : List ℕ) (r : Fields) → Runs ws bytes b vs c r
+    → Below (λ t. ran (feed.told t)) (feed.Runs ws bytes b vs c) r
+run-below ws bytes b vs c r p =
+    let e = ran-back (feed.reported (runOn (seen 4 ws) bytes b)) in
+    record {
+      answer = asRan (feed.reported (runOn (seen 4 ws) bytes b));
+      told = p .answer ∙ ap ran (sym e);
+      promise = record {
+        answer = e;
+        list = p .list;
+        replies = p .replies;
+        kept = λ n q. p .kept n (unfit (runOn (seen 4 ws) bytes b) n q);
+        series = p .series;
+      };
+    }
+  where
+    unfit : (a : Answer Outcome) (n : ℕ) → asRan (feed.reported a) ≡ stop.Refused n → a ≡ refuses n
+    unfit (gives o) n e = absurd (let z : _≡_ {A = ℕ} 0 1 = cc in omega arith)
+    unfit (refuses m) n e = ap refuses (cc)

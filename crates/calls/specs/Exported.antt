@@ -1,0 +1,114 @@
+-- Calls of the C face one after the other on lent words, each known by its promise alone: how a caller reads their numbers as
+-- replies, and that they make a series of the Rattle calls below them. Assumes nothing.
+--
+--     toggleash_clear ──▶ words ── toggleash_announce ──▶ . ── toggleash_lookup ──▶ . ── toggleash_withdraw ──▶ words′
+--           0                      refusal, hop, cells         refusal, found, ..
+use mathlib.Core.Path.{_≡_, refl, sym, ap, _∙_}
+use mathlib.Core.Bool.{cond}
+use mathlib.Core.List.{List, [], _∷_}
+use Prim.Native.Nat.{ℕ, _+_, _*_}
+use native.Mathlib.Omega.{arith}
+use lib.Dec.{eqb}
+use lib.ListN.{length}
+use borrow.Author.Tests.{ne-eqb}
+use Rattle.logic.specs.Cases.{bool}
+use Rattle.routes.specs.Answers.{Update, Record, update, lookup, Reply, done, found, none, refused}
+use Rattle.routes.specs.Seen.{Answer as Given, table, gives, refuses, misfits, lookupOn}
+use Rattle.arrays.specs.Table.{seen}
+use Rattle.audit.specs.Told as audit
+use Rattle.audit.specs.declared.Cleared.{Cleared as Answer}
+use Rattle.audit.specs.declared.Cleared.the-variants as answer
+use Rattle.lookup.specs.Walk.{walk}
+use Rattle.matches.specs.Told as matches
+use Rattle.update.specs.Update as below
+use Rattle.toggleash.specs.Face.{refusal, Clears, Updates}
+use Rattle.toggleash.specs.Face as face
+use Rattle.toggleash.specs.declared.Found.{Found}
+use Rattle.toggleash.specs.declared.Updated.{Updated}
+use Rattle.calls.specs.Held.{cleared-done}
+use Rattle.feed.specs.Series as rattle
+use Rattle.calls.specs.Below.{clear-below, lookup-below, update-below}
+use Rattle.calls.specs.Below.{OfLookup, lookup-looks, OfUpdate, answer-made}
+
+-- ---- numbers read as replies
+
+-- those of an announcement or a withdrawal: refusal 0 is none
+abbrev pub saidUpdate : Updated → Reply
+saidUpdate r = cond (eqb (r .refusal) 0) (done (r .hop) (r .cells)) (refused (r .refusal))
+
+-- those of a lookup
+abbrev pub saidLookup : Found → Reply
+saidLookup r = cond (eqb (r .refusal) 0) (cond (eqb (r .found) 0) none (found (r .hop) (r .length))) (refused (r .refusal))
+
+-- they are read as they were meant
+update-read : (y : Reply) → OfUpdate y → saidUpdate (face.updated y) ≡ y
+update-read (done h c) p = refl
+update-read (found h l) p = absurd p
+update-read none p = absurd p
+update-read (refused n) p = rw (ne-eqb n 0 (λ e. omega arith))
+
+lookup-read : (y : Reply) → OfLookup y → saidLookup (face.looked y) ≡ y
+lookup-read (done h c) p = absurd p
+lookup-read (found h l) p = refl
+lookup-read none p = refl
+lookup-read (refused n) p = rw (ne-eqb n 0 (λ e. omega arith))
+
+-- ---- calls
+
+-- toggleash_clear took words of A arrays, and left these
+pub record Cleared (A : ℕ) (words : List ℕ) : Type 0 where
+  pub lent : List ℕ
+  pub size : length lent ≡ 1024 * (A + 1)
+  pub clears : Clears lent words 0
+
+-- the call of a record on the words ws: its numbers say y, and it left vs, as its contract allows
+pub data Asked (ws : List ℕ) : Record → Reply → List ℕ → Type 0 where
+  updated : {u : Update} {vs : List ℕ} (r : Updated) → Updates ws vs u r → Asked ws (update u) (saidUpdate r) vs
+  looked : {a : ℕ} (r : Found) → r ≡ face.looked (lookupOn 32 (seen 4 ws) (walk 4 ws a) a) → Asked ws (lookup a) (saidLookup r) ws
+
+-- several, in order
+pub data Series : List ℕ → List Record → List Reply → List ℕ → Type 0 where
+  nothing : {ws : List ℕ} → Series ws [] [] ws
+  more : {ws vs us : List ℕ} {x : Record} {xs : List Record} {y : Reply} {ys : List Reply}
+      → Asked ws x y vs → Series vs xs ys us → Series ws (x ∷ xs) (y ∷ ys) us
+
+-- ---- and the calls below them
+
+-- clear, not refused
+pub clear-done : {A : ℕ} {words : List ℕ} (c : Cleared A words) → audit.Clears 4 (c .lent) words answer.Done
+clear-done {A} {words} c = let b = clear-below (c .lent) words 0 (c .clears) in of (b .answer) (b .told) (b .promise)
+  where
+    Took : Answer → Type 0
+    Took r = audit.Clears 4 (c .lent) words r
+
+    of : (r : Answer) → 0 ≡ refusal (audit.toldClear r) → Took r → Took answer.Done
+    of answer.Done e p = p
+    of (answer.Refused n) e p =
+        bool (misfits (length (c .lent)))
+        (λ d. absurd (number (rw d at (p .answer))))
+        (λ d. absurd (given (rw d at (p .answer))))
+      where
+        number : _≡_ {A = Given (Unit {0})} (refuses n) (refuses 1) → ⊥
+        number q = let z : n ≡ 1 = cc in omega arith
+
+        given : _≡_ {A = Given (Unit {0})} (refuses n) (gives tt) → ⊥
+        given q = let z : _≡_ {A = ℕ} 0 1 = cc in omega arith
+
+-- words that were cleared are a table of no routes
+pub cleared : {A : ℕ} {words : List ℕ} → Cleared A words → seen 4 words ≡ table A []
+cleared {A} {words} c = cleared-done A (c .lent) words (c .size) (clear-done c)
+
+pub asked-below : {ws vs : List ℕ} {x : Record} {y : Reply} → Asked ws x y vs → rattle.Asked ws x y vs
+asked-below {ws} {vs} (updated {u} r p) =
+    let b = update-below ws vs u r p in
+    let e : saidUpdate r ≡ below.told (b .answer) =
+    ap saidUpdate (p .answer) ∙ update-read _ (answer-made (seen 4 ws) u) ∙ sym (b .promise .answer) in
+    rw e (rattle.updated (b .answer) (b .promise))
+asked-below {ws} (looked {a} r p) =
+    let b = lookup-below ws a r p in
+    let e : saidLookup r ≡ matches.told (b .answer) = ap saidLookup p ∙ lookup-read _ (lookup-looks ws a) ∙ sym (b .promise) in
+    rw e (rattle.looked (b .answer) (b .promise))
+
+pub series-below : {ws vs : List ℕ} {xs : List Record} {ys : List Reply} → Series ws xs ys vs → rattle.Series ws xs ys vs
+series-below nothing = rattle.nothing
+series-below (more a s) = rattle.more (asked-below a) (series-below s)
