@@ -120,19 +120,20 @@ module _ (bs ws : List ℕ) (m o size : ℕ) (f : Makes bs ws m o size) (us : Li
   pub make-room : (o ≤ o + 8 * size) × (o + 8 * size ≤ length us)
   make-room = (omega arith, omega (arith, f .fits, h .kept .long))
 
-  module _ (vs : List ℕ) (c : Cleared us vs o (o + 8 * size)) where
+  -- the passes ask that the table's words are cleared, and what is made that no other is
+  module _ (vs : List ℕ) (to : ℕ) (r : o + 8 * size ≤ to) (c : Cleared us vs o to) where
     pub make-first : Filling false bs vs (length bs / 8) m o (2 * size)
     make-first =
         filling-start bs vs m o (2 * size) (f .list) (f .few) (f .most) (f .low) (omega (arith, f .fits, h .kept .long, c .kept .long)) (rw (f .counts))
-        (built-kept (listOf bs) us vs o m (o + 8 * size) (f .low) (omega (arith, f .most)) (c .kept) below-kept)
+        (built-kept (listOf bs) us vs o m to (f .low) (omega (arith, f .most)) (c .kept) below-kept)
         (λ i a b. c .zero i a (omega arith))
 
     module _ (xs : List ℕ) (g : Filled false bs vs xs 0 m o (2 * size)) where
       pub make-second : Filling true bs xs (length bs / 8) m o (2 * size)
       make-second = filling-turn bs xs m o (2 * size) (g .filling)
 
-      pub make-made : (ys : List ℕ) → Filled true bs xs ys 0 m o (2 * size) → Made bs ws ys m (o + 8 * size)
-      make-made ys t = record {
+      pub make-made : to ≤ o + 8 * size → (ys : List ℕ) → Filled true bs xs ys 0 m o (2 * size) → Made bs ws ys m (o + 8 * size)
+      make-made x ys t = record {
         built = built-more (listOf bs) ys o (o + 8 * size) m (omega arith) (t .filling .built) (filling-end bs ys m o (2 * size) size refl bo so (t .filling));
         long = t .kept .long ∙ g .kept .long ∙ c .kept .long ∙ h .kept .long;
         past = λ i a b. t .kept .above i (omega arith) ∙ g .kept .above i (omega arith) ∙ c .kept .above i (omega arith) ∙ h .kept .above i (omega (arith, f .most));

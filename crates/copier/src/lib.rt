@@ -161,7 +161,8 @@ fn table(bytes: &[u8], words: &mut [u32], m: u32, o: usize, size: usize)
     ensures { λ _. ⌜ Made (now (bytes .entry)) (now (words .entry)) (now (words .exit)) m (o + 8 * size) ⌝ }
 {
     announce(words, m, o, size);
-    clear(words, o, o + 8 * size);
+    let end = o + 8 * size;
+    clear(words, o, end);
     fill(bytes, words, false, m, o, 2 * size);
     fill(bytes, words, true, m, o, 2 * size);
 }
