@@ -17,7 +17,7 @@ use Rattle.routes.specs.Match.{Match, longest}
 use Rattle.routes.specs.Match as match
 use Rattle.routes.specs.Cells.{cells}
 use Rattle.routes.specs.Answers.{lacking, reloaded, Update, announce, withdraw, Record, update, lookup, Reply, done, found, none, refused, refuse, faulty, verdict, answer, matched, reply}
-use Rattle.routes.specs.Bytes.{replyBytes, repliesBytes}
+use Rattle.routes.specs.Bytes.{replyBytes, repliesBytes, replySize}
 use Rattle.routes.specs.Runs.{State, recordAt, halts, taken, runs, fresh, run}
 use Rattle.routes.specs.Seen.{Seen, misfit, foreign, table, runOn, repliedOn}
 use Rattle.arrays.specs.Table.{seen}
@@ -113,7 +113,7 @@ run-replied A rs feed room = runs-replied (length feed) A feed room (fresh rs) (
 
 -- the bytes of the reply that stands first
 abbrev width : List ℕ → ℕ
-width bs = cond (eqb (getD bs 0 0) 16) 5 (cond (eqb (getD bs 0 0) 17) 4 (cond (eqb (getD bs 0 0) 18) 1 2))
+width bs = replySize (getD bs 0 0)
 
 rest : (y : Reply) (bs : List ℕ) → drop (width (replyBytes y ++ bs)) (replyBytes y ++ bs) ≡ bs
 rest (done h c) bs = refl

@@ -60,6 +60,11 @@ pub record Low (W : ℕ) (r : Route) : Type 0 where
 pub list-low : (W : ℕ) (rs : List Route) → All (IsRoute W) rs → All (Low W) rs
 list-low W rs p = all-map (IsRoute W) (Low W) (λ r i. record { len = i .wf .fits; hop = i .low }) rs p
 
+-- a test that was passed
+pub passed : (n : ℕ) (b : Bool) (y : Reply) → isDone (refuse n b y) ≡ true → (b ≡ false) × (isDone y ≡ true)
+passed n true y e = absurd (false≢true e)
+passed n false y e = (refl, e)
+
 module _ (W : ℕ) (w : W < 256) where
   held-low : (rs : List Route) (k : ℕ) → All (Low W) rs → hopAt rs k ≤ 65535
   held-low [] k p = omega arith
@@ -110,10 +115,6 @@ module _ (W : ℕ) (w : W < 256) where
   reply-fits A rs (lookup a) p = match-fits a rs p
 
   -- ---- whatever the record, such a list stays one
-
-  passed : (n : ℕ) (b : Bool) (y : Reply) → isDone (refuse n b y) ≡ true → (b ≡ false) × (isDone y ≡ true)
-  passed n true y e = absurd (false≢true e)
-  passed n false y e = (refl, e)
 
   done-low : (A : ℕ) (rs : List Route) (a l h : ℕ) → isDone (answer W A rs (announce a l h)) ≡ true → Low W (route a l h)
   unfolding answer

@@ -14,6 +14,7 @@ use Rattle.logic.specs.Cases.{bool, same}
 use Rattle.laws.specs.Sorted.{Good, insert-from, remove-from, all-insert, all-remove, insert-same, insert-other, remove-same, remove-other}
 use Rattle.logic.specs.Bools.{or-left, or-case, or-false}
 use Rattle.laws.specs.Room.{hit, mem-heads, heads-insert, Under, need-le, mem-skip, under-first, under-second}
+use Rattle.laws.specs.Replies.{passed}
 use Rattle.order.specs.Feeds.{prefix, proper, Each, named, plain}
 
 -- the key of the prefix that an update names
@@ -30,11 +31,6 @@ each-map f [] p = tt
 each-map f (u ∷ us) p = (f u (p .0), each-map f us (p .1))
 
 -- ---- tests
-
--- a test that was passed
-passed : (n : ℕ) (b : Bool) (r : Reply) → isDone (refuse n b r) ≡ true → (b ≡ false) × (isDone r ≡ true)
-passed n true r e = absurd (false≢true e)
-passed n false r e = (refl, e)
 
 pub plain-done : (r : Reply) → isDone (plain r) ≡ isDone r
 plain-done (done h c) = refl
