@@ -4,20 +4,21 @@ mod text;
 
 ghost use Prim.Native.Nat.{_≤_};
 ghost use lib.ListN.{length};
+use libc::STDOUT_FILENO;
 
-// Reads a feed of at most 4,096 bytes from standard input, runs it on the lent words and prints a line for each record replied
+// Reads a feed of at most 4,096 bytes from an open file, runs it on the lent words and prints a line for each record replied
 // to, and two lines on the whole. A longer input prints `too long` alone.
-pub fn show(words: &mut [u32], reply: &mut [u8]) {
+pub fn show(fd: i32, words: &mut [u32], reply: &mut [u8]) {
     let mut input = [0u8; 4097];
-    let n = io::read_full(0, &mut input);
+    let n = io::read_full(fd, &mut input);
     if n > 4096 {
-        io::write_all(1, b"too long\n");
+        io::write_all(STDOUT_FILENO, b"too long\n");
         return;
     }
     // No record has a longer line for its length than a lookup, 43 bytes for 5: all lines are under 36,000 bytes.
     let mut out = io::large_buffer();
     let k = output(words, &input[..n], reply, &mut out);
-    io::write_all(1, &out[..k]);
+    io::write_all(STDOUT_FILENO, &out[..k]);
 }
 
 // The whole output for a feed, at the front of `out`. Hands back its length.

@@ -1,0 +1,63 @@
+// The program on stored feeds, each with words and reply bytes of its own. A case is a row of `main` and a file of its name in
+// `data/`: its words, its reply bytes, and whether the words are cleared first. What it prints stands under its name.
+ghost use Prim.Native.Nat.{_≤_};
+use libc::STDOUT_FILENO;
+
+fn main() {
+    // Refused records: 3, 4, 5, 7 and 8, and which comes first where several apply. A byte that is no kind stops the run with 2.
+    run(b"refusals", 8192, 4096, true);
+    // Lookups: at every level, at the edges of a box, and after the box around was withdrawn. A record cut short stops it with 3.
+    run(b"lookups", 8192, 4096, true);
+    // All 7 arrays are used, records are refused for room, arrays are freed and taken again. The feed's end stops it with 1.
+    run(b"room", 8192, 4096, true);
+    // Second announcements: with another hop and with the same one, of routes that longer ones cover in part and wholly, and
+    // where every array is used; a lookup after each.
+    run(b"replaces", 8192, 4096, true);
+    // No input stops it with 1.
+    run(b"empty", 8192, 4096, true);
+    // 4,096 bytes, the longest feed that is taken: records at random. Then one byte more.
+    run(b"full", 8192, 4096, true);
+    run(b"long", 8192, 4096, true);
+    // 4 arrays: room freed by a withdrawal is usable at once. Bytes after the end are not read.
+    run(b"four_arrays", 5120, 4096, true);
+    // Replies of 5, 4 and 1 bytes leave 4 of 14: the next record stops it with 4, an end wants no reply and stops it with 0.
+    run(b"short_reply", 8192, 14, true);
+    run(b"short_reply_end", 8192, 14, true);
+    // A number of words that no table has is refused with 1, words that are no table with 2.
+    run(b"misfit_words", 8191, 4096, true);
+    run(b"foreign_words", 2048, 4096, false);
+}
+
+fn run(name: &[u8], words: usize, reply: usize, cleared: bool)
+    requires { ⌜ words ≤ 8192 ⌝ }
+    requires { ⌜ reply ≤ 4096 ⌝ }
+{
+    head(name);
+    let fd = os::open_read(name);
+    if fd < 0 {
+        os::fail(name);
+        return;
+    }
+    lend(fd, words, reply, cleared);
+    libc::close(fd);
+}
+
+fn head(name: &[u8]) {
+    io::write_all(STDOUT_FILENO, b"# ");
+    io::write_all(STDOUT_FILENO, name);
+    io::write_all(STDOUT_FILENO, b"\n");
+}
+
+// Words that are not cleared are all 7, and no table.
+fn lend(fd: i32, words: usize, reply: usize, cleared: bool)
+    requires { ⌜ words ≤ 8192 ⌝ }
+    requires { ⌜ reply ≤ 4096 ⌝ }
+{
+    let mut space = [7u32; 8192];
+    let mut replies = [0u8; 4096];
+    let lent = &mut space[..words];
+    if cleared {
+        audit::clear(lent);
+    }
+    console::show(fd, lent, &mut replies[..reply]);
+}

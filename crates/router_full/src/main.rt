@@ -1,7 +1,0 @@
-// The program on 4,096 bytes, the longest feed that it takes: records at random.
-fn main() {
-    let mut words = [0u32; 8192];
-    let mut reply = [0u8; 4096];
-    audit::clear(&mut words);
-    console::show(&mut words, &mut reply);
-}
