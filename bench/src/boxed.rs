@@ -1,6 +1,6 @@
 //! A trie of one bit a step as an ordinary Rust program has it: a box for each node.
 
-use second::{Prefix, RouteList};
+use reference::{Prefix, RouteList};
 
 #[derive(Default)]
 struct Node {

@@ -1,6 +1,6 @@
 //! The read-only copy of a list: its words for the lookups, and its need and build by themselves.
 
-use second::RouteList;
+use reference::RouteList;
 use toggleash::copy;
 
 use crate::clock::{measure, Way};

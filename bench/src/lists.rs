@@ -3,7 +3,7 @@
 use compare::feeds::hop;
 use compare::lists::Growing;
 use compare::random::Random;
-use second::{Prefix, RouteList};
+use reference::{Prefix, RouteList};
 
 pub struct Load {
     pub name: &'static str,

@@ -3,7 +3,7 @@
 use std::ffi::{c_char, c_int, c_void, CStr};
 use std::mem::transmute_copy;
 
-use second::{Route, RouteList};
+use reference::{Route, RouteList};
 
 const RTLD_NOW: c_int = 2;
 const LIBRARY: &CStr = c"target/c/liblpm.so";

@@ -14,7 +14,7 @@ use clock::{measure, Way};
 use compare::random::Random;
 use lists::Load;
 use lpm::Lpm;
-use second::{layout, Route, RouteList};
+use reference::{layout, Route, RouteList};
 use toggleash::ffi::{self, Answer};
 use trie::Trie;
 

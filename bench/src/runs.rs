@@ -3,7 +3,7 @@
 //! stays in the processor's cache; then all prefixes, which adds what a larger memory costs.
 
 use compare::random::Random;
-use second::Route;
+use reference::Route;
 
 use crate::clock::{measure, Way};
 use crate::lists::{self, Load};

@@ -1,6 +1,6 @@
 //! A trie of one bit a step with its nodes in one vector.
 
-use second::{Prefix, Route, RouteList};
+use reference::{Prefix, Route, RouteList};
 
 /// Children by the next bit, 0 for none, and the hop of a route that ends here, or 0.
 #[derive(Clone, Copy, Default)]

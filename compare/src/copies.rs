@@ -1,11 +1,11 @@
 //! Copies for the line card: built from the written-out list of a table and looked up beside the table. The calls are
-//! made on bytes and words of any kind, by the second program's reading of docs/COPY.md.
+//! made on bytes and words of any kind, by the reference's reading of docs/COPY.md.
 
 use std::net::Ipv4Addr;
 
-use second::copy::{self, Built};
-use second::memory::MOST_ARRAYS;
-use second::{Memory, Prefix, Refusal, RouteList};
+use reference::copy::{self, Built};
+use reference::memory::MOST_ARRAYS;
+use reference::{Memory, Prefix, Refusal, RouteList};
 
 use crate::guard::{begin_call, Lent, Side};
 use crate::lists::{any_list, scattered};

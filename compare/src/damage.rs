@@ -2,10 +2,10 @@
 
 use std::collections::VecDeque;
 
-use second::layout::{best_of_slots, tag_below, with_best, with_link, Arrays, CELLS, HOPS, LINKS, UNUSED};
-use second::list::mask;
-use second::memory::ARRAY_WORDS;
-use second::RouteList;
+use reference::layout::{best_of_slots, tag_below, with_best, with_link, Arrays, CELLS, HOPS, LINKS, UNUSED};
+use reference::list::mask;
+use reference::memory::ARRAY_WORDS;
+use reference::RouteList;
 
 use crate::feeds::{Mood, Source, Terrain};
 use crate::guard::Side;

@@ -1,7 +1,7 @@
 //! Random prefixes that nest and meet, and random feeds of them: repeated, malformed, cut.
 
-use second::feed::Record;
-use second::{Prefix, RouteList};
+use reference::feed::Record;
+use reference::{Prefix, RouteList};
 
 use crate::random::Random;
 

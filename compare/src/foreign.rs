@@ -1,6 +1,6 @@
 //! Words that are no copy, or hardly one: lookups go by the walk under guard.
 
-use second::copy::HEADER;
+use reference::copy::HEADER;
 
 use crate::copies::{addresses, look_up};
 use crate::guard::{Lent, Side};
@@ -30,7 +30,7 @@ pub fn damaged(random: &mut Random, tally: &mut Tally) -> Same {
     let routes = random.within(1..=30);
     let list = any_list(random, routes);
     let bytes = list.encoding();
-    let mut words = vec![0; second::copy::need(&bytes).expect("a list is one") + random.below(20)];
+    let mut words = vec![0; reference::copy::need(&bytes).expect("a list is one") + random.below(20)];
     toggleash::copy::build(&bytes, &mut words).map_err(|refusal| format!("copy::build of a list: {refusal}"))?;
     for _ in 0..random.pick(&[1, 1, 1, 2, 3, 8]) {
         damage(random, &mut words);

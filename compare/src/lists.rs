@@ -2,9 +2,9 @@
 
 use std::collections::{BTreeMap, BTreeSet};
 
-use second::list::mask;
-use second::memory::MOST_ARRAYS;
-use second::{layout, Prefix, RouteList};
+use reference::list::mask;
+use reference::memory::MOST_ARRAYS;
+use reference::{layout, Prefix, RouteList};
 
 use crate::feeds::{hop, Terrain};
 use crate::random::Random;

@@ -1,5 +1,5 @@
-//! Compares the library, through the bindings, with the second implementation on random input; or, with `--programs`,
-//! the proved program with the second one. Exits with status 1 on any difference.
+//! Compares the library, through the bindings, with the reference on random input; or, with `--programs`,
+//! the proved program with the reference. Exits with status 1 on any difference.
 
 use std::process::ExitCode;
 
@@ -32,7 +32,7 @@ fn main() -> ExitCode {
         return ExitCode::from(2);
     };
     let differences = match &options.programs {
-        Some((proved, second)) => compare_programs(&options, proved, second),
+        Some((proved, reference)) => compare_programs(&options, proved, reference),
         None => compare_library(&options),
     };
     ExitCode::from(u8::from(differences > 0))
@@ -166,12 +166,12 @@ fn damaged_copies(options: &Options, tally: &mut Tally) {
     });
 }
 
-fn compare_programs(options: &Options, proved: &str, second: &str) -> u64 {
+fn compare_programs(options: &Options, proved: &str, reference: &str) -> u64 {
     let (mut lines, mut tally) = (0, Tally::default());
     for case in 0..FEEDS * options.times as usize {
         tally.feeds += 1;
         let mut random = begin(options, "programs", case as u64);
-        let result = programs::compare(&mut random, case, proved, second).map(|count| lines += count);
+        let result = programs::compare(&mut random, case, proved, reference).map(|count| lines += count);
         tally.case("programs", case as u64, result);
         if tally.enough() {
             break;

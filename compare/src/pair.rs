@@ -1,11 +1,11 @@
-//! The library's words beside the second program's memory: each call is made on both and compared, in answer, in lent
+//! The library's words beside the reference's memory: each call is made on both and compared, in answer, in lent
 //! bytes, and in what the words stand for.
 
 use std::net::Ipv4Addr;
 
-use second::feed::Answer;
-use second::layout::{self, Arrays, UNUSED};
-use second::{Memory, Prefix, Refusal};
+use reference::feed::Answer;
+use reference::layout::{self, Arrays, UNUSED};
+use reference::{Memory, Prefix, Refusal};
 
 use crate::guard::{begin_call, Lent, Side};
 use crate::tally::{saw_refusal, saw_stop};
@@ -37,7 +37,7 @@ pub fn same<T: PartialEq + std::fmt::Debug>(what: impl Fn() -> String, library: 
     if library == list {
         return Ok(());
     }
-    Err(format!("{}: the library gives {library:?}, the second program {list:?}", what()))
+    Err(format!("{}: the library gives {library:?}, the reference {list:?}", what()))
 }
 
 /// The lent elements are those that must be there.
@@ -52,7 +52,7 @@ pub fn left<T: PartialEq + std::fmt::Debug>(what: impl Fn() -> String, expected:
 }
 
 impl Pair {
-    /// Words as they are, read by the second program.
+    /// Words as they are, read by the reference.
     pub fn seen(words: &[u32], side: Side) -> Pair {
         Pair { words: Lent::copy_of(words, side), memory: layout::read(words) }
     }
@@ -68,7 +68,7 @@ impl Pair {
         }
     }
 
-    /// The words stand for the second program's memory, by its own reading of the layout.
+    /// The words stand for the reference's memory, by its own reading of the layout.
     pub fn stands(&self) -> Same {
         match layout::read(&self.words) == self.memory {
             true => Ok(()),
@@ -176,7 +176,7 @@ impl Pair {
     }
 }
 
-fn same_update(what: impl Fn() -> String, told: Told<toggleash::Update>, expected: Told<second::Update>) -> Same {
+fn same_update(what: impl Fn() -> String, told: Told<toggleash::Update>, expected: Told<reference::Update>) -> Same {
     same(what, told.map(|update| (update.hop, update.cells)), expected.map(|update| (update.hop, update.cells)))
 }
 

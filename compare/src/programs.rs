@@ -1,4 +1,4 @@
-//! The proved program beside the second one: the same bytes on standard input, the same bytes on standard output.
+//! The proved program beside the reference: the same bytes on standard input, the same bytes on standard output.
 
 use std::env;
 use std::io::{ErrorKind, Write};
@@ -13,12 +13,12 @@ use crate::random::Random;
 const LENGTHS: [usize; 8] = [0, 1, 4_095, 4_096, 4_097, 4_098, 8_192, 200_000];
 
 /// Runs both on one feed. Gives the number of lines, or what differs.
-pub fn compare(random: &mut Random, case: usize, proved: &str, second: &str) -> Result<usize, String> {
+pub fn compare(random: &mut Random, case: usize, proved: &str, reference: &str) -> Result<usize, String> {
     let length = LENGTHS.get(case).copied().unwrap_or_else(|| random.below(4_098));
     let feed = program_feed(random, length);
     // A program must not take the first part of a pipe's bytes for all of them.
     let cut = random.chance(5).then(|| random.below(length + 1));
-    let (ours, theirs) = (output(proved, &feed, cut)?, output(second, &feed, cut)?);
+    let (ours, theirs) = (output(proved, &feed, cut)?, output(reference, &feed, cut)?);
     if ours == theirs {
         return Ok(ours.iter().filter(|&&byte| byte == b'\n').count());
     }

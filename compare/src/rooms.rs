@@ -1,9 +1,9 @@
 //! Tables of every size filled, freed and churned by feeds and by direct updates; after each burst the words, the
 //! check, lookups and the written list are compared.
 
-use second::feed::Record;
-use second::memory::ARRAY_WORDS;
-use second::{Prefix, RouteList};
+use reference::feed::Record;
+use reference::memory::ARRAY_WORDS;
+use reference::{Prefix, RouteList};
 
 use crate::feeds::{Mood, Source, Terrain};
 use crate::guard::Side;

@@ -1,7 +1,7 @@
 //! Bytes that are no written-out list, or hardly one: need and build are called on them under guard.
 
-use second::memory::MOST_ARRAYS;
-use second::Prefix;
+use reference::memory::MOST_ARRAYS;
+use reference::Prefix;
 
 use crate::copies::{build, need};
 use crate::feeds::hop;

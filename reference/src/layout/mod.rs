@@ -1,4 +1,4 @@
-//! A second reading of docs/LAYOUT.md: which words are a table and of which list, what the lookup's walk gives on any
+//! A reading of docs/LAYOUT.md: which words are a table and of which list, what the lookup's walk gives on any
 //! words, and words laid out for a list with freely chosen array numbers.
 
 mod lay;

@@ -1,4 +1,4 @@
-//! A second implementation of document 01 and of document 02's item 1, written from the documents alone, to compare the
+//! A plain implementation of document 01 and of document 02's item 1, written from the documents alone, to compare the
 //! proved one with.
 //!
 //! Routes are a plain sorted list. Nothing here knows the words of a table but [`layout`], which reads docs/LAYOUT.md,

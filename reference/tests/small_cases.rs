@@ -1,7 +1,7 @@
 //! The small cases of document 01, the 52-byte example, and the stops and refusals of the run.
 
-use second::feed::Stop;
-use second::{program, Counts, Memory, Refusal, Update};
+use reference::feed::Stop;
+use reference::{program, Counts, Memory, Refusal, Update};
 
 fn table(arrays: usize) -> Memory {
     let mut memory = Memory::new(1024 * (arrays + 1), None);

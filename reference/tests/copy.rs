@@ -1,8 +1,8 @@
 //! The reading of docs/COPY.md, on cases worked by hand: ways, markers and need, bytes that are a list or just not, a
 //! copy laid out word by word, and each number that the walk refuses.
 
-use second::copy::{build, kept, listed, markers, need, stands, turns, walk, Built};
-use second::{Prefix, Refusal, RouteList};
+use reference::copy::{build, kept, listed, markers, need, stands, turns, walk, Built};
+use reference::{Prefix, Refusal, RouteList};
 
 const NO: Refusal = Refusal::NotATable;
 
@@ -157,7 +157,7 @@ fn with(changes: &[(usize, u32)]) -> Vec<u32> {
 #[test]
 fn the_walk_is_the_longest_match() {
     let (words, list) = (words(), sample());
-    let near = |r: &second::Route| {
+    let near = |r: &reference::Route| {
         [r.prefix.address.wrapping_sub(1), r.prefix.address, r.prefix.last(), r.prefix.last().wrapping_add(1)]
     };
     for address in list.routes().iter().flat_map(near).chain([0, u32::MAX, 0x0A01_0509]) {

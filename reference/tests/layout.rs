@@ -1,8 +1,8 @@
 //! The reading of docs/LAYOUT.md: a table laid out is read again, its walk is the longest match, and each condition of
 //! the definition is missed when it alone is broken.
 
-use second::layout::{check, lay, read, walk, Found};
-use second::{Counts, Memory, Prefix, Refusal, RouteList};
+use reference::layout::{check, lay, read, walk, Found};
+use reference::{Counts, Memory, Prefix, Refusal, RouteList};
 
 fn sample() -> RouteList {
     let mut list = RouteList::default();
@@ -44,7 +44,7 @@ fn laid_out_is_read_again() {
 #[test]
 fn the_walk_is_the_longest_match() {
     let (words, list) = (words(), sample());
-    let near = |r: &second::Route| {
+    let near = |r: &reference::Route| {
         [r.prefix.address.wrapping_sub(1), r.prefix.address, r.prefix.last(), r.prefix.last().wrapping_add(1)]
     };
     for address in list.routes().iter().flat_map(near) {

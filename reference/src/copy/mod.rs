@@ -1,4 +1,4 @@
-//! A second reading of docs/COPY.md: which bytes are a list, what its copy needs, when words are a copy of it, and what
+//! A reading of docs/COPY.md: which bytes are a list, what its copy needs, when words are a copy of it, and what
 //! the lookup's walk gives on any words.
 
 mod listed;

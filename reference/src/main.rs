@@ -1,8 +1,8 @@
-//! The second program: the same input and output as the proved one.
+//! The reference as a program: the same input and output as the proved one.
 
 use std::io::{self, Read, Write};
 
-use second::program;
+use reference::program;
 
 fn main() -> io::Result<()> {
     let mut input = Vec::new();
