@@ -3,9 +3,8 @@
 use std::collections::VecDeque;
 
 use reference::layout::{best_of_slots, tag_below, with_best, with_link, Arrays, CELLS, HOPS, LINKS, UNUSED};
-use reference::list::mask;
 use reference::memory::ARRAY_WORDS;
-use reference::RouteList;
+use reference::{Address, RouteList};
 
 use crate::feeds::{Mood, Source, Terrain};
 use crate::guard::Side;
@@ -86,7 +85,7 @@ fn every_cell(random: &mut Random, words: &[u32]) -> Vec<u32> {
         for cell in 0..256 {
             let place = 24 - 8 * level;
             let inside = head | (cell as u32) << place;
-            addresses.push(inside | random.word() & !mask(8 * level + 8));
+            addresses.push(inside | random.word() & !u32::mask(8 * level + 8));
             if let (Some(below), 0..=2) = (arrays.held(arrays.below(a, cell)), level) {
                 ahead.push_back((below, level + 1, inside));
             }

@@ -2,9 +2,8 @@
 
 use std::collections::{BTreeMap, BTreeSet};
 
-use reference::list::mask;
 use reference::memory::MOST_ARRAYS;
-use reference::{layout, Prefix, RouteList};
+use reference::{layout, Address, Prefix, RouteList};
 
 use crate::feeds::{hop, Terrain};
 use crate::random::Random;
@@ -34,7 +33,7 @@ impl Growing {
 
     /// Adds the route if its prefix is new and no more than so many arrays are needed then.
     pub fn grow(&mut self, prefix: Prefix, hop: u32, most: usize) {
-        let heads = (1..=prefix.level()).map(|level| (level, prefix.address & mask(8 * level)));
+        let heads = (1..=prefix.level()).map(|level| (level, prefix.address & u32::mask(8 * level)));
         let missing = heads.clone().filter(|head| !self.heads.contains(head)).count();
         if self.need() + missing <= most && !self.routes.contains_key(&prefix) {
             self.routes.insert(prefix, hop);

@@ -1,9 +1,10 @@
 //! A plain implementation of document 01 and of document 02's item 1, written from the documents alone, to compare the
 //! proved one with.
 //!
-//! Routes are a plain sorted list. Nothing here knows the words of a table but [`layout`], which reads docs/LAYOUT.md,
-//! nor those of a copy but [`copy`], which reads docs/COPY.md.
+//! Routes are a plain sorted list, over any [`Address`]; feeds, words and copies are of IPv4. Nothing here knows the words
+//! of a table but [`layout`], which reads docs/LAYOUT.md, nor those of a copy but [`copy`], which reads docs/COPY.md.
 
+pub mod address;
 pub mod copy;
 pub mod feed;
 pub mod layout;
@@ -12,6 +13,7 @@ pub mod memory;
 pub mod program;
 pub mod refusal;
 
+pub use address::Address;
 pub use feed::Ran;
 pub use list::{Prefix, Route, RouteList};
 pub use memory::{Counts, Memory, Update};

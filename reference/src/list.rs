@@ -2,94 +2,86 @@
 
 use std::ops::Range;
 
-/// The bits that a prefix of this length fixes. A shift by 32 is not a number, so length 0 is a case of its own.
-pub fn mask(length: u32) -> u32 {
-    match length {
-        0 => 0,
-        _ => u32::MAX << (32 - length),
-    }
-}
+use crate::address::Address;
 
-/// An address with a length from 0 to 32, all bits after the length being 0.
+/// An address with a length from 0 to its bits, all bits after the length being 0.
 ///
 /// The derived order is that of writing out: lower address first, at equal address shorter length first.
 #[derive(Clone, Copy, Debug, PartialEq, Eq, PartialOrd, Ord, Hash)]
-pub struct Prefix {
-    pub address: u32,
+pub struct Prefix<A = u32> {
+    pub address: A,
     pub length: u32,
 }
 
-impl Prefix {
+impl<A: Address> Prefix<A> {
     /// The prefix of that length which holds the address.
-    pub fn around(address: u32, length: u32) -> Prefix {
-        Prefix { address: address & mask(length), length }
+    pub fn around(address: A, length: u32) -> Self {
+        Prefix { address: address & A::mask(length), length }
     }
 
-    pub fn matches(self, address: u32) -> bool {
-        address & mask(self.length) == self.address
+    pub fn matches(self, address: A) -> bool {
+        address & A::mask(self.length) == self.address
     }
 
     /// The last address inside.
-    pub fn last(self) -> u32 {
-        self.address | !mask(self.length)
+    pub fn last(self) -> A {
+        self.address | !A::mask(self.length)
     }
 
     /// Level 0 holds lengths 0 to 8, and each further level eight lengths more.
     pub fn level(self) -> u32 {
         match self.length {
             0..=8 => 0,
-            9..=16 => 1,
-            17..=24 => 2,
-            _ => 3,
+            longer => (longer - 1) / 8,
         }
     }
 
     /// The first 8 * level bits, which name the array that the prefix belongs to.
-    pub fn head(self) -> u32 {
-        self.address & mask(8 * self.level())
+    pub fn head(self) -> A {
+        self.address & A::mask(8 * self.level())
     }
 
-    fn same_array(self, other: Prefix) -> bool {
+    fn same_array(self, other: Self) -> bool {
         self.level() == other.level() && self.head() == other.head()
     }
 
     /// The cells of its own array that the prefix covers.
     pub fn cells(self) -> Range<usize> {
-        let cell = |address: u32| (address >> (24 - 8 * self.level()) & 255) as usize;
-        cell(self.address)..cell(self.last()) + 1
+        let level = self.level();
+        self.address.byte(level)..self.last().byte(level) + 1
     }
 }
 
 /// A prefix with its hop.
 #[derive(Clone, Copy, Debug, PartialEq, Eq)]
-pub struct Route {
-    pub prefix: Prefix,
+pub struct Route<A = u32> {
+    pub prefix: Prefix<A>,
     pub hop: u32,
 }
 
 /// Routes in the order of writing out, each prefix at most once.
 #[derive(Clone, Debug, Default, PartialEq, Eq)]
-pub struct RouteList {
-    routes: Vec<Route>,
+pub struct RouteList<A = u32> {
+    routes: Vec<Route<A>>,
 }
 
-impl RouteList {
-    pub fn routes(&self) -> &[Route] {
+impl<A: Address> RouteList<A> {
+    pub fn routes(&self) -> &[Route<A>] {
         &self.routes
     }
 
-    fn find(&self, prefix: Prefix) -> Result<usize, usize> {
+    fn find(&self, prefix: Prefix<A>) -> Result<usize, usize> {
         self.routes.binary_search_by_key(&prefix, |route| route.prefix)
     }
 
     /// The hop that the prefix is held with.
-    pub fn hop(&self, prefix: Prefix) -> Option<u32> {
+    pub fn hop(&self, prefix: Prefix<A>) -> Option<u32> {
         let at = self.find(prefix).ok()?;
         Some(self.routes[at].hop)
     }
 
     /// Holds the prefix with this hop; gives the hop that it was held with before.
-    pub fn set(&mut self, prefix: Prefix, hop: u32) -> Option<u32> {
+    pub fn set(&mut self, prefix: Prefix<A>, hop: u32) -> Option<u32> {
         match self.find(prefix) {
             Ok(at) => Some(std::mem::replace(&mut self.routes[at].hop, hop)),
             Err(at) => {
@@ -100,14 +92,14 @@ impl RouteList {
     }
 
     /// Removes the route of this prefix and gives its hop.
-    pub fn remove(&mut self, prefix: Prefix) -> Option<u32> {
+    pub fn remove(&mut self, prefix: Prefix<A>) -> Option<u32> {
         let at = self.find(prefix).ok()?;
         Some(self.routes.remove(at).hop)
     }
 
     /// The matching route of the greatest length.
-    pub fn longest_match(&self, address: u32) -> Option<Route> {
-        (0..=32).rev().find_map(|length| {
+    pub fn longest_match(&self, address: A) -> Option<Route<A>> {
+        (0..=A::BITS).rev().find_map(|length| {
             let at = self.find(Prefix::around(address, length)).ok()?;
             Some(self.routes[at])
         })
@@ -119,7 +111,7 @@ impl RouteList {
     }
 
     /// The number of arrays that the list would need with this prefix in it.
-    pub fn need_with(&self, prefix: Prefix) -> usize {
+    pub fn need_with(&self, prefix: Prefix<A>) -> usize {
         let at = self.find(prefix).unwrap_or_else(|at| at);
         let (before, after) = self.routes.split_at(at);
         let prefixes = before.iter().map(|route| route.prefix);
@@ -127,7 +119,7 @@ impl RouteList {
     }
 
     /// How many cells of its array the prefix covers that no longer route of the same array covers.
-    pub fn open_cells(&self, prefix: Prefix) -> usize {
+    pub fn open_cells(&self, prefix: Prefix<A>) -> usize {
         let first = self.routes.partition_point(|route| route.prefix.address < prefix.address);
         let inside = self.routes[first..].iter().map(|route| route.prefix);
         let mut covered = [false; 256];
@@ -138,7 +130,9 @@ impl RouteList {
         }
         prefix.cells().filter(|&cell| !covered[cell]).count()
     }
+}
 
+impl RouteList {
     /// The list as a feed of announcements and an end.
     pub fn encoding(&self) -> Vec<u8> {
         let mut bytes = Vec::with_capacity(8 * self.routes.len() + 1);
@@ -153,15 +147,15 @@ impl RouteList {
     }
 }
 
-/// One array, and one for each distinct head of 8, 16 and 24 bits among the longer prefixes.
+/// One array, and one for each distinct head of 8, 16, .. bits among the longer prefixes.
 /// In ascending order equal heads follow one another, so comparing with the last one counts the distinct.
-fn arrays_needed(ascending: impl Iterator<Item = Prefix>) -> usize {
+fn arrays_needed<A: Address>(ascending: impl Iterator<Item = Prefix<A>>) -> usize {
     let mut needed = 1;
-    let mut last = [None; 3];
+    let mut last = vec![None; A::BITS as usize / 8];
     for prefix in ascending {
-        for (bits, last) in [8, 16, 24].into_iter().zip(&mut last) {
-            let head = Some(prefix.address & mask(bits));
-            if prefix.length > bits && *last != head {
+        for (bits, last) in (8..prefix.length).step_by(8).zip(&mut last) {
+            let head = Some(prefix.address & A::mask(bits));
+            if *last != head {
                 *last = head;
                 needed += 1;
             }

@@ -1,5 +1,6 @@
 //! The lent words as a caller sees them, a size and perhaps a route list, with the calls of document 01 on them.
 
+use crate::address::Address;
 use crate::list::{Prefix, Route, RouteList};
 use crate::refusal::Refusal;
 
@@ -30,14 +31,14 @@ pub struct Counts {
 
 /// Lent words: how many, and the list that they stand for unless they are no table.
 #[derive(Clone, Debug, PartialEq, Eq)]
-pub struct Memory {
+pub struct Memory<A = u32> {
     words: usize,
-    list: Option<RouteList>,
+    list: Option<RouteList<A>>,
 }
 
-impl Memory {
+impl<A: Address> Memory<A> {
     /// Words that stand for the list, or for none.
-    pub fn new(words: usize, list: Option<RouteList>) -> Memory {
+    pub fn new(words: usize, list: Option<RouteList<A>>) -> Self {
         Memory { words, list }
     }
 
@@ -47,12 +48,12 @@ impl Memory {
     }
 
     /// The list, or refusal 1 or 2.
-    pub fn list(&self) -> Result<&RouteList, Refusal> {
+    pub fn list(&self) -> Result<&RouteList<A>, Refusal> {
         self.room()?;
         self.list.as_ref().ok_or(Refusal::NotATable)
     }
 
-    fn list_mut(&mut self) -> Result<&mut RouteList, Refusal> {
+    fn list_mut(&mut self) -> Result<&mut RouteList<A>, Refusal> {
         self.room()?;
         self.list.as_mut().ok_or(Refusal::NotATable)
     }
@@ -70,11 +71,11 @@ impl Memory {
 
     /// Longest match. Refused by 2 on words that are no table; what the calls answer there is for the layout's walk
     /// to say.
-    pub fn lookup(&self, address: u32) -> Result<Option<Route>, Refusal> {
+    pub fn lookup(&self, address: A) -> Result<Option<Route<A>>, Refusal> {
         Ok(self.list()?.longest_match(address))
     }
 
-    pub fn announce(&mut self, address: u32, length: u32, hop: u32) -> Result<Update, Refusal> {
+    pub fn announce(&mut self, address: A, length: u32, hop: u32) -> Result<Update, Refusal> {
         let room = self.room()?;
         let prefix = well_formed(address, length)?;
         if hop == 0 || hop > 65_535 {
@@ -91,14 +92,16 @@ impl Memory {
         Ok(Update { hop, cells: cells as u32 })
     }
 
-    pub fn withdraw(&mut self, address: u32, length: u32) -> Result<Update, Refusal> {
+    pub fn withdraw(&mut self, address: A, length: u32) -> Result<Update, Refusal> {
         self.room()?;
         let prefix = well_formed(address, length)?;
         let list = self.list_mut()?;
         let hop = list.remove(prefix).ok_or(Refusal::NotHeld)?;
         Ok(Update { hop, cells: list.open_cells(prefix) as u32 })
     }
+}
 
+impl Memory {
     /// Writes the list to the front of the buffer and gives the number of bytes; the rest of the buffer stays.
     pub fn write_out(&self, buffer: &mut [u8]) -> Result<usize, Refusal> {
         let bytes = self.list()?.encoding();
@@ -108,9 +111,9 @@ impl Memory {
     }
 }
 
-fn well_formed(address: u32, length: u32) -> Result<Prefix, Refusal> {
-    if length > 32 {
-        return Err(Refusal::LengthOver32);
+fn well_formed<A: Address>(address: A, length: u32) -> Result<Prefix<A>, Refusal> {
+    if length > A::BITS {
+        return Err(Refusal::TooLong);
     }
     let prefix = Prefix::around(address, length);
     if prefix.address != address {

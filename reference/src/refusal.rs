@@ -8,8 +8,8 @@ pub enum Refusal {
     WordCount = 1,
     /// The words are not a table, or the bytes not a list.
     NotATable = 2,
-    /// The length is over 32.
-    LengthOver32 = 3,
+    /// The length is over an address's bits.
+    TooLong = 3,
     /// A bit after the length is set.
     StrayBit = 4,
     /// The hop is 0 or over 65,535.

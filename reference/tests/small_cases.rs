@@ -74,14 +74,14 @@ fn p9_around_a_longer() {
 
 #[test]
 fn p10_p11_order_of_refusals() {
-    assert_eq!(table(7).announce(0, 33, 0), Err(Refusal::LengthOver32));
+    assert_eq!(table(7).announce(0, 33, 0), Err(Refusal::TooLong));
     assert_eq!(table(7).announce(ip(10, 0, 0, 1), 24, 0), Err(Refusal::StrayBit));
-    let mut foreign = Memory::new(2048, None);
+    let mut foreign: Memory = Memory::new(2048, None);
     assert_eq!(foreign.announce(0, 0, 0), Err(Refusal::HopOutOfRange));
     assert_eq!(foreign.announce(0, 0, 65_536), Err(Refusal::HopOutOfRange));
     assert_eq!(foreign.announce(0, 0, 1), Err(Refusal::NotATable));
     assert_eq!(foreign.withdraw(1, 0), Err(Refusal::StrayBit));
-    let mut misfit = Memory::new(2047, None);
+    let mut misfit: Memory = Memory::new(2047, None);
     assert_eq!(misfit.announce(0, 33, 0), Err(Refusal::WordCount));
     assert_eq!(misfit.withdraw(0, 33), Err(Refusal::WordCount));
 }

@@ -3,7 +3,8 @@
 use std::collections::BTreeMap;
 
 use super::{best_of_slots, tag_below, with_best, with_link, CELLS, ROOT_TAG};
-use crate::list::{mask, Prefix, RouteList};
+use crate::address::Address;
+use crate::list::{Prefix, RouteList};
 use crate::memory::ARRAY_WORDS;
 
 /// Lays the list out in a table of `arrays` arrays. The arrays but the root, in the order of level and head, get the
@@ -33,7 +34,7 @@ fn number(list: &RouteList, numbers: &[usize]) -> BTreeMap<(u32, u32), usize> {
     let mut heads = BTreeMap::new();
     for route in list.routes() {
         for level in 1..=route.prefix.level() {
-            heads.insert((level, route.prefix.address & mask(8 * level)), 0);
+            heads.insert((level, route.prefix.address & u32::mask(8 * level)), 0);
         }
     }
     assert!(heads.len() <= numbers.len(), "fewer numbers than arrays");
@@ -44,12 +45,12 @@ fn number(list: &RouteList, numbers: &[usize]) -> BTreeMap<(u32, u32), usize> {
 }
 
 fn parent(level: u32, head: u32) -> (u32, u32) {
-    (level - 1, head & mask(8 * (level - 1)))
+    (level - 1, head & u32::mask(8 * (level - 1)))
 }
 
 /// Links array `a` from its parent and tags it. Parents come first in the order of levels, so theirs is set already.
 fn hang(words: &mut [u32], parent: usize, a: usize, level: u32, head: u32) {
-    let cell = (head >> (32 - 8 * level) & 255) as usize;
+    let cell = head.byte(level - 1);
     let word = &mut words[ARRAY_WORDS * parent + CELLS + cell];
     *word = with_link(*word, a as u32 - 1);
     words[ARRAY_WORDS * a] = tag_below(parent, cell, words[ARRAY_WORDS * parent]);

@@ -2,7 +2,7 @@
 
 use super::{best_of_slots, tag_below, Arrays, LEVELS, ROOT_TAG, UNUSED};
 use crate::list::{Prefix, RouteList};
-use crate::memory::{Counts, Memory};
+use crate::memory::{Counts, Memory, ARRAY_WORDS};
 use crate::refusal::Refusal;
 
 /// The words as a size and, where they are a table, its list.
@@ -30,7 +30,7 @@ fn is_table(arrays: &Arrays) -> bool {
 
 /// The counts of used arrays, in all and by groups of eight, and zeros after them.
 fn header_right(arrays: &Arrays) -> bool {
-    let mut expected = [0; 1024];
+    let mut expected = [0; ARRAY_WORDS];
     for a in (1..=arrays.count()).filter(|&a| arrays.tag(a) != 0) {
         expected[0] += 1;
         expected[1 + (a - 1) / 8] += 1;

@@ -1,6 +1,7 @@
 //! The lookup's walk over any words of a right size.
 
 use super::{Arrays, HOPS, LEVELS};
+use crate::address::Address;
 use crate::refusal::Refusal;
 
 /// Hop and length that the walk ends with, if any.
@@ -12,7 +13,7 @@ pub fn walk(words: &[u32], address: u32) -> Result<Found, Refusal> {
     let mut found = None;
     let mut a = 1;
     for level in 0..LEVELS {
-        let cell = (address >> (24 - 8 * level) & 255) as usize;
+        let cell = address.byte(level);
         found = cover(arrays.best(a, cell), level)?.or(found);
         match arrays.below(a, cell) {
             0 => return Ok(found),
