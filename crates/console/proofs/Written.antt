@@ -10,7 +10,8 @@ use Rattle.feed.specs.declared.Report.{Report}
 use Rattle.feed.specs.declared.Ran.{Ran}
 use Rattle.feed.specs.declared.Ran.the-variants.{Stopped}
 
-module _ (ws feed b vs c : List ℕ) (x : Ran) (r : Report) (p : Runs ws feed b vs c x) (e : x ≡ Stopped r) (l : length c ≡ length b) where
+module _ (ws feed b vs c : List ℕ) (x : Ran) (r : Report) (p : Runs ws feed b vs c x) (e : x ≡ Stopped r)
+    (l : length c ≡ length b) where
   pub inside : r .written ≤ length c
   inside = fits ws feed b vs c (Stopped r) (rw e at p) l
 

@@ -29,7 +29,8 @@ impl Place {
     // The line of the record that is next.
     fn line(self, feed: &[u8], replies: &[u8], out: &mut [u8]) -> Place
         requires { ⌜ (self .at < length (now feed)) × (self .from < length (now replies)) × (self .to ≤ length (now out)) ⌝ }
-        ensures { λ r. ⌜ (self .at < r .at) × (r .at ≤ length (now (feed .entry))) × (r .from ≤ length (now (replies .entry))) × (r .to ≤ length (now (out .exit))) ⌝ }
+        ensures { λ r. ⌜ (self .at < r .at) × (r .at ≤ length (now (feed .entry))) × (r .from ≤ length (now (replies .entry)))
+            × (r .to ≤ length (now (out .exit))) ⌝ }
     {
         let at = self.at;
         let from = self.from;

@@ -141,7 +141,8 @@ module _ (k : Bool) (bs ws : List ℕ) (i m o p : ℕ) (f : Filling k bs ws (i +
   pub head-word : routeAt bs i .addr / 2 ^ (32 - m) < 4294967296
   head-word = omega (arith, head-fits bs (f .list) i (omega (arith, f .upto)) m (f .most), pow-mono {i = m} {j = 32} (f .most))
 
-  module _ (c : chosen k m (routeAt bs i .len) ≡ true) (x : ℕ) (xe : x ≡ routeAt bs i .addr / 2 ^ (32 - m)) (b : Bool) (e : b ≡ isMiss (find (placesOf ws o) m p x)) where
+  module _ (c : chosen k m (routeAt bs i .len) ≡ true) (x : ℕ) (xe : x ≡ routeAt bs i .addr / 2 ^ (32 - m)) (b : Bool)
+      (e : b ≡ isMiss (find (placesOf ws o) m p x)) where
     pub enter-again : not b ≡ true → Filled k bs ws ws i m o p
     enter-again n = record { filling = filling-again k bs ws i m o p f c x xe b e (off b n); kept = kept-none ws o (o + 4 * p) }
 
@@ -160,5 +161,6 @@ module _ (k : Bool) (bs ws : List ℕ) (i m o p : ℕ) (f : Filling k bs ws (i +
     pub enter-room : not b ≡ false → (o + 4 * p ≤ length ws) × Room (placesOf ws o) p
     enter-room n = (f .fits, filling-room k bs ws i m o p f c x xe b e (on b n))
 
-    pub enter-put : not b ≡ false → (us : List ℕ) (y : ℕ) → y ≡ bestAt (listOf bs) m x → Put ws us o p x y → Filled k bs ws us i m o p
+    pub enter-put : not b ≡ false → (us : List ℕ) (y : ℕ) → y ≡ bestAt (listOf bs) m x → Put ws us o p x y
+        → Filled k bs ws us i m o p
     enter-put n us y q s = filling-put k bs ws i m o p f c x xe us b y e (on b n) q s

@@ -12,7 +12,8 @@ use Rattle.way.specs.Listed.{routeAt, listOf}
 use Rattle.copy.specs.Layout.{beginOf, sizeOf}
 use Rattle.copy.specs.Copy.{table-same}
 use Rattle.copier.specs.Filling.{Kept, Built, chosen, Filling, Filled}
-use Rattle.copier.specs.Fill.{kept-none, kept-join, built-kept, built-more, filling-skip, filling-start, filling-turn, filling-end}
+use Rattle.copier.specs.Fill.{kept-none, kept-join, built-kept, built-more, filling-skip, filling-start, filling-turn}
+use Rattle.copier.specs.Fill.{filling-end}
 use Rattle.copier.specs.Build.{Cleared, Headed, Makes, Made}
 
 -- ---- four words of the header
@@ -41,14 +42,16 @@ module _ (ws : List ℕ) (at a b c d : ℕ) (h : at + 3 < length ws) where
       ∙ getD-set-same one (at + 1) b 0 (simp length-set (omega arith))
 
   four-c : getD (four ws at a b c d) (at + 2) 0 ≡ c
-  four-c = getD-set-other three (at + 3) (at + 2) d 0 (λ e. omega arith) ∙ getD-set-same two (at + 2) c 0 (simp length-set (omega arith))
+  four-c = getD-set-other three (at + 3) (at + 2) d 0 (λ e. omega arith)
+      ∙ getD-set-same two (at + 2) c 0 (simp length-set (omega arith))
 
   four-d : getD (four ws at a b c d) (at + 3) 0 ≡ d
   four-d = getD-set-same three (at + 3) d 0 (simp length-set (omega arith))
 
   four-out : (i : ℕ) → i ≢ at → i ≢ at + 1 → i ≢ at + 2 → i ≢ at + 3 → getD (four ws at a b c d) i 0 ≡ getD ws i 0
   four-out i w x y z =
-      getD-set-other three (at + 3) i d 0 z ∙ getD-set-other two (at + 2) i c 0 y ∙ getD-set-other one (at + 1) i b 0 x ∙ getD-set-other ws at i a 0 w
+      getD-set-other three (at + 3) i d 0 z ∙ getD-set-other two (at + 2) i c 0 y ∙ getD-set-other one (at + 1) i b 0 x
+      ∙ getD-set-other ws at i a 0 w
 
   four-kept : Kept ws (four ws at a b c d) at (at + 4)
   four-kept = record {
@@ -77,9 +80,11 @@ headed ws m o size h k =
 pub cleared-none : (ws : List ℕ) (from : ℕ) → Cleared ws ws from from
 cleared-none ws from = record { zero = λ i a b. absurd (omega arith); kept = kept-none ws from from }
 
-pub cleared-more : (ws us : List ℕ) (from i : ℕ) → from ≤ i → i < length us → Cleared ws us from i → Cleared ws (set us i 0) from (i + 1)
+pub cleared-more : (ws us : List ℕ) (from i : ℕ) → from ≤ i → i < length us → Cleared ws us from i
+    → Cleared ws (set us i 0) from (i + 1)
 cleared-more ws us from i h l c = record {
-  zero = λ j a b. same j i (λ q _. rw q (getD-set-same us i 0 0 l)) (λ q _. getD-set-other us i j 0 0 q ∙ c .zero j a (omega arith));
+  zero = λ j a b. same j i (λ q _. rw q (getD-set-same us i 0 0 l))
+      (λ q _. getD-set-other us i j 0 0 q ∙ c .zero j a (omega arith));
   kept = record {
     long = length-set us i 0 ∙ c .kept .long;
     below = λ j a. getD-set-other us i j 0 0 (λ e. omega arith) ∙ c .kept .below j a;
@@ -99,11 +104,16 @@ module _ (k : Bool) (bs : List ℕ) (m o p : ℕ) where
   pub fill-at : (ws : List ℕ) (i j : ℕ) → j + 1 ≡ i → Filling k bs ws i m o p → Filling k bs ws (j + 1) m o p
   fill-at ws i j e f = rw e f
 
-  pub fill-join : (ws us vs : List ℕ) (i j : ℕ) → Filled k bs ws us i m o p → Filled k bs us vs j m o p → Filled k bs ws vs j m o p
+  pub fill-join : (ws us vs : List ℕ) (i j : ℕ) → Filled k bs ws us i m o p → Filled k bs us vs j m o p
+      → Filled k bs ws vs j m o p
   fill-join ws us vs i j f g = record { filling = g .filling; kept = kept-join ws us vs o (o + 4 * p) (f .kept) (g .kept) }
 
-  pub fill-skip : (ws us : List ℕ) (i j : ℕ) → j + 1 ≡ i → Filled k bs ws us i m o p → (c : Bool) → c ≡ chosen k m (routeAt bs j .len) → c ≡ false → Filled k bs ws us j m o p
-  fill-skip ws us i j e f c q z = record { filling = filling-skip k bs us j m o p (fill-at us i j e (f .filling)) c q z; kept = f .kept }
+  pub fill-skip : (ws us : List ℕ) (i j : ℕ) → j + 1 ≡ i → Filled k bs ws us i m o p → (c : Bool)
+      → c ≡ chosen k m (routeAt bs j .len) → c ≡ false → Filled k bs ws us j m o p
+  fill-skip ws us i j e f c q z = record {
+    filling = filling-skip k bs us j m o p (fill-at us i j e (f .filling)) c q z;
+    kept = f .kept;
+  }
 
   pub fill-end : (ws us : List ℕ) (i : ℕ) → i ≤ 0 → Filled k bs ws us i m o p → Filled k bs ws us 0 m o p
   fill-end ws us i h f = let e : i ≡ 0 = omega arith in rw (← e) f
@@ -114,7 +124,8 @@ module _ (bs ws : List ℕ) (m o size : ℕ) (f : Makes bs ws m o size) (us : Li
   below-kept : Built (listOf bs) us o m
   below-kept = record {
     default = h .kept .below 0 (omega (arith, f .few)) ∙ f .built .default;
-    tables = λ l x y. table-same (listOf bs) ws us o l (λ i a b. h .kept .below i (omega arith)) (λ i a b. h .kept .above i (omega (arith, f .most))) (f .built .tables l x y);
+    tables = λ l x y. table-same (listOf bs) ws us o l (λ i a b. h .kept .below i (omega arith))
+        (λ i a b. h .kept .above i (omega (arith, f .most))) (f .built .tables l x y);
   }
 
   pub make-room : (o ≤ o + 8 * size) × (o + 8 * size ≤ length us)
@@ -124,7 +135,8 @@ module _ (bs ws : List ℕ) (m o size : ℕ) (f : Makes bs ws m o size) (us : Li
   module _ (vs : List ℕ) (to : ℕ) (r : o + 8 * size ≤ to) (c : Cleared us vs o to) where
     pub make-first : Filling false bs vs (length bs / 8) m o (2 * size)
     make-first =
-        filling-start bs vs m o (2 * size) (f .list) (f .few) (f .most) (f .low) (omega (arith, f .fits, h .kept .long, c .kept .long)) (rw (f .counts))
+        filling-start bs vs m o (2 * size) (f .list) (f .few) (f .most) (f .low)
+        (omega (arith, f .fits, h .kept .long, c .kept .long)) (rw (f .counts))
         (built-kept (listOf bs) us vs o m to (f .low) (omega (arith, f .most)) (c .kept) below-kept)
         (λ i a b. c .zero i a (omega arith))
 
@@ -134,16 +146,20 @@ module _ (bs ws : List ℕ) (m o size : ℕ) (f : Makes bs ws m o size) (us : Li
 
       pub make-made : to ≤ o + 8 * size → (ys : List ℕ) → Filled true bs xs ys 0 m o (2 * size) → Made bs ws ys m (o + 8 * size)
       make-made x ys t = record {
-        built = built-more (listOf bs) ys o (o + 8 * size) m (omega arith) (t .filling .built) (filling-end bs ys m o (2 * size) size refl bo so (t .filling));
+        built = built-more (listOf bs) ys o (o + 8 * size) m (omega arith) (t .filling .built)
+            (filling-end bs ys m o (2 * size) size refl bo so (t .filling));
         long = t .kept .long ∙ g .kept .long ∙ c .kept .long ∙ h .kept .long;
-        past = λ i a b. t .kept .above i (omega arith) ∙ g .kept .above i (omega arith) ∙ c .kept .above i (omega arith) ∙ h .kept .above i (omega (arith, f .most));
+        past = λ i a b. t .kept .above i (omega arith) ∙ g .kept .above i (omega arith) ∙ c .kept .above i (omega arith)
+            ∙ h .kept .above i (omega (arith, f .most));
       }
         where
           same-at : (i : ℕ) → i < o → getD ys i 0 ≡ getD us i 0
           same-at i l = t .kept .below i l ∙ g .kept .below i l ∙ c .kept .below i l
 
           bo : beginOf ys m ≡ o
-          bo = rw (same-at (8 * m) (omega (arith, f .low, f .most)), same-at (8 * m + 1) (omega (arith, f .low, f .most))) (h .begins)
+          bo = rw (same-at (8 * m) (omega (arith, f .low, f .most)), same-at (8 * m + 1) (omega (arith, f .low, f .most)))
+              (h .begins)
 
           so : sizeOf ys m ≡ size
-          so = rw (same-at (8 * m + 2) (omega (arith, f .low, f .most)), same-at (8 * m + 2 + 1) (omega (arith, f .low, f .most))) (h .sizes)
+          so = rw (same-at (8 * m + 2) (omega (arith, f .low, f .most)), same-at (8 * m + 2 + 1) (omega (arith, f .low, f .most)))
+              (h .sizes)

@@ -97,9 +97,14 @@ module _ (bs ws : List ℕ) (s : Starts bs ws) (us : List ℕ) (m o : ℕ) (g : 
       let q : m - 1 ≡ 32 = omega (arith, g .most) in
       let z : m ≡ 33 = omega (arith, g .most) in
       let a : o ≡ 1024 + 8 * entriesTo 32 (listOf bs) = g .at ∙ rw q in
-      let b = built-on (listOf bs) us o (wordsFor (listOf bs)) m (omega (arith, a, to-fits 32 (listOf bs) (omega arith) (s .list))) (g .built) in
+      let b = built-on (listOf bs) us o (wordsFor (listOf bs)) m
+      (omega (arith, a, to-fits 32 (listOf bs) (omega arith) (s .list))) (g .built) in
       record {
-        copy = record { long = omega (arith, s .room, g .long); default = b .default; tables = λ l x y. b .tables l x (omega arith) };
+        copy = record {
+          long = omega (arith, s .room, g .long);
+          default = b .default;
+          tables = λ l x y. b .tables l x (omega arith);
+        };
         long = g .long;
         past = g .past;
       }
@@ -120,7 +125,8 @@ pub default-none : (bs : List ℕ) (l : ℕ) → IsList 32 (listOf bs) → l ≡
 unfolding last
 default-none bs l s e d = rw (none-held bs (length bs / 8) (s .sorted) (omega (arith, e)))
 
-pub default-held : (bs : List ℕ) (l h : ℕ) → IsList 32 (listOf bs) → length bs / 8 ≢ 0 → l ≡ routeAt bs 0 .len → l ≡ 0 → h ≡ routeAt bs 0 .hop → h * 256 ≡ bestAt (listOf bs) 0 0
+pub default-held : (bs : List ℕ) (l h : ℕ) → IsList 32 (listOf bs) → length bs / 8 ≢ 0 → l ≡ routeAt bs 0 .len → l ≡ 0
+    → h ≡ routeAt bs 0 .hop → h * 256 ≡ bestAt (listOf bs) 0 0
 default-held bs l h s n e z q =
     let k : 0 < length bs / 8 = omega arith in
     let a : 0 ≡ routeAt bs 0 .addr / 2 ^ (32 - 0) = omega (arith, head-fits bs s 0 k 0 (omega arith)) in
@@ -137,7 +143,8 @@ pub record Given (bs : List ℕ) (n : ℕ) : Type 0 where
 apart : {n k : ℕ} {P : Type 0} → gives n ≡ refuses k → P
 apart e = let z : _≡_ {A = ℕ} 0 1 = cc in absurd (omega arith)
 
-given-by : (bs : List ℕ) (n : ℕ) (w r : Bool) → wholeB bs ≡ w → leb (need 32 (listOf bs)) 4096 ≡ r → gives n ≡ needOn (listedIn bs) → Given bs n
+given-by : (bs : List ℕ) (n : ℕ) (w r : Bool) → wholeB bs ≡ w → leb (need 32 (listOf bs)) 4096 ≡ r
+    → gives n ≡ needOn (listedIn bs) → Given bs n
 unfolding listedIn
 given-by bs n true true a b e = record { whole = a; is = rw (a, b); words = same-words (e ∙ rw (a, b)) }
   where
@@ -160,7 +167,8 @@ not-listed unlisted k e = refl
 not-listed (listed rs) k e = apart (sym e)
 
 -- refused by 2
-pub build-unlisted : (bs ws : List ℕ) (k : ℕ) → refuses k ≡ needOn (listedIn bs) → (refuses 2 ≡ buildOn (listedIn bs) (length ws)) × LeavesOn (listedIn bs) ws ws
+pub build-unlisted : (bs ws : List ℕ) (k : ℕ) → refuses k ≡ needOn (listedIn bs)
+    → (refuses 2 ≡ buildOn (listedIn bs) (length ws)) × LeavesOn (listedIn bs) ws ws
 build-unlisted bs ws k e = rw (not-listed (listedIn bs) k e) (refl, refl)
 
 module _ (bs ws : List ℕ) (n : ℕ) (g : Given bs n) where
@@ -188,7 +196,8 @@ module _ (bs ws : List ℕ) (n : ℕ) (g : Given bs n) where
   }
 
   pub build-built : (d : ℕ) (us : List ℕ) → n ≤ length ws → Ends bs (set ws 0 d) us
-      → (gives (record { routes = length bs / 8; markers = (n - 1024) / 8 - length bs / 8 }) ≡ buildOn (listedIn bs) (length ws)) × LeavesOn (listedIn bs) ws us
+      → (gives (record { routes = length bs / 8; markers = (n - 1024) / 8 - length bs / 8 }) ≡ buildOn (listedIn bs) (length ws))
+      × LeavesOn (listedIn bs) ws us
   build-built d us h e =
       let r : length (listOf bs) ≡ length bs / 8 = records-length bs (length bs / 8) 0 in
       let m : (n - 1024) / 8 - length bs / 8 ≡ markers (listOf bs) = omega (arith, g .words) in
@@ -203,4 +212,5 @@ module _ (bs ws : List ℕ) (n : ℕ) (g : Given bs n) where
       )
 
   pub build-sub : (1024 ≤ n) × (length bs / 8 ≤ (n - 1024) / 8)
-  build-sub = let r : length (listOf bs) ≡ length bs / 8 = records-length bs (length bs / 8) 0 in (omega (arith, g .words), omega (arith, g .words))
+  build-sub = let r : length (listOf bs) ≡ length bs / 8 = records-length bs (length bs / 8) 0 in
+      (omega (arith, g .words), omega (arith, g .words))

@@ -36,14 +36,18 @@ record-held bs (suc n) i zero lo f h =
 record-held bs (suc n) i (suc k) lo f h =
     let e : suc i + k ≡ i + suc k = omega arith in
     let ih = record-held bs n (suc i) k (suc (key (routeAt bs i))) (f .1) (omega arith) in
-    let a : suc (key (routeAt bs i)) ≤ key (routeAt bs (i + suc k)) = rw e at (ih .0) in
-    (omega (arith, f .0), hop-skip (routeAt bs i) (routesFrom bs n (suc i)) (key (routeAt bs (i + suc k))) (λ q. omega arith) ∙ (rw e at (ih .1)))
+    let a : suc (key (routeAt bs i)) ≤ key (routeAt bs (i + suc k)) = rw e at (ih .0) in (
+      omega (arith, f .0),
+      hop-skip (routeAt bs i) (routesFrom bs n (suc i)) (key (routeAt bs (i + suc k))) (λ q. omega arith)
+          ∙ (rw e at (ih .1)),
+    )
 
 record-is : (bs : List ℕ) (n i k : ℕ) → All (IsRoute 32) (routesFrom bs n i) → k < n → IsRoute 32 (routeAt bs (i + k))
 unfolding routesFrom
 record-is bs zero i k f h = absurd (omega arith)
 record-is bs (suc n) i zero f h = let e : i + 0 ≡ i = omega arith in rw e (f .0)
-record-is bs (suc n) i (suc k) f h = let e : suc i + k ≡ i + suc k = omega arith in rw e at (record-is bs n (suc i) k (f .1) (omega arith))
+record-is bs (suc n) i (suc k) f h = let e : suc i + k ≡ i + suc k = omega arith in
+    rw e at (record-is bs n (suc i) k (f .1) (omega arith))
 
 module _ (bs : List ℕ) (l : IsList 32 (listOf bs)) (i : ℕ) (h : i < length bs / 8) where
   pub route-of : IsRoute 32 (routeAt bs i)
@@ -57,23 +61,28 @@ module _ (bs : List ℕ) (l : IsList 32 (listOf bs)) (i : ℕ) (h : i < length b
   head-fits m k = let e : m + (32 - m) ≡ 32 = omega arith in shr-lt m (32 - m) (rw e (route-of .wf .inside))
 
   -- a route's best match is its own
-  pub best-own : (m v : ℕ) → m ≤ 32 → routeAt bs i .len ≡ m → v ≡ routeAt bs i .addr / 2 ^ (32 - m) → routeAt bs i .hop * 256 + m ≡ bestAt (listOf bs) m v
+  pub best-own : (m v : ℕ) → m ≤ 32 → routeAt bs i .len ≡ m → v ≡ routeAt bs i .addr / 2 ^ (32 - m)
+      → routeAt bs i .hop * 256 + m ≡ bestAt (listOf bs) m v
   best-own m v k e q =
       let z : m - m ≡ 0 = omega arith in
       let y : v / 2 ^ 0 ≡ v = omega arith in
-      let g : heldAt (listOf bs) m (v / 2 ^ (m - m)) ≡ routeAt bs i .hop = rw (z, y, q, key-own m (routeAt bs i) (route-of .wf) e) hop-of in
-      sym (ap code (last-found (λ x. heldAt (listOf bs) x (v / 2 ^ (m - x))) m (routeAt bs i .hop) m g (route-of .wf .some) (omega arith) (λ x a b. absurd (omega arith))))
+      let g : heldAt (listOf bs) m (v / 2 ^ (m - m)) ≡ routeAt bs i .hop =
+      rw (z, y, q, key-own m (routeAt bs i) (route-of .wf) e) hop-of in
+      sym (ap code (last-found (λ x. heldAt (listOf bs) x (v / 2 ^ (m - x))) m (routeAt bs i .hop) m g (route-of .wf .some)
+      (omega arith) (λ x a b. absurd (omega arith))))
 
 -- ---- a marker's best match
 
 -- no entry, so no route
 own-entered : (rs : List Route) (m x : ℕ) → mem x (own m rs) ≡ true → mem x (entries m rs) ≡ true
-own-entered rs m x e = mem-either (λ l. eqb l m) (turnsAt m) m x rs ∙ or-left (mem x (own m rs)) (mem x (picks (turnsAt m) m rs)) e
+own-entered rs m x e = mem-either (λ l. eqb l m) (turnsAt m) m x rs
+    ∙ or-left (mem x (own m rs)) (mem x (picks (turnsAt m) m rs)) e
 
 pub unentered : (rs : List Route) (m x : ℕ) → m ≤ 32 → Wfs 32 rs → mem x (own m rs) ≡ false → heldAt rs m x ≡ 0
 unentered rs m x h w e = same (heldAt rs m x) 0 (λ q _. q) (λ q d. absurd (true≢false (sym (own-held m x rs h w ∙ rw d) ∙ e)))
 
-module _ (rs : List Route) (w : Wfs 32 rs) (ws : List ℕ) (o m v : ℕ) (long : o ≤ length ws) (k : m ≤ 32) (b : Built rs ws o m) (low : v < 2 ^ m) where
+module _ (rs : List Route) (w : Wfs 32 rs) (ws : List ℕ) (o m v : ℕ) (long : o ≤ length ws) (k : m ≤ 32) (b : Built rs ws o m)
+    (low : v < 2 ^ m) where
   abbrev G : ℕ → ℕ
   G l = heldAt rs l (v / 2 ^ (m - l))
 
@@ -106,7 +115,9 @@ module _ (rs : List Route) (w : Wfs 32 rs) (ws : List ℕ) (o m v : ℕ) (long :
       bool (mem (v / 2 ^ (m - suc l)) (entries (suc l) rs))
       (λ e. rw (look-at (suc l) (v / 2 ^ (m - suc l)) (omega arith) h, e) (best-part (suc l) (omega arith)))
       (λ e. rw (look-at (suc l) (v / 2 ^ (m - suc l)) (omega arith) h, e)
-      (below-best l (omega arith) ∙ sym (best-skip l (unentered rs (suc l) (v / 2 ^ (m - suc l)) (omega arith) w (outside-own (suc l) (v / 2 ^ (m - suc l)) e)))))
+      (below-best l (omega arith) ∙ sym
+      (best-skip l (unentered rs (suc l) (v / 2 ^ (m - suc l)) (omega arith) w
+      (outside-own (suc l) (v / 2 ^ (m - suc l)) e)))))
     where
       outside-own : (l x : ℕ) → mem x (entries l rs) ≡ false → mem x (own l rs) ≡ false
       outside-own l x e = bool (mem x (own l rs)) (λ q. absurd (true≢false (sym (own-entered rs l x q) ∙ e))) (λ q. q)

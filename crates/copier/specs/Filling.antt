@@ -1,5 +1,5 @@
--- A copy while it is built: the tables of lengths below m stand, that of length m is filled from the last record to the first, the
--- routes of that length first and then the markers. Assumes nothing.
+-- A copy while it is built: the tables of lengths below m stand, that of length m is filled from the last record to the first,
+-- the routes of that length first and then the markers. Assumes nothing.
 use mathlib.Core.Path.{_≡_}
 use mathlib.Core.Bool.{Bool, true, false}
 use mathlib.Core.List.{List, [], _++_}

@@ -1,5 +1,5 @@
--- What the contracts leave open: nothing of an answer, and of the words only how a copy is laid out. Two outcomes that a contract allows
--- agree, and words that agree with a built copy up to its need answer as the list does. Assumes nothing.
+-- What the contracts leave open: nothing of an answer, and of the words only how a copy is laid out. Two outcomes that a contract
+-- allows agree, and words that agree with a built copy up to its need answer as the list does. Assumes nothing.
 use mathlib.Core.Path.{_≡_, refl, sym, _∙_}
 use mathlib.Core.List.{List}
 use Prim.Native.Nat.{ℕ, _≤_, _<_}
@@ -24,7 +24,8 @@ pub need-sharp : (bs : List ℕ) (x y : Answer ℕ) → x ≡ needOn (listedIn b
 need-sharp bs x y p q = p ∙ sym q
 
 -- build: one answer
-pub build-sharp : (bs ws : List ℕ) (x y : Answer Counts) → x ≡ buildOn (listedIn bs) (length ws) → y ≡ buildOn (listedIn bs) (length ws) → x ≡ y
+pub build-sharp : (bs ws : List ℕ) (x y : Answer Counts) → x ≡ buildOn (listedIn bs) (length ws)
+    → y ≡ buildOn (listedIn bs) (length ws) → x ≡ y
 build-sharp bs ws x y p q = p ∙ sym q
 
 -- lookup: one answer, on any words
@@ -42,7 +43,8 @@ pub record Alike (need : ℕ) (us vs : List ℕ) : Type 0 where
 alike-same : (n : ℕ) (us vs : List ℕ) → us ≡ vs → Alike n us vs
 alike-same n us vs e = rw e (record { long = refl; past = λ i h. refl; walks = λ a h. refl })
 
-leaves-alike : (rs : List Route) (ws us vs : List ℕ) → IsList 32 rs → Leaves rs ws us → Leaves rs ws vs → Alike (wordsFor rs) us vs
+leaves-alike : (rs : List Route) (ws us vs : List ℕ) → IsList 32 rs → Leaves rs ws us → Leaves rs ws vs
+    → Alike (wordsFor rs) us vs
 leaves-alike rs ws us vs l p q =
     less (length ws) (wordsFor rs)
     (λ h _. alike-same (wordsFor rs) us vs (p .refused h ∙ sym (q .refused h)))
@@ -56,13 +58,16 @@ leaves-alike rs ws us vs l p q =
 pub words-sharp-none : (bs ws us : List ℕ) → listedIn bs ≡ unlisted → LeavesOn (listedIn bs) ws us → us ≡ ws
 words-sharp-none bs ws us e p = rw e at p
 
-pub words-sharp : (bs ws us vs : List ℕ) (rs : List Route) → Bytes bs → listedIn bs ≡ listed rs → LeavesOn (listedIn bs) ws us → LeavesOn (listedIn bs) ws vs → Alike (wordsFor rs) us vs
+pub words-sharp : (bs ws us vs : List ℕ) (rs : List Route) → Bytes bs → listedIn bs ≡ listed rs → LeavesOn (listedIn bs) ws us
+    → LeavesOn (listedIn bs) ws vs → Alike (wordsFor rs) us vs
 words-sharp bs ws us vs rs b e p q = leaves-alike rs ws us vs (listed-out bs b rs e .list) (rw e at p) (rw e at q)
 
 -- ---- what was built answers, whatever stands past its need
 
-pub built-answers : (bs ws us xs : List ℕ) (rs : List Route) → Bytes bs → listedIn bs ≡ listed rs → wordsFor rs ≤ length ws → LeavesOn (listedIn bs) ws us
-    → wordsFor rs ≤ length xs → ((i : ℕ) → i < wordsFor rs → getD xs i 0 ≡ getD us i 0) → (a : ℕ) → a < 4294967296 → walk xs a ≡ matched (longest 32 a rs)
+pub built-answers : (bs ws us xs : List ℕ) (rs : List Route) → Bytes bs → listedIn bs ≡ listed rs → wordsFor rs ≤ length ws
+    → LeavesOn (listedIn bs) ws us
+    → wordsFor rs ≤ length xs → ((i : ℕ) → i < wordsFor rs → getD xs i 0 ≡ getD us i 0) → (a : ℕ) → a < 4294967296
+    → walk xs a ≡ matched (longest 32 a rs)
 built-answers bs ws us xs rs b e h p k s a l =
     let c : Leaves rs ws us = rw e at p in
     copy-walk rs xs (listed-out bs b rs e .list) (copy-front rs us xs k s (c .copy h)) a l

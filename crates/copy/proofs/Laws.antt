@@ -13,7 +13,8 @@ use Rattle.routes.specs.Route.{Route, IsList}
 use Rattle.routes.specs.Match.{longest}
 use Rattle.routes.specs.Answers.{Reply, refused, matched}
 use Rattle.way.specs.Way.{Look, miss, hit, outside, after, search}
-use Rattle.copy.specs.Layout.{beginOf, sizeOf, badBest, ranged, Places, placesOf, start, place, lookAt, probe, find, look, answered, walk}
+use Rattle.copy.specs.Layout.{beginOf, sizeOf, badBest, ranged, Places, placesOf, start, place, lookAt, probe, find, look}
+use Rattle.copy.specs.Layout.{answered, walk}
 use Rattle.copy.specs.Copy.{Copy, copy-walk}
 
 -- ---- a best match
@@ -68,7 +69,8 @@ module _ (T : Places) (m p v d : ℕ) where
     pub probe-own : T .taken j ≢ 0 → T .taken j ≤ 1 → T .value j ≡ v → ranged m (T .best j) ≡ probe T m p v (p - d) d
     probe-own n t k = sym (step h ∙ rw (← e, ne-eqb (T .taken j) 0 n, le-ltb 1 (T .taken j) t, eq-eqb (T .value j) v k))
 
-    pub probe-on : T .taken j ≢ 0 → T .taken j ≤ 1 → T .value j ≢ v → probe T m p v (p - (d + 1)) (d + 1) ≡ probe T m p v (p - d) d
+    pub probe-on : T .taken j ≢ 0 → T .taken j ≤ 1 → T .value j ≢ v
+        → probe T m p v (p - (d + 1)) (d + 1) ≡ probe T m p v (p - d) d
     probe-on n t k = sym (step h ∙ rw (← e, ne-eqb (T .taken j) 0 n, le-ltb 1 (T .taken j) t, ne-eqb (T .value j) v k))
 
 pub find-none : (T : Places) (m p v : ℕ) → p ≡ 0 → miss ≡ find T m p v
@@ -98,7 +100,8 @@ module _ (ws : List ℕ) (m v : ℕ) (o size : ℕ) (e : o ≡ beginOf ws m) (f 
 abbrev pub looks : List ℕ → ℕ → ℕ → Look
 looks ws a m = look ws m (a / 2 ^ (32 - m))
 
-pub longer-look : (ws : List ℕ) (a b : ℕ) (x : Look) → x ≡ look ws 32 a → after x (hit b) (λ c. hit c) ≡ after (look ws 32 (a / 2 ^ (32 - 32))) (hit b) (λ c. hit c)
+pub longer-look : (ws : List ℕ) (a b : ℕ) (x : Look) → x ≡ look ws 32 a
+    → after x (hit b) (λ c. hit c) ≡ after (look ws 32 (a / 2 ^ (32 - 32))) (hit b) (λ c. hit c)
 longer-look ws a b x e = let q : a / 1 ≡ a = omega arith in rw (e, q)
 
 module _ (f : ℕ → Look) (m best : ℕ) where
@@ -139,14 +142,17 @@ pub walk-short : (ws : List ℕ) (a : ℕ) → length ws < 1024 → refused 2 �
 unfolding walk
 walk-short ws a h = rw (lt-ltb (length ws) 1024 h)
 
-pub walk-strange : (ws : List ℕ) (a : ℕ) (r : Bool) → 1024 ≤ length ws → r ≡ badBest 0 (getD ws 0 0) → r ≡ true → refused 2 ≡ walk ws a
+pub walk-strange : (ws : List ℕ) (a : ℕ) (r : Bool) → 1024 ≤ length ws → r ≡ badBest 0 (getD ws 0 0) → r ≡ true
+    → refused 2 ≡ walk ws a
 unfolding walk
 walk-strange ws a r h e q = rw (le-ltb (length ws) 1024 h, sym e ∙ q)
 
-pub walk-search : (ws : List ℕ) (a : ℕ) (r : Bool) (y : Reply) → 1024 ≤ length ws → r ≡ badBest 0 (getD ws 0 0) → r ≡ false → y ≡ answered (search (looks ws a) 4 16 (getD ws 0 0)) → y ≡ walk ws a
+pub walk-search : (ws : List ℕ) (a : ℕ) (r : Bool) (y : Reply) → 1024 ≤ length ws → r ≡ badBest 0 (getD ws 0 0) → r ≡ false
+    → y ≡ answered (search (looks ws a) 4 16 (getD ws 0 0)) → y ≡ walk ws a
 unfolding walk
 walk-search ws a r y h e q s = s ∙ rw (le-ltb (length ws) 1024 h, sym e ∙ q)
 
 -- on a copy the walk gives the longest match, so what the walk gives does
-pub of-copy : (ws : List ℕ) (a : ℕ) (y : Reply) → a < 4294967296 → y ≡ walk ws a → (rs : List Route) → IsList 32 rs → Copy rs ws → y ≡ matched (longest 32 a rs)
+pub of-copy : (ws : List ℕ) (a : ℕ) (y : Reply) → a < 4294967296 → y ≡ walk ws a → (rs : List Route) → IsList 32 rs → Copy rs ws
+    → y ≡ matched (longest 32 a rs)
 of-copy ws a y h e rs l c = e ∙ copy-walk rs ws l c a h

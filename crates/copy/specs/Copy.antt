@@ -23,7 +23,8 @@ use Rattle.copy.specs.Layout.{beginOf, sizeOf, badBest, Places, placesOf
 pub record Table (rs : List Route) (ws : List ℕ) (to m : ℕ) : Type 0 where
   pub begins : 1024 ≤ beginOf ws m
   pub ends : beginOf ws m + 8 * sizeOf ws m ≤ to
-  pub finds : (v : ℕ) → find (placesOf ws (beginOf ws m)) m (2 * sizeOf ws m) v ≡ cond (mem v (entries m rs)) (hit (bestAt rs m v)) miss
+  pub finds : (v : ℕ) → find (placesOf ws (beginOf ws m)) m (2 * sizeOf ws m) v
+      ≡ cond (mem v (entries m rs)) (hit (bestAt rs m v)) miss
 
 -- the default route is kept beside
 pub record Copy (rs : List Route) (ws : List ℕ) : Type 0 where
@@ -67,7 +68,8 @@ code-fine m (found a l) h w =
     )
 
 pub best-fine : (rs : List Route) (m v : ℕ) → m ≤ 32 → All (IsRoute 32) rs → badBest m (bestAt rs m v) ≡ false
-best-fine rs m v h p = code-fine m (last (λ l. heldAt rs l (v / 2 ^ (m - l))) m) h (last-low (λ l. heldAt rs l (v / 2 ^ (m - l))) m (λ l. hop-low rs _ p))
+best-fine rs m v h p = code-fine m (last (λ l. heldAt rs l (v / 2 ^ (m - l))) m) h
+    (last-low (λ l. heldAt rs l (v / 2 ^ (m - l))) m (λ l. hop-low rs _ p))
 
 code-back : (x : Match) → Low 32 x → answered (hit (code x)) ≡ matched x
 code-back none w = refl
@@ -86,10 +88,12 @@ module _ (rs : List Route) (ws : List ℕ) (l : IsList 32 rs) (c : Copy rs ws) (
       rw (le-leb (beginOf ws m + 8 * sizeOf ws m) (length ws) (omega (arith, t .ends, c .long))) (t .finds v)
 
   copy-search : search (λ m. look ws m (a / 2 ^ (32 - m))) 4 16 (bestAt rs 0 (a / 2 ^ 32)) ≡ hit (code (longest 32 a rs))
-  copy-search = list-way rs (wfs rs (l .routes)) a (λ m. look ws m (a / 2 ^ (32 - m))) (λ m i j. copy-look m (a / 2 ^ (32 - m)) i j)
+  copy-search = list-way rs (wfs rs (l .routes)) a (λ m. look ws m (a / 2 ^ (32 - m)))
+      (λ m i j. copy-look m (a / 2 ^ (32 - m)) i j)
 
   longest-low : Low 32 (longest 32 a rs)
-  longest-low = rw (longest-last 32 a (omega arith) rs (wfs rs (l .routes))) (last-low (along 32 a (omega arith) rs) 32 (λ k. hop-low rs _ (l .routes)))
+  longest-low = rw (longest-last 32 a (omega arith) rs (wfs rs (l .routes)))
+      (last-low (along 32 a (omega arith) rs) 32 (λ k. hop-low rs _ (l .routes)))
 
   pub copy-walk : walk ws a ≡ matched (longest 32 a rs)
   unfolding walk
@@ -101,7 +105,8 @@ module _ (rs : List Route) (ws : List ℕ) (l : IsList 32 rs) (c : Copy rs ws) (
 -- ---- what a table hangs on
 
 -- U has the places of T
-pub probe-same : (T U : Places) (m p v : ℕ) → ((i : ℕ) → i < p → U .taken i ≡ T .taken i) → ((i : ℕ) → i < p → U .value i ≡ T .value i) → ((i : ℕ) → i < p → U .best i ≡ T .best i)
+pub probe-same : (T U : Places) (m p v : ℕ) → ((i : ℕ) → i < p → U .taken i ≡ T .taken i)
+    → ((i : ℕ) → i < p → U .value i ≡ T .value i) → ((i : ℕ) → i < p → U .best i ≡ T .best i)
     → (n d : ℕ) → d + n ≤ p → probe U m p v n d ≡ probe T m p v n d
 unfolding probe
 probe-same T U m p v t k b zero d h = refl
@@ -110,7 +115,8 @@ probe-same T U m p v t k b (suc n) d h =
     rw (t _ j, k _ j, b _ j, probe-same T U m p v t k b n (d + 1) (omega arith))
 
 -- its own numbers in the header, and the words between the header and `to`
-pub table-same : (rs : List Route) (ws us : List ℕ) (to m : ℕ) → ((i : ℕ) → 8 * m ≤ i → i < 8 * m + 4 → getD us i 0 ≡ getD ws i 0) → ((i : ℕ) → 1024 ≤ i → i < to → getD us i 0 ≡ getD ws i 0)
+pub table-same : (rs : List Route) (ws us : List ℕ) (to m : ℕ) → ((i : ℕ) → 8 * m ≤ i → i < 8 * m + 4 → getD us i 0 ≡ getD ws i 0)
+    → ((i : ℕ) → 1024 ≤ i → i < to → getD us i 0 ≡ getD ws i 0)
     → Table rs ws to m → Table rs us to m
 table-same rs ws us to m h w t =
     record {
@@ -129,7 +135,8 @@ table-same rs ws us to m h w t =
     n = rw (h (8 * m + 2) (omega arith) (omega arith), h (8 * m + 2 + 1) (omega arith) (omega arith))
 
 -- whatever stands past the words that it needs, a copy is one
-pub copy-front : (rs : List Route) (ws us : List ℕ) → wordsFor rs ≤ length us → ((i : ℕ) → i < wordsFor rs → getD us i 0 ≡ getD ws i 0) → Copy rs ws → Copy rs us
+pub copy-front : (rs : List Route) (ws us : List ℕ) → wordsFor rs ≤ length us
+    → ((i : ℕ) → i < wordsFor rs → getD us i 0 ≡ getD ws i 0) → Copy rs ws → Copy rs us
 copy-front rs ws us h w c = record {
   long = h;
   default = w 0 (omega arith) ∙ c .default;

@@ -1,4 +1,5 @@
--- The law of the hash tables: what was put is found, and nothing else. A table is seen as functions of its places. Assumes nothing.
+-- The law of the hash tables: what was put is found, and nothing else. A table is seen as functions of its places. Assumes
+-- nothing.
 use mathlib.Core.Path.{_≡_, refl, sym, ap, _∙_}
 use mathlib.Core.Logic.{_≢_}
 use mathlib.Core.Bool.{Bool, true, false, cond}
@@ -49,7 +50,8 @@ pass-at : (T : Places) (m v j : ℕ) (rest : Look) → T .taken j ≡ 1 → T .v
 pass-at T m v j rest e n = rw (e, ne-eqb (T .value j) v n)
 
 -- and ends at a place of its own
-own-at : (T : Places) (m v j : ℕ) (rest : Look) → T .taken j ≡ 1 → T .value j ≡ v → badBest m (T .best j) ≡ false → lookAt T m v j rest ≡ hit (T .best j)
+own-at : (T : Places) (m v j : ℕ) (rest : Look) → T .taken j ≡ 1 → T .value j ≡ v → badBest m (T .best j) ≡ false
+    → lookAt T m v j rest ≡ hit (T .best j)
 own-at T m v j rest e n b = rw (e, eq-eqb (T .value j) v n, b)
 
 -- or at a free one
@@ -58,7 +60,8 @@ free-at T m v j rest e = rw e
 
 -- ---- a value that is not there
 
-absent : (T : Places) (m p v : ℕ) → 1 ≤ p → ((i : ℕ) → i < p → T .taken i ≤ 1) → ((i : ℕ) → i < p → T .taken i ≡ 1 → T .value i ≢ v)
+absent : (T : Places) (m p v : ℕ) → 1 ≤ p → ((i : ℕ) → i < p → T .taken i ≤ 1)
+    → ((i : ℕ) → i < p → T .taken i ≡ 1 → T .value i ≢ v)
     → (n d : ℕ) → d + n ≤ p → probe T m p v n d ≡ miss
 unfolding probe
 absent T m p v h low other zero d k = refl
@@ -67,7 +70,8 @@ absent T m p v h low other (suc n) d k =
     same (T .taken (place (start v p) p d)) 0
     (λ q _. free-at T m v (place (start v p) p d) _ q)
     (λ q _. (let t : T .taken (place (start v p) p d) ≡ 1 = omega (arith, low (place (start v p) p d) l) in
-    pass-at T m v (place (start v p) p d) _ t (other (place (start v p) p d) l t) ∙ absent T m p v h low other n (d + 1) (omega arith)))
+    pass-at T m v (place (start v p) p d) _ t (other (place (start v p) p d) l t)
+    ∙ absent T m p v h low other n (d + 1) (omega arith)))
 
 -- ---- a place put
 
@@ -91,7 +95,8 @@ module _ (T U : Places) (p j v b : ℕ) (s : Puts T U p j v b) (m : ℕ) where
   stay-at w x n d i l ih e =
       same i j
       (λ q _. hit-not-miss (sym (free-at T m w i (probe T m p w n (d + 1)) (rw q (s .free))) ∙ e))
-      (λ q _. rw (s .takens i l q, s .values i l q, s .bests i l q) (sort (eqb (T .taken i) 0) (ltb 1 (T .taken i)) (eqb (T .value i) w) e))
+      (λ q _. rw (s .takens i l q, s .values i l q, s .bests i l q)
+      (sort (eqb (T .taken i) 0) (ltb 1 (T .taken i)) (eqb (T .value i) w) e))
     where
       sort : (a c k : Bool) → cond a miss (cond c outside (cond k (ranged m (T .best i)) (probe T m p w n (d + 1)))) ≡ hit x
           → cond a miss (cond c outside (cond k (ranged m (T .best i)) (probe U m p w n (d + 1)))) ≡ hit x
@@ -105,11 +110,13 @@ module _ (T U : Places) (p j v b : ℕ) (s : Puts T U p j v b) (m : ℕ) where
   unfolding probe
   stays w x zero d h e = hit-not-miss e
   stays w x (suc n) d h e =
-      stay-at w x n d (place (start w p) p d) (place-lt (start w p) p d (start-lt w p one) (omega arith)) (stays w x n (d + 1) (omega arith)) e
+      stay-at w x n d (place (start w p) p d) (place-lt (start w p) p d (start-lt w p one) (omega arith))
+      (stays w x n (d + 1) (omega arith)) e
 
   -- what is put is found, where the places before it on its way are taken by others
   reached : badBest m b ≡ false → ((i : ℕ) → i < p → T .taken i ≡ 1 → T .value i ≢ v)
-      → (k n d : ℕ) → k < n → d + n ≤ p → place (start v p) p (d + k) ≡ j → ((e : ℕ) → d ≤ e → e < d + k → T .taken (place (start v p) p e) ≡ 1)
+      → (k n d : ℕ) → k < n → d + n ≤ p → place (start v p) p (d + k) ≡ j
+      → ((e : ℕ) → d ≤ e → e < d + k → T .taken (place (start v p) p e) ≡ 1)
       → probe U m p v n d ≡ hit b
   unfolding probe
   reached g other k zero d h l e t = absurd (omega arith)
@@ -153,7 +160,8 @@ unfolding filled
 filled-same T U zero e = refl
 filled-same T U (suc p) e = rw (e p (omega arith), filled-same T U p (λ i h. e i (omega arith)))
 
-filled-put : (T U : Places) (j p : ℕ) → j < p → T .taken j ≡ 0 → U .taken j ≡ 1 → ((i : ℕ) → i < p → i ≢ j → U .taken i ≡ T .taken i) → filled U p ≡ suc (filled T p)
+filled-put : (T U : Places) (j p : ℕ) → j < p → T .taken j ≡ 0 → U .taken j ≡ 1
+    → ((i : ℕ) → i < p → i ≢ j → U .taken i ≡ T .taken i) → filled U p ≡ suc (filled T p)
 unfolding filled
 filled-put T U j zero h f t e = absurd (omega arith)
 filled-put T U j (suc p) h f t e =
@@ -161,7 +169,8 @@ filled-put T U j (suc p) h f t e =
     (λ q _. (let a : T .taken p ≡ 0 = ap (T .taken) q ∙ f in
     let c : U .taken p ≡ 1 = ap (U .taken) q ∙ t in
     rw (a, c, filled-same T U p (λ i l. e i (omega arith) (λ z. omega arith)))))
-    (λ q _. rw (e p (omega arith) q, filled-put T U j p (omega arith) f t (λ i l n. e i (omega arith) n)) (pull (eqb (T .taken p) 0) (filled T p)))
+    (λ q _. rw (e p (omega arith) q, filled-put T U j p (omega arith) f t (λ i l n. e i (omega arith) n))
+    (pull (eqb (T .taken p) 0) (filled T p)))
   where
     pull : (b : Bool) (n : ℕ) → cond b (suc n) (suc (suc n)) ≡ suc (cond b n (suc n))
     pull true n = refl
@@ -200,7 +209,8 @@ holds-none T m p B z =
         (λ h _. (let e : p ≡ 0 = omega arith in rw e (probe-none T m 0 w 0)))
 
 -- a value that is there already
-pub holds-again : (T : Places) (m p : ℕ) (B : ℕ → ℕ) (xs : List ℕ) (v : ℕ) → Holds T m p B xs → mem v xs ≡ true → Holds T m p B (v ∷ xs)
+pub holds-again : (T : Places) (m p : ℕ) (B : ℕ → ℕ) (xs : List ℕ) (v : ℕ) → Holds T m p B xs → mem v xs ≡ true
+    → Holds T m p B (v ∷ xs)
 holds-again T m p B xs v h e =
     record {
       low = h .low;
@@ -210,7 +220,8 @@ holds-again T m p B xs v h e =
     }
 
 -- a value that is not there is at no place
-unheld : (T : Places) (m p : ℕ) (B : ℕ → ℕ) (xs : List ℕ) (v : ℕ) → Holds T m p B xs → mem v xs ≡ false → (i : ℕ) → i < p → T .taken i ≡ 1 → T .value i ≢ v
+unheld : (T : Places) (m p : ℕ) (B : ℕ → ℕ) (xs : List ℕ) (v : ℕ) → Holds T m p B xs → mem v xs ≡ false → (i : ℕ) → i < p
+    → T .taken i ≡ 1 → T .value i ≢ v
 unheld T m p B xs v h e i l t q =
     hit-not-miss (sym (h .finds (T .value i) ∙ rw (q, e)) ∙ h .own i l t)
 
@@ -223,18 +234,24 @@ pub record Free (T : Places) (p v j : ℕ) : Type 0 where
   pub before : (e : ℕ) → e < steps → T .taken (place (start v p) p e) ≢ 0
 
 -- a value put
-pub holds-put : (T U : Places) (m p j : ℕ) (B : ℕ → ℕ) (xs : List ℕ) (v : ℕ) → Holds T m p B xs → mem v xs ≡ false → badBest m (B v) ≡ false → Free T p v j → Puts T U p j v (B v) → Holds U m p B (v ∷ xs)
+pub holds-put : (T U : Places) (m p j : ℕ) (B : ℕ → ℕ) (xs : List ℕ) (v : ℕ) → Holds T m p B xs → mem v xs ≡ false
+    → badBest m (B v) ≡ false → Free T p v j → Puts T U p j v (B v) → Holds U m p B (v ∷ xs)
 holds-put T U m p j B xs v h e g f s =
     let one : 1 ≤ p = omega (arith, f .few) in
     let away = unheld T m p B xs v h e in
-    let new : find U m p v ≡ hit (B v) = reached T U p j v (B v) s m g away (f .steps) p 0 (f .few) (omega arith) (at-steps (f .steps) j (f .there))
-    (λ x a c. (let l = place-lt (start v p) p x (start-lt v p one) (omega (arith, f .few)) in omega (arith, h .low _ l, f .before x (omega arith)))) in
-    let low : (i : ℕ) → i < p → U .taken i ≤ 1 = λ i l. same i j (λ q _. rw q (omega (arith, s .taken))) (λ q _. omega (arith, s .takens i l q, h .low i l)) in
+    let new : find U m p v ≡ hit (B v) =
+    reached T U p j v (B v) s m g away (f .steps) p 0 (f .few) (omega arith) (at-steps (f .steps) j (f .there))
+    (λ x a c. (let l = place-lt (start v p) p x (start-lt v p one) (omega (arith, f .few)) in
+    omega (arith, h .low _ l, f .before x (omega arith)))) in
+    let low : (i : ℕ) → i < p → U .taken i ≤ 1 =
+    λ i l. same i j (λ q _. rw q (omega (arith, s .taken))) (λ q _. omega (arith, s .takens i l q, h .low i l)) in
     record {
       low = low;
       own = λ i l t. same i j
           (λ q _. rw (q, s .value, s .best) new)
-          (λ q _. (let w : T .taken i ≡ 1 = sym (s .takens i l q) ∙ t in rw (s .values i l q, s .bests i l q) (stays T U p j v (B v) s m (T .value i) (T .best i) p 0 (omega arith) (h .own i l w))));
+          (λ q _. (let w : T .taken i ≡ 1 = sym (s .takens i l q) ∙ t in
+          rw (s .values i l q, s .bests i l q)
+          (stays T U p j v (B v) s m (T .value i) (T .best i) p 0 (omega arith) (h .own i l w))));
       finds = λ w. same v w
           (λ q d. rw (d, ← q) new)
           (λ q d. rw d (bool (mem w xs)

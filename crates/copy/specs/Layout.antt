@@ -41,7 +41,11 @@ pub record Places : Type 0 where
   pub best : ℕ → ℕ
 
 abbrev pub placesOf : List ℕ → ℕ → Places
-placesOf ws o = record { taken = λ j. getD ws (o + 4 * j) 0; value = λ j. getD ws (o + 4 * j + 1) 0; best = λ j. getD ws (o + 4 * j + 2) 0 }
+placesOf ws o = record {
+  taken = λ j. getD ws (o + 4 * j) 0;
+  value = λ j. getD ws (o + 4 * j + 1) 0;
+  best = λ j. getD ws (o + 4 * j + 2) 0;
+}
 
 -- where the probe for v begins among p places: the product's two halves changed, so that its high bits count most
 abbrev pub mix : ℕ → ℕ

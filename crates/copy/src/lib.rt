@@ -8,7 +8,8 @@ ghost use Rattle.routes.specs.Route.{Route, IsList};
 ghost use Rattle.routes.specs.Match.{longest};
 ghost use Rattle.routes.specs.Answers.{matched};
 ghost use Rattle.way.specs.Way.{after, hit, search};
-ghost use Rattle.copy.specs.Layout.{wide as wideAt, badBest, ranged as rangedBest, placesOf, start as startOf, place as placeOf, find, look, answered, walk};
+ghost use Rattle.copy.specs.Layout.{wide as wideAt, badBest, ranged as rangedBest, placesOf, start as startOf};
+ghost use Rattle.copy.specs.Layout.{place as placeOf, find, look, answered, walk};
 ghost use Rattle.copy.specs.Copy.{Copy};
 ghost use Rattle.copy.specs.Told.{seen};
 ghost use Rattle.matches.specs.Told.{told};
@@ -197,7 +198,8 @@ fn answer(found: Look) -> Match
 // The longest match of an address: on any words what the layout's walk gives, and on a copy of a list that of the list.
 pub fn lookup(words: &[u32], address: u32) -> Match
     ensures { λ r. ⌜ told r ≡ walk (now (words .entry)) address ⌝ }
-    ensures of_a_copy { λ r. ⌜ ((rs : List Route) → IsList 32 rs → Copy rs (now (words .entry)) → told r ≡ matched (longest 32 address rs)) ⌝ }
+    ensures of_a_copy { λ r. ⌜ ((rs : List Route) → IsList 32 rs → Copy rs (now (words .entry))
+        → told r ≡ matched (longest 32 address rs)) ⌝ }
 {
     if words.len() < 1024 {
         return Match::Refused(2);

@@ -20,7 +20,8 @@ use Rattle.way.specs.Marks.{picks, markers, entries}
 use Rattle.way.specs.Count.{firstOr, heads-picks}
 use Rattle.way.specs.Entries.{tally, entriesTo, own-distinct, entries-all}
 use Rattle.way.specs.Listed.{routeAt, routesFrom, listOf, routeB, recordB, wholeB, unlisted, listed, listedIn, needOn}
-use Rattle.way.specs.Records.{Bytes, whole-list, tail-step, tail-end, tail-list, count-skip, count-same, count-new, count-first, distinct-length, records-length, list-short, wfs}
+use Rattle.way.specs.Records.{Bytes, whole-list, tail-step, tail-end, tail-list, count-skip, count-same, count-new, count-first}
+use Rattle.way.specs.Records.{distinct-length, records-length, list-short, wfs}
 use Rattle.listing.specs.Pick.{Whole, Counted}
 
 pub off : (b : Bool) → not b ≡ true → b ≡ false
@@ -59,7 +60,8 @@ module _ (bs : List ℕ) (i : ℕ) where
   record-kind n = rw (ne-eqb (getD bs (8 * i) 0) 1 n)
 
   -- the test of the numbers that were read is the test of the record's route
-  pub record-route : (A L H : ℕ) (r : Bool) → A ≡ fourAt bs (8 * i + 1) → L ≡ getD bs (8 * i + 5) 0 → H ≡ twoAt bs (8 * i + 6) → r ≡ routeB (route A L H) → r ≡ routeB (routeAt bs i)
+  pub record-route : (A L H : ℕ) (r : Bool) → A ≡ fourAt bs (8 * i + 1) → L ≡ getD bs (8 * i + 5) 0 → H ≡ twoAt bs (8 * i + 6)
+      → r ≡ routeB (route A L H) → r ≡ routeB (routeAt bs i)
   record-route A L H r a l h e = e ∙ rw (a, l, h)
 
   pub record-bad : (r : Bool) → r ≡ routeB (routeAt bs i) → r ≡ false → getD bs (8 * i) 0 ≡ 1 → false ≡ recordB bs i
@@ -88,7 +90,8 @@ module _ (bs : List ℕ) where
 
   broken : (i : ℕ) → i < length bs / 8 → recordB bs i ≡ false → wholeB bs ≡ false
   unfolding wholeB
-  broken i h e = rw (← (all-stop (recordB bs) (length bs / 8) i h e)) (none (eqb (length bs % 8) 1) (eqb (getD bs (8 * (length bs / 8)) 0) 0))
+  broken i h e = rw (← (all-stop (recordB bs) (length bs / 8) i h e))
+      (none (eqb (length bs % 8) 1) (eqb (getD bs (8 * (length bs / 8)) 0) 0))
     where
       none : (b c : Bool) → (b && (c && false)) ≡ false
       none true true = refl
@@ -108,7 +111,8 @@ module _ (bs : List ℕ) where
   pub whole-broken : (i : ℕ) (r : Bool) → i < length bs / 8 → r ≡ recordB bs i → not r ≡ true → Whole bs false
   whole-broken i r h e n = fails (broken i h (sym e ∙ off r n))
 
-  pub whole-right : Bytes bs → length bs % 8 ≡ 1 → getD bs (8 * (length bs / 8)) 0 ≡ 0 → (i : ℕ) → length bs / 8 ≤ i → i ≤ length bs / 8 → allB (recordB bs) i ≡ true → Whole bs true
+  pub whole-right : Bytes bs → length bs % 8 ≡ 1 → getD bs (8 * (length bs / 8)) 0 ≡ 0 → (i : ℕ) → length bs / 8 ≤ i
+      → i ≤ length bs / 8 → allB (recordB bs) i ≡ true → Whole bs true
   whole-right b e z i u v h =
       let q : i ≡ length bs / 8 = omega arith in
       let w = right e z (rw q at h) in
@@ -124,16 +128,22 @@ pub record Counts (P : ℕ → Bool) (m : ℕ) (rs : List Route) (seen last : �
 pub counts-none : (P : ℕ → Bool) (m n : ℕ) (bs : List ℕ) → Counts P m (routesFrom bs (n - n) n) 0 4294967296
 counts-none P m n bs = rw (tail-end bs n) (record { count = refl; first = refl })
 
-module _ (P : ℕ → Bool) (m n i j : ℕ) (bs : List ℕ) (e : j + 1 ≡ i) (h : i ≤ n) (l : IsList 32 (routesFrom bs n 0)) (seen last : ℕ) (s : Counts P m (routesFrom bs (n - i) i) seen last) where
+module _ (P : ℕ → Bool) (m n i j : ℕ) (bs : List ℕ) (e : j + 1 ≡ i) (h : i ≤ n) (l : IsList 32 (routesFrom bs n 0))
+    (seen last : ℕ) (s : Counts P m (routesFrom bs (n - i) i) seen last) where
   list : IsList 32 (routeAt bs j ∷ routesFrom bs (n - i) i)
   list = rw (tail-step bs n i j e h) at (tail-list bs n j (omega arith) l)
 
   pub counts-past : (b : Bool) → b ≡ P (routeAt bs j .len) → b ≡ false → Counts P m (routesFrom bs (n - j) j) seen last
   counts-past b q f =
       let z = count-skip P m (routeAt bs j) (routesFrom bs (n - i) i) list (sym q ∙ f) in
-      rw (tail-step bs n i j e h) (record { count = s .count ∙ ap distinct (sym z); first = s .first ∙ ap (firstOr 4294967296) (sym z) })
+      rw (tail-step bs n i j e h) (record {
+        count = s .count ∙ ap distinct (sym z);
+        first = s .first
+            ∙ ap (firstOr 4294967296) (sym z);
+      })
 
-  pub counts-more : (b : Bool) (v r : ℕ) → b ≡ P (routeAt bs j .len) → b ≡ true → v ≡ routeAt bs j .addr / 2 ^ (32 - m) → Counted seen v last r
+  pub counts-more : (b : Bool) (v r : ℕ) → b ≡ P (routeAt bs j .len) → b ≡ true → v ≡ routeAt bs j .addr / 2 ^ (32 - m)
+      → Counted seen v last r
       → Counts P m (routesFrom bs (n - j) j) r v
   counts-more b v r q f a c =
       let p : P (routeAt bs j .len) ≡ true = sym q ∙ f in
@@ -142,37 +152,52 @@ module _ (P : ℕ → Bool) (m n i j : ℕ) (bs : List ℕ) (e : j + 1 ≡ i) (h
       rw (tail-step bs n i j e h) (record {
         count = same v last
             (λ z _. c .same z ∙ s .count ∙ sym (count-same P m x xs list p (sym a ∙ z ∙ s .first)))
-            (λ z _. c .more z ∙ add-one seen ∙ ap suc (s .count) ∙ sym (count-new P m x xs list p (λ y. z (a ∙ y ∙ sym (s .first)))));
+            (λ z _. c .more z ∙ add-one seen ∙ ap suc (s .count)
+            ∙ sym (count-new P m x xs list p (λ y. z (a ∙ y ∙ sym (s .first)))));
         first = a ∙ sym (count-first P m x xs list p);
       })
 
-pub counts-low : (P : ℕ → Bool) (m n i : ℕ) (bs : List ℕ) (seen last : ℕ) → Counts P m (routesFrom bs (n - i) i) seen last → seen ≤ n - i
-counts-low P m n i bs seen last s = omega (arith, s .count, distinct-length P m (routesFrom bs (n - i) i), records-length bs (n - i) i)
+pub counts-low : (P : ℕ → Bool) (m n i : ℕ) (bs : List ℕ) (seen last : ℕ) → Counts P m (routesFrom bs (n - i) i) seen last
+    → seen ≤ n - i
+counts-low P m n i bs seen last s = omega
+    (arith, s .count, distinct-length P m (routesFrom bs (n - i) i), records-length bs (n - i) i)
 
-pub counts-end : (P : ℕ → Bool) (m n i : ℕ) (bs : List ℕ) (seen last : ℕ) → i ≤ 0 → IsList 32 (routesFrom bs n 0) → Counts P m (routesFrom bs (n - i) i) seen last
+pub counts-end : (P : ℕ → Bool) (m n i : ℕ) (bs : List ℕ) (seen last : ℕ) → i ≤ 0 → IsList 32 (routesFrom bs n 0)
+    → Counts P m (routesFrom bs (n - i) i) seen last
     → (seen ≡ distinct (picks P m (routesFrom bs n 0))) × (seen ≤ 1099511627776)
 counts-end P m n i bs seen last h l s =
     let z : i ≡ 0 = omega arith in
     let d : n - 0 ≡ n = omega arith in
-    let e : seen ≡ distinct (picks P m (routesFrom bs n 0)) = rw (z, d) at (s .count) in
-    (e, omega (arith, e, distinct-length P m (routesFrom bs n 0), list-short 0 (routesFrom bs n 0) (l .sorted) (wfs (routesFrom bs n 0) (l .routes)) (omega arith)))
+    let e : seen ≡ distinct (picks P m (routesFrom bs n 0)) = rw (z, d) at (s .count) in (
+      e,
+      omega (
+        arith,
+        e,
+        distinct-length P m (routesFrom bs n 0),
+        list-short 0 (routesFrom bs n 0) (l .sorted) (wfs (routesFrom bs n 0) (l .routes)) (omega arith),
+      ),
+    )
 
 -- ---- sums of counts
 
-pub arrays-need : (rs : List Route) (a b c : ℕ) → a ≡ distinct (picks (λ l. ltb 8 l) 8 rs) → b ≡ distinct (picks (λ l. ltb 16 l) 16 rs) → c ≡ distinct (picks (λ l. ltb 24 l) 24 rs)
+pub arrays-need : (rs : List Route) (a b c : ℕ) → a ≡ distinct (picks (λ l. ltb 8 l) 8 rs)
+    → b ≡ distinct (picks (λ l. ltb 16 l) 16 rs) → c ≡ distinct (picks (λ l. ltb 24 l) 24 rs)
     → 1 + a + b + c ≡ need 32 rs
 unfolding needTo
 arrays-need rs a b c p q r = rw (heads-picks 8 rs, heads-picks 16 rs, heads-picks 24 rs, p, q, r)
 
-pub total-none : (rs : List Route) (a : ℕ) → IsList 32 rs → a ≡ distinct (picks (λ l. eqb l 0) 0 rs) → a ≡ entriesTo 0 rs + tally 0 rs
+pub total-none : (rs : List Route) (a : ℕ) → IsList 32 rs → a ≡ distinct (picks (λ l. eqb l 0) 0 rs)
+    → a ≡ entriesTo 0 rs + tally 0 rs
 unfolding entriesTo
 total-none rs a l e = omega (arith, e, own-distinct 0 0 rs (omega arith) (l .sorted) (wfs rs (l .routes)))
 
-pub total-more : (rs : List Route) (m s a : ℕ) → s ≡ entriesTo m rs + tally 0 rs → a ≡ distinct (entries (m + 1) rs) → s + a ≡ entriesTo (m + 1) rs + tally 0 rs
+pub total-more : (rs : List Route) (m s a : ℕ) → s ≡ entriesTo m rs + tally 0 rs → a ≡ distinct (entries (m + 1) rs)
+    → s + a ≡ entriesTo (m + 1) rs + tally 0 rs
 unfolding entriesTo
 total-more rs m s a e q = rw (add-one m) (omega (arith, e, rw (add-one m) at q))
 
-pub total-all : (rs : List Route) (m s : ℕ) → IsList 32 rs → m ≤ 32 → 32 ≤ m → s ≡ entriesTo m rs + tally 0 rs → s ≡ length rs + markers rs
+pub total-all : (rs : List Route) (m s : ℕ) → IsList 32 rs → m ≤ 32 → 32 ≤ m → s ≡ entriesTo m rs + tally 0 rs
+    → s ≡ length rs + markers rs
 total-all rs m s l u v e = let q : m ≡ 32 = omega arith in (rw q at e) ∙ entries-all rs (l .sorted) (wfs rs (l .routes))
 
 -- ---- the answer
@@ -193,8 +218,10 @@ module _ (bs : List ℕ) where
   pub need-broken : (r : Bool) → Whole bs r → not r ≡ true → refuses 2 ≡ needOn (listedIn bs)
   need-broken r w e = ap needOn (sym (unwhole (sym (w .told) ∙ off r e)))
 
-  pub need-crowded : (r : Bool) (n : ℕ) → Whole bs r → not r ≡ false → n ≡ need 32 (listOf bs) → 4096 < n → refuses 2 ≡ needOn (listedIn bs)
+  pub need-crowded : (r : Bool) (n : ℕ) → Whole bs r → not r ≡ false → n ≡ need 32 (listOf bs) → 4096 < n
+      → refuses 2 ≡ needOn (listedIn bs)
   need-crowded r n w e q h = ap needOn (sym (crowded (sym (w .told) ∙ on r e) (omega arith)))
 
-  pub need-words : (r : Bool) (n t : ℕ) → Whole bs r → not r ≡ false → n ≡ need 32 (listOf bs) → n ≤ 4096 → t ≡ length (listOf bs) + markers (listOf bs) → gives (8 * t + 1024) ≡ needOn (listedIn bs)
+  pub need-words : (r : Bool) (n t : ℕ) → Whole bs r → not r ≡ false → n ≡ need 32 (listOf bs) → n ≤ 4096
+      → t ≡ length (listOf bs) + markers (listOf bs) → gives (8 * t + 1024) ≡ needOn (listedIn bs)
   need-words r n t w e q h s = rw s (ap needOn (sym (fitting (sym (w .told) ∙ on r e) (omega arith))))

@@ -31,7 +31,8 @@ module _ (m l : ℕ) where
   way-down zero at p h e w = absurd (omega arith)
   way-down (suc n) at p h e w = let q : suc n - 1 ≡ n = omega arith in rw (e, q, le-ltb at l (omega arith), lt-ltb l at w)
 
-  pub way-up : (n at p : ℕ) → 1 ≤ n → p ≡ 2 ^ (n - 1) → at ≢ l → at ≤ l → at ≢ m → mem m (turns (n - 1) (at + p) l) ≡ mem m (turns n at l)
+  pub way-up : (n at p : ℕ) → 1 ≤ n → p ≡ 2 ^ (n - 1) → at ≢ l → at ≤ l → at ≢ m
+      → mem m (turns (n - 1) (at + p) l) ≡ mem m (turns n at l)
   unfolding turns
   way-up zero at p h e v w d = absurd (omega arith)
   way-up (suc n) at p h e v w d = let q : suc n - 1 ≡ n = omega arith in rw (e, q, lt-ltb at l (omega arith), ne-eqb at m d)

@@ -1,5 +1,5 @@
-// Document 01's small cases by the calls themselves: P1 to P12, and the case of four arrays. A line for each call tells its case, what
-// was sent, the answer, and the arrays that the check then counts.
+// Document 01's small cases by the calls themselves: P1 to P12, and the case of four arrays. A line for each call tells its case,
+// what was sent, the answer, and the arrays that the check then counts.
 fn main() {
     let mut one = [0u32; 2048];
     let mut four = [0u32; 5120];

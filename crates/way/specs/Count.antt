@@ -28,14 +28,16 @@ rising-past : (v lo : ℕ) (xs : List ℕ) → v < lo → Rising lo xs → mem v
 rising-past v lo [] h r = refl
 rising-past v lo (x ∷ xs) h r = rw (ne-eqb x v (λ e. omega (arith, r .0))) (rising-past v x xs (omega (arith, r .0)) (r .1))
 
-pub distinct-step : (v d : ℕ) (xs : List ℕ) → v < d → Rising v xs → distinct (v ∷ xs) ≡ cond (eqb v (firstOr d xs)) (distinct xs) (suc (distinct xs))
+pub distinct-step : (v d : ℕ) (xs : List ℕ) → v < d → Rising v xs
+    → distinct (v ∷ xs) ≡ cond (eqb v (firstOr d xs)) (distinct xs) (suc (distinct xs))
 distinct-step v d [] h r = rw (ne-eqb v d (λ e. omega arith))
 distinct-step v d (x ∷ xs) h r =
     same v x
     (λ q e. rw (e, eq-eqb x v (sym q)))
     (λ q e. rw (e, ne-eqb x v (λ z. q (sym z)), rising-past v x xs (omega (arith, r .0)) (r .1)))
 
-pub picks-rising : (P : ℕ → Bool) (m lo h : ℕ) (rs : List Route) → From lo rs → Wfs 32 rs → h ≤ lo / 256 / 2 ^ (32 - m) → Rising h (picks P m rs)
+pub picks-rising : (P : ℕ → Bool) (m lo h : ℕ) (rs : List Route) → From lo rs → Wfs 32 rs → h ≤ lo / 256 / 2 ^ (32 - m)
+    → Rising h (picks P m rs)
 picks-rising P m lo h [] f w b = tt
 picks-rising P m lo h (r ∷ rs) f w b =
     let u : h ≤ r .addr / 2 ^ (32 - m) = le-trans b (shr-mono (32 - m) (omega (arith, f .0, w .0 .fits))) in

@@ -26,7 +26,8 @@ pub mem-append : (z : ℕ) (xs ys : List ℕ) → mem z (xs ++ ys) ≡ (mem z xs
 mem-append z [] ys = refl
 mem-append z (x ∷ xs) ys = bool (eqb x z) (λ e. rw e) (λ e. rw (e, mem-append z xs ys))
 
-distinct-append : (xs ys : List ℕ) → ((z : ℕ) → mem z xs ≡ true → mem z ys ≡ false) → distinct (xs ++ ys) ≡ distinct xs + distinct ys
+distinct-append : (xs ys : List ℕ) → ((z : ℕ) → mem z xs ≡ true → mem z ys ≡ false)
+    → distinct (xs ++ ys) ≡ distinct xs + distinct ys
 distinct-append [] ys d = omega arith
 distinct-append (x ∷ xs) ys d =
     let ih = distinct-append xs ys (λ z e. d z (or-right (eqb x z) (mem z xs) e)) in
@@ -47,7 +48,8 @@ mem-unheld rs m z (v ∷ vs) =
     none true = refl
     none false = refl
 
-pub mem-either : (P Q : ℕ → Bool) (m z : ℕ) (rs : List Route) → mem z (picks (λ l. P l || Q l) m rs) ≡ (mem z (picks P m rs) || mem z (picks Q m rs))
+pub mem-either : (P Q : ℕ → Bool) (m z : ℕ) (rs : List Route)
+    → mem z (picks (λ l. P l || Q l) m rs) ≡ (mem z (picks P m rs) || mem z (picks Q m rs))
 mem-either P Q m z [] = refl
 mem-either P Q m z (r ∷ rs) =
     let ih = mem-either P Q m z rs in
@@ -86,7 +88,8 @@ pub key-own : (m : ℕ) (r : Route) → Wf 32 r → r .len ≡ m → r .addr / 2
 key-own m r w e = rw (← e, whole 32 r w)
 
 -- and at no other key of m bits
-pub key-other : (m z : ℕ) (r : Route) → m ≤ 32 → Wf 32 r → key r ≡ z * 2 ^ (32 - m) * 256 + m → (r .len ≡ m) × (r .addr / 2 ^ (32 - m) ≡ z)
+pub key-other : (m z : ℕ) (r : Route) → m ≤ 32 → Wf 32 r → key r ≡ z * 2 ^ (32 - m) * 256 + m
+    → (r .len ≡ m) × (r .addr / 2 ^ (32 - m) ≡ z)
 key-other m z r h w e =
     let l : r .len ≡ m = omega (arith, w .fits) in
     let a : r .addr ≡ z * 2 ^ (32 - m) = omega (arith, w .fits) in
@@ -111,7 +114,8 @@ own-distinct m lo [] h f w = refl
 own-distinct m lo (r ∷ rs) h f w =
     let ih = own-distinct m (suc (key r)) rs h (f .1) (w .1) in
     same (r .len) m
-    (λ l d. (let z : mem (r .addr / 2 ^ (32 - m)) (own m rs) ≡ false = own-held m (r .addr / 2 ^ (32 - m)) rs h (w .1) ∙ rw (key-own m r (w .0) l, hop-below (suc (key r)) (key r) rs (f .1) (omega arith)) in
+    (λ l d. (let z : mem (r .addr / 2 ^ (32 - m)) (own m rs) ≡ false = own-held m (r .addr / 2 ^ (32 - m)) rs h (w .1)
+    ∙ rw (key-own m r (w .0) l, hop-below (suc (key r)) (key r) rs (f .1) (omega arith)) in
     rw (d, z, ih)))
     (λ l d. rw (d, ih))
 
@@ -119,7 +123,12 @@ own-distinct m lo (r ∷ rs) h f w =
 
 entries-split : (m z : ℕ) (rs : List Route) → m ≤ 32 → Wfs 32 rs → mem z (entries m rs) ≡ mem z (own m rs ++ marks m rs)
 entries-split m z rs h w =
-    rw (mem-either (λ l. eqb l m) (turnsAt m) m z rs, mem-append z (own m rs) (marks m rs), mem-unheld rs m z (picks (turnsAt m) m rs), own-held m z rs h w)
+    rw (
+      mem-either (λ l. eqb l m) (turnsAt m) m z rs,
+      mem-append z (own m rs) (marks m rs),
+      mem-unheld rs m z (picks (turnsAt m) m rs),
+      own-held m z rs h w,
+    )
     (apart (eqb (heldAt rs m z) 0) (mem z (picks (turnsAt m) m rs)))
   where
     apart : (a b : Bool) → (not a || b) ≡ (not a || (b && a))
@@ -129,14 +138,16 @@ entries-split m z rs h w =
 
 own-apart : (m z : ℕ) (rs : List Route) → m ≤ 32 → Wfs 32 rs → mem z (own m rs) ≡ true → mem z (marks m rs) ≡ false
 own-apart m z rs h w e =
-    mem-unheld rs m z (picks (turnsAt m) m rs) ∙ flip (eqb (heldAt rs m z) 0) (mem z (picks (turnsAt m) m rs)) (sym (own-held m z rs h w) ∙ e)
+    mem-unheld rs m z (picks (turnsAt m) m rs)
+    ∙ flip (eqb (heldAt rs m z) 0) (mem z (picks (turnsAt m) m rs)) (sym (own-held m z rs h w) ∙ e)
   where
     flip : (a b : Bool) → not a ≡ true → (b && a) ≡ false
     flip true b q = absurd (true≢false (sym q))
     flip false true q = refl
     flip false false q = refl
 
-pub entries-count : (m : ℕ) (rs : List Route) → m ≤ 32 → From 0 rs → Wfs 32 rs → distinct (entries m rs) ≡ tally m rs + distinct (marks m rs)
+pub entries-count : (m : ℕ) (rs : List Route) → m ≤ 32 → From 0 rs → Wfs 32 rs
+    → distinct (entries m rs) ≡ tally m rs + distinct (marks m rs)
 entries-count m rs h f w =
     distinct-mem (entries m rs) (own m rs ++ marks m rs) (λ z. entries-split m z rs h w)
     ∙ distinct-append (own m rs) (marks m rs) (λ z. own-apart m z rs h w)
@@ -175,7 +186,8 @@ tally-length : (rs : List Route) → Wfs 32 rs → tallyTo 32 rs ≡ length rs
 tally-length [] w = tally-none 32
 tally-length (r ∷ rs) w = tally-in 32 r rs (w .0 .fits) ∙ ap suc (tally-length rs (w .1))
 
-to-count : (m : ℕ) (rs : List Route) → m ≤ 32 → From 0 rs → Wfs 32 rs → entriesTo m rs + tally 0 rs ≡ tallyTo m rs + markersTo m rs
+to-count : (m : ℕ) (rs : List Route) → m ≤ 32 → From 0 rs → Wfs 32 rs
+    → entriesTo m rs + tally 0 rs ≡ tallyTo m rs + markersTo m rs
 unfolding entriesTo tallyTo markersTo
 to-count zero rs h f w = omega arith
 to-count (suc m) rs h f w = omega (arith, to-count m rs (omega arith) f w, entries-count (suc m) rs h f w)

@@ -1,5 +1,5 @@
--- The theorem that carries the search by lengths: where each held length has its entry, and its way turns longer at entries only, the
--- search finds the longest match. Assumes nothing.
+-- The theorem that carries the search by lengths: where each held length has its entry, and its way turns longer at entries only,
+-- the search finds the longest match. Assumes nothing.
 use mathlib.Core.Path.{_≡_, refl, sym, _∙_}
 use mathlib.Core.Logic.{_≢_}
 use mathlib.Core.Bool.{Bool, true, false, cond, true≢false}
@@ -25,7 +25,8 @@ past : (g : ℕ → ℕ) (k d n : ℕ) → k + d ≡ n → ((l : ℕ) → k < l 
 past g k zero n e z = let q : n ≡ k = omega arith in rw q
 past g k (suc d) n e z =
     let q : n ≡ suc (k + d) = omega arith in
-    rw q (past-one g (k + d) (z (suc (k + d)) (omega arith) (omega arith)) ∙ past g k d (k + d) refl (λ l h w. z l h (omega arith)))
+    rw q (past-one g (k + d) (z (suc (k + d)) (omega arith) (omega arith))
+    ∙ past g k d (k + d) refl (λ l h w. z l h (omega arith)))
 
 pub last-past : (g : ℕ → ℕ) (k n : ℕ) → k ≤ n → ((l : ℕ) → k < l → l ≤ n → g l ≡ 0) → last g n ≡ last g k
 last-past g k n h z = past g k (n - k) n (omega arith) z
@@ -56,7 +57,8 @@ pub record Marked (E : ℕ → Bool) (g : ℕ → ℕ) : Type 0 where
   pub own : (L : ℕ) → 1 ≤ L → L ≤ 32 → g L ≢ 0 → E L ≡ true
   pub way : (L x : ℕ) → 1 ≤ L → L ≤ 32 → g L ≢ 0 → turnsAt x L ≡ true → E x ≡ true
 
-module _ (look : ℕ → Look) (E : ℕ → Bool) (g : ℕ → ℕ) (looks : Looks look E g) (own : (L : ℕ) → 1 ≤ L → L ≤ 32 → g L ≢ 0 → E L ≡ true) where
+module _ (look : ℕ → Look) (E : ℕ → Bool) (g : ℕ → ℕ) (looks : Looks look E g)
+    (own : (L : ℕ) → 1 ≤ L → L ≤ 32 → g L ≢ 0 → E L ≡ true) where
   -- nothing is held from hi on, 32 aside if hi is 32; and the lengths between lo and hi have their entries
   record Node (n m lo hi : ℕ) : Type 0 where
     low : lo + 2 ^ n ≡ m
@@ -104,14 +106,16 @@ module _ (look : ℕ → Look) (E : ℕ → Bool) (g : ℕ → ℕ) (looks : Loo
   -- at height 0 only m itself is left, or 31 and 32
   end-hit : (m lo hi : ℕ) → Node 0 m lo hi → E m ≡ true → 1 ≤ m → m ≢ 31 → last g 32 ≡ last g m
   end-hit m lo hi w e h n =
-      last-past g m 32 (omega (arith, w .high, w .top)) (λ L a b. w .above L (omega (arith, w .high)) b (λ q. omega (arith, w .high)))
+      last-past g m 32 (omega (arith, w .high, w .top))
+      (λ L a b. w .above L (omega (arith, w .high)) b (λ q. omega (arith, w .high)))
 
   end-miss : (m lo hi : ℕ) → Node 0 m lo hi → 1 ≤ m → E m ≡ false → last g 32 ≡ last g lo
   end-miss m lo hi w h e =
       last-past g lo 32 (omega (arith, w .low, w .high, w .top)) (λ L a b. missed 0 m lo hi w h e L (omega (arith, w .low)) b)
 
   end-32 : E 32 ≡ false → last g 32 ≡ last g 31
-  end-32 e = last-past g 31 32 (omega arith) (λ L a b. (let q : L ≡ 32 = omega arith in rw q (none-at 32 32 e (λ z. own 32 (omega arith) (omega arith) z))))
+  end-32 e = last-past g 31 32 (omega arith)
+      (λ L a b. (let q : L ≡ 32 = omega arith in rw q (none-at 32 32 e (λ z. own 32 (omega arith) (omega arith) z))))
 
   try-32 : after (look 32) (hit (best g 31)) (λ c. hit c) ≡ hit (best g 32)
   try-32 = bool (E 32)
@@ -136,7 +140,8 @@ module _ (look : ℕ → Look) (E : ℕ → Bool) (g : ℕ → ℕ) (looks : Loo
       (λ e. rw (miss-at m a b e) (finds n (m - 2 ^ n) lo m (shorter n m lo hi w a e)))
 
 -- the search from length 16, with the default route's match, finds the longest match
-pub way-finds : (look : ℕ → Look) (E : ℕ → Bool) (g : ℕ → ℕ) → Looks look E g → Marked E g → search look 4 16 (best g 0) ≡ hit (best g 32)
+pub way-finds : (look : ℕ → Look) (E : ℕ → Bool) (g : ℕ → ℕ) → Looks look E g → Marked E g
+    → search look 4 16 (best g 0) ≡ hit (best g 32)
 way-finds look E g s w =
     finds look E g s (w .own) 4 16 0 32 (record {
       low = refl;

@@ -25,13 +25,16 @@ pub head-head : (a x L : ℕ) → x ≤ L → L ≤ 32 → a / 2 ^ (32 - L) / 2 
 head-head a x L h w = let e : (32 - L) + (L - x) ≡ 32 - x = omega arith in rw (← e) (shr-shr a (32 - L) (L - x))
 
 -- a held prefix of the address has its head among those picked
-pick-held : (P : ℕ → Bool) (x L a : ℕ) (rs : List Route) → Wfs 32 rs → x ≤ L → L ≤ 32 → P L ≡ true → heldAt rs L (a / 2 ^ (32 - L)) ≢ 0 → mem (a / 2 ^ (32 - x)) (picks P x rs) ≡ true
+pick-held : (P : ℕ → Bool) (x L a : ℕ) (rs : List Route) → Wfs 32 rs → x ≤ L → L ≤ 32 → P L ≡ true
+    → heldAt rs L (a / 2 ^ (32 - L)) ≢ 0 → mem (a / 2 ^ (32 - x)) (picks P x rs) ≡ true
 pick-held P x L a [] w h k p n = absurd (n refl)
 pick-held P x L a (r ∷ rs) w h k p n =
     same (key r) (keyAt 32 a L)
     (λ q _. (let o = key-other L (a / 2 ^ (32 - L)) r k (w .0) q in
-    let e : r .addr / 2 ^ (32 - x) ≡ a / 2 ^ (32 - x) = sym (head-head (r .addr) x L h k) ∙ ap (λ (z : ℕ). z / 2 ^ (L - x)) (o .1) ∙ head-head a x L h k in
-    rw (o .0, p) (or-left (eqb (r .addr / 2 ^ (32 - x)) (a / 2 ^ (32 - x))) (mem (a / 2 ^ (32 - x)) (picks P x rs)) (eq-eqb _ _ e))))
+    let e : r .addr / 2 ^ (32 - x) ≡ a / 2 ^ (32 - x) = sym (head-head (r .addr) x L h k) ∙ ap (λ (z : ℕ). z / 2 ^ (L - x)) (o .1)
+    ∙ head-head a x L h k in
+    rw (o .0, p) (or-left (eqb (r .addr / 2 ^ (32 - x)) (a / 2 ^ (32 - x))) (mem (a / 2 ^ (32 - x)) (picks P x rs))
+    (eq-eqb _ _ e))))
     (λ q _. (let ih = pick-held P x L a rs (w .1) h k p (λ z. n (hop-skip r rs (keyAt 32 a L) q ∙ z)) in
     more (P (r .len)) (r .addr / 2 ^ (32 - x)) (a / 2 ^ (32 - x)) (picks P x rs) ih))
   where
@@ -61,16 +64,19 @@ module _ (rs : List Route) (w : Wfs 32 rs) (a : ℕ) where
   E m = mem (a / 2 ^ (32 - m)) (entries m rs)
 
   best-along : (m : ℕ) → m ≤ 32 → bestAt rs m (a / 2 ^ (32 - m)) ≡ best g m
-  best-along m h = best-same (λ l. heldAt rs l (a / 2 ^ (32 - m) / 2 ^ (m - l))) g m (λ l k. ap (heldAt rs l) (head-head a l m k h))
+  best-along m h = best-same (λ l. heldAt rs l (a / 2 ^ (32 - m) / 2 ^ (m - l))) g m
+      (λ l k. ap (heldAt rs l) (head-head a l m k h))
 
   marked : Marked E g
   marked = record {
     own = λ L h k n. pick-held (isEntry L) L L a rs w (omega arith) k (or-left (eqb L L) (turnsAt L L) (eq-eqb L L refl)) n;
-    way = λ L x h k n t. (let b = turn-below 4 16 L x t in pick-held (isEntry x) x L a rs w (omega arith) k (or-right (eqb L x) (turnsAt x L) t) n);
+    way = λ L x h k n t. (let b = turn-below 4 16 L x t in
+        pick-held (isEntry x) x L a rs w (omega arith) k (or-right (eqb L x) (turnsAt x L) t) n);
   }
 
   -- looks that tell the entries of the list at the address
-  pub list-way : (look : ℕ → Look) → ((m : ℕ) → 1 ≤ m → m ≤ 32 → look m ≡ cond (mem (a / 2 ^ (32 - m)) (entries m rs)) (hit (bestAt rs m (a / 2 ^ (32 - m)))) miss)
+  pub list-way : (look : ℕ → Look) → ((m : ℕ) → 1 ≤ m → m ≤ 32
+      → look m ≡ cond (mem (a / 2 ^ (32 - m)) (entries m rs)) (hit (bestAt rs m (a / 2 ^ (32 - m)))) miss)
       → search look 4 16 (bestAt rs 0 (a / 2 ^ 32)) ≡ hit (code (longest 32 a rs))
   list-way look f =
       rw (best-along 0 (omega arith), longest-last 32 a (omega arith) rs w)

@@ -31,7 +31,8 @@ routeB r = not (tooLong 32 (r .len)) && (not (stray 32 (r .addr) (r .len)) && no
 
 -- record i is of kind 1, announces a route, and comes after the one before
 abbrev pub recordB : List ℕ → ℕ → Bool
-recordB bs i = eqb (getD bs (8 * i) 0) 1 && (routeB (routeAt bs i) && (eqb i 0 || ltb (key (routeAt bs (i - 1))) (key (routeAt bs i))))
+recordB bs i = eqb (getD bs (8 * i) 0) 1
+    && (routeB (routeAt bs i) && (eqb i 0 || ltb (key (routeAt bs (i - 1))) (key (routeAt bs i))))
 
 -- records in order, then one byte 0 and nothing after it
 unfoldable pub wholeB : List ℕ → Bool

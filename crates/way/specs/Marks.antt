@@ -1,5 +1,5 @@
--- The markers of a list, and the words that its copy needs. A route's markers are its heads at the lengths where the way to its own
--- turns longer; one that is itself a route is not counted, and each is counted once. Assumes nothing.
+-- The markers of a list, and the words that its copy needs. A route's markers are its heads at the lengths where the way to its
+-- own turns longer; one that is itself a route is not counted, and each is counted once. Assumes nothing.
 --
 --     10.1.2.0/24     16 → 24                   one marker, 10.1.0.0/16
 --     10.1.2.0/23     16 → 24 → 20 → 22 → 23    three: 10.1.0.0/16, 10.1.0.0/20, 10.1.0.0/22

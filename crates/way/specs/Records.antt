@@ -43,7 +43,12 @@ route-is r h e =
     let y = and-to (not (not (eqb (r .addr % 2 ^ (32 - r .len)) 0))) (not (eqb (r .hop) 0 || ltb 65535 (r .hop))) (x .1) in
     let z = hops (r .hop) (y .1) in
     record {
-      wf = record { fits = ltb-false 32 (r .len) (off (ltb 32 (r .len)) (x .0)); inside = h; clean = eqb-true _ _ (on (eqb (r .addr % 2 ^ (32 - r .len)) 0) (y .0)); some = z .0 };
+      wf = record {
+        fits = ltb-false 32 (r .len) (off (ltb 32 (r .len)) (x .0));
+        inside = h;
+        clean = eqb-true _ _ (on (eqb (r .addr % 2 ^ (32 - r .len)) 0) (y .0));
+        some = z .0;
+      };
       low = z .1;
     }
   where
@@ -78,7 +83,8 @@ sound bs b i e =
     skip : (i : ℕ) (c : Bool) → 1 ≤ i → (eqb i 0 || c) ≡ true → c ≡ true
     skip i c h q = rw (ne-eqb i 0 (λ e. omega arith)) at q
 
-from-records : (bs : List ℕ) (n i lo : ℕ) → ((j : ℕ) → i ≤ j → j < i + n → Sound bs j) → (1 ≤ n → lo ≤ key (routeAt bs i)) → From lo (routesFrom bs n i)
+from-records : (bs : List ℕ) (n i lo : ℕ) → ((j : ℕ) → i ≤ j → j < i + n → Sound bs j) → (1 ≤ n → lo ≤ key (routeAt bs i))
+    → From lo (routesFrom bs n i)
 unfolding routesFrom
 from-records bs zero i lo s h = tt
 from-records bs (suc n) i lo s h = (
@@ -90,7 +96,10 @@ from-records bs (suc n) i lo s h = (
 all-records : (bs : List ℕ) (n i : ℕ) → ((j : ℕ) → i ≤ j → j < i + n → Sound bs j) → All (IsRoute 32) (routesFrom bs n i)
 unfolding routesFrom
 all-records bs zero i s = tt
-all-records bs (suc n) i s = (s i (omega arith) (omega arith) .route, all-records bs n (suc i) (λ j a b. s j (omega arith) (omega arith)))
+all-records bs (suc n) i s = (
+  s i (omega arith) (omega arith) .route,
+  all-records bs n (suc i) (λ j a b. s j (omega arith) (omega arith)),
+)
 
 -- bytes whose tests pass hold a list
 pub whole-list : (bs : List ℕ) → Bytes bs → wholeB bs ≡ true → IsList 32 (listOf bs)
@@ -98,7 +107,8 @@ unfolding wholeB
 whole-list bs b e =
     let x = and-to (eqb (length bs % 8) 1) _ e in
     let y = and-to (eqb (getD bs (8 * (length bs / 8)) 0) 0) (allB (recordB bs) (length bs / 8)) (x .1) in
-    let s : (j : ℕ) → 0 ≤ j → j < 0 + length bs / 8 → Sound bs j = λ j _ h. sound bs b j (all-to (recordB bs) (length bs / 8) (y .1) j (omega arith)) in
+    let s : (j : ℕ) → 0 ≤ j → j < 0 + length bs / 8
+    → Sound bs j = λ j _ h. sound bs b j (all-to (recordB bs) (length bs / 8) (y .1) j (omega arith)) in
     record { sorted = from-records bs (length bs / 8) 0 0 s (λ _. omega arith); routes = all-records bs (length bs / 8) 0 s }
 
 -- ---- the list from record i on
@@ -172,10 +182,12 @@ module _ (P : ℕ → Bool) (m : ℕ) (r : Route) (rs : List Route) (l : IsList 
   pub count-skip : P (r .len) ≡ false → picks P m (r ∷ rs) ≡ picks P m rs
   count-skip e = rw e
 
-  pub count-same : P (r .len) ≡ true → r .addr / 2 ^ (32 - m) ≡ firstOr 4294967296 (picks P m rs) → distinct (picks P m (r ∷ rs)) ≡ distinct (picks P m rs)
+  pub count-same : P (r .len) ≡ true → r .addr / 2 ^ (32 - m) ≡ firstOr 4294967296 (picks P m rs)
+      → distinct (picks P m (r ∷ rs)) ≡ distinct (picks P m rs)
   count-same e q = rw e (distinct-step v none (picks P m rs) head-low rising ∙ rw (eq-eqb v (firstOr none (picks P m rs)) q))
 
-  pub count-new : P (r .len) ≡ true → r .addr / 2 ^ (32 - m) ≢ firstOr 4294967296 (picks P m rs) → distinct (picks P m (r ∷ rs)) ≡ suc (distinct (picks P m rs))
+  pub count-new : P (r .len) ≡ true → r .addr / 2 ^ (32 - m) ≢ firstOr 4294967296 (picks P m rs)
+      → distinct (picks P m (r ∷ rs)) ≡ suc (distinct (picks P m rs))
   count-new e q = rw e (distinct-step v none (picks P m rs) head-low rising ∙ rw (ne-eqb v (firstOr none (picks P m rs)) q))
 
   pub count-first : P (r .len) ≡ true → firstOr 4294967296 (picks P m (r ∷ rs)) ≡ r .addr / 2 ^ (32 - m)

@@ -1,5 +1,5 @@
--- The way of the search by lengths. It looks at length 16, then moves by 8, 4, 2, 1: longer after a hit, shorter after a miss; a hit
--- at 31 tries 32. A hit carries the best match so far, so nothing is searched twice. Assumes nothing.
+-- The way of the search by lengths. It looks at length 16, then moves by 8, 4, 2, 1: longer after a hit, shorter after a miss;
+-- a hit at 31 tries 32. A hit carries the best match so far, so nothing is searched twice. Assumes nothing.
 --
 --                     16
 --            8                  24            a node of height n at length m stands for the lengths between

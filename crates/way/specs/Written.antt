@@ -37,7 +37,8 @@ record1 r = recordBytes (update (announce (r .addr) (r .len) (r .hop)))
 module _ (pre : List ℕ) (r : Route) (ys : List ℕ) (j : ℕ) (e : 8 * j ≡ length pre) (w : IsRoute 32 r) where
   route-back : routeAt (pre ++ (record1 r ++ ys)) j ≡ r
   route-back =
-      let b = record-back pre (8 * j) e (update (announce (r .addr) (r .len) (r .hop))) ys (w .wf .inside, omega (arith, w .wf .fits), omega (arith, w .low)) in
+      let b = record-back pre (8 * j) e (update (announce (r .addr) (r .len) (r .hop))) ys
+      (w .wf .inside, omega (arith, w .wf .fits), omega (arith, w .low)) in
       let F : List ℕ = pre ++ (record1 r ++ ys) in
       let x : fourAt F (8 * j + 1) ≡ r .addr = cc in
       let y : getD F (8 * j + 5) 0 ≡ r .len = cc in
@@ -51,7 +52,8 @@ module _ (pre : List ℕ) (r : Route) (ys : List ℕ) (j : ℕ) (e : 8 * j ≡ l
 regroup : (pre : List ℕ) (r : Route) (rs : List Route) (ys : List ℕ) → feed pre (r ∷ rs) ys ≡ feed (pre ++ record1 r) rs ys
 regroup pre r rs ys = simp append-assoc
 
-list-back : (pre : List ℕ) (rs : List Route) (ys : List ℕ) (j : ℕ) → 8 * j ≡ length pre → All (IsRoute 32) rs → routesFrom (feed pre rs ys) (length rs) j ≡ rs
+list-back : (pre : List ℕ) (rs : List Route) (ys : List ℕ) (j : ℕ) → 8 * j ≡ length pre → All (IsRoute 32) rs
+    → routesFrom (feed pre rs ys) (length rs) j ≡ rs
 unfolding routesFrom
 list-back pre [] ys j e p = refl
 list-back pre (r ∷ rs) ys j e p =
@@ -60,7 +62,8 @@ list-back pre (r ∷ rs) ys j e p =
     ap₂ _∷_ (rw a (route-back pre r (recordsBytes (announced rs) ++ ys) j e (p .0)))
     (rw (regroup pre r rs ys) (list-back (pre ++ record1 r) rs ys (suc j) l (p .1)))
 
-kinds-back : (pre : List ℕ) (rs : List Route) (ys : List ℕ) (j i : ℕ) → 8 * j ≡ length pre → All (IsRoute 32) rs → i < length rs → getD (feed pre rs ys) (8 * (j + i)) 0 ≡ 1
+kinds-back : (pre : List ℕ) (rs : List Route) (ys : List ℕ) (j i : ℕ) → 8 * j ≡ length pre → All (IsRoute 32) rs → i < length rs
+    → getD (feed pre rs ys) (8 * (j + i)) 0 ≡ 1
 kinds-back pre [] ys j i e p h = absurd (omega arith)
 kinds-back pre (r ∷ rs) ys j zero e p h =
     let a : feed pre (r ∷ rs) ys ≡ pre ++ (record1 r ++ (recordsBytes (announced rs) ++ ys)) = simp append-assoc in
@@ -75,9 +78,15 @@ kinds-back pre (r ∷ rs) ys j (suc i) e p h =
 
 route-told : (r : Route) → IsRoute 32 r → routeB r ≡ true
 route-told r w =
-    rw (le-ltb 32 (r .len) (w .wf .fits), w .wf .clean, ne-eqb (r .hop) 0 (λ e. (let z = w .wf .some in omega arith)), le-ltb 65535 (r .hop) (w .low))
+    rw (
+      le-ltb 32 (r .len) (w .wf .fits),
+      w .wf .clean,
+      ne-eqb (r .hop) 0 (λ e. (let z = w .wf .some in omega arith)),
+      le-ltb 65535 (r .hop) (w .low),
+    )
 
-at-record : (bs : List ℕ) (n i k lo : ℕ) → From lo (routesFrom bs n i) → All (IsRoute 32) (routesFrom bs n i) → k < n → IsRoute 32 (routeAt bs (i + k)) × (lo ≤ key (routeAt bs (i + k)))
+at-record : (bs : List ℕ) (n i k lo : ℕ) → From lo (routesFrom bs n i) → All (IsRoute 32) (routesFrom bs n i) → k < n
+    → IsRoute 32 (routeAt bs (i + k)) × (lo ≤ key (routeAt bs (i + k)))
 unfolding routesFrom
 at-record bs zero i k lo f p h = absurd (omega arith)
 at-record bs (suc n) i zero lo f p h = let e : i + 0 ≡ i = omega arith in rw e (p .0, f .0)
@@ -86,7 +95,8 @@ at-record bs (suc n) i (suc k) lo f p h =
     let x = at-record bs n (suc i) k (suc (key (routeAt bs i))) (f .1) (p .1) (omega arith) in
     (rw e at (x .0), omega (arith, f .0, rw e at (x .1)))
 
-in-order : (bs : List ℕ) (n i k lo : ℕ) → From lo (routesFrom bs n i) → All (IsRoute 32) (routesFrom bs n i) → k + 1 < n → key (routeAt bs (i + k)) < key (routeAt bs (i + (k + 1)))
+in-order : (bs : List ℕ) (n i k lo : ℕ) → From lo (routesFrom bs n i) → All (IsRoute 32) (routesFrom bs n i) → k + 1 < n
+    → key (routeAt bs (i + k)) < key (routeAt bs (i + (k + 1)))
 unfolding routesFrom
 in-order bs zero i k lo f p h = absurd (omega arith)
 in-order bs (suc n) i zero lo f p h =
@@ -109,7 +119,8 @@ record-told bs n i l h k =
     order (suc i) h =
         let a : 0 + i ≡ suc i - 1 = omega arith in
         let b : 0 + (i + 1) ≡ suc i = omega arith in
-        let o : key (routeAt bs (suc i - 1)) < key (routeAt bs (suc i)) = rw (a, b) at (in-order bs n 0 i 0 (l .sorted) (l .routes) (omega arith)) in
+        let o : key (routeAt bs (suc i - 1)) < key (routeAt bs (suc i)) =
+        rw (a, b) at (in-order bs n 0 i 0 (l .sorted) (l .routes) (omega arith)) in
         rw (lt-ltb (key (routeAt bs (suc i - 1))) (key (routeAt bs (suc i))) o) (or-true (eqb (suc i) 0))
 
 -- ---- so a list written out is listed
@@ -126,7 +137,8 @@ module _ (rs : List Route) (l : IsList 32 rs) where
 
   last-byte : getD (written rs) (8 * length rs) 0 ≡ 0
   last-byte =
-      let n : length (recordsBytes (announced rs)) + 1 ≡ 8 * length rs + 1 = sym (length-append (recordsBytes (announced rs)) (0 ∷ [])) ∙ written-long rs in
+      let n : length (recordsBytes (announced rs)) + 1 ≡ 8 * length rs + 1 =
+      sym (length-append (recordsBytes (announced rs)) (0 ∷ [])) ∙ written-long rs in
       let q : 8 * length rs ≡ length (recordsBytes (announced rs)) + 0 = omega arith in
       rw q (getD-append-add (recordsBytes (announced rs)) (0 ∷ []) 0 0)
 
@@ -160,8 +172,10 @@ module _ (bs : List ℕ) (b : Bytes bs) where
 
   quad : (x : ℕ) → four (fourAt bs x) ≡ getD bs x 0 ∷ getD bs (x + 1) 0 ∷ getD bs (x + 2) 0 ∷ getD bs (x + 2 + 1) 0 ∷ []
   quad x =
-      let p : (twoAt bs x * 65536 + twoAt bs (x + 2)) / 65536 ≡ twoAt bs x = high (twoAt bs x) (twoAt bs (x + 2)) (two-low bs b (x + 2)) in
-      let q : (twoAt bs x * 65536 + twoAt bs (x + 2)) % 65536 ≡ twoAt bs (x + 2) = low (twoAt bs x) (twoAt bs (x + 2)) (two-low bs b (x + 2)) in
+      let p : (twoAt bs x * 65536 + twoAt bs (x + 2)) / 65536 ≡ twoAt bs x =
+      high (twoAt bs x) (twoAt bs (x + 2)) (two-low bs b (x + 2)) in
+      let q : (twoAt bs x * 65536 + twoAt bs (x + 2)) % 65536 ≡ twoAt bs (x + 2) =
+      low (twoAt bs x) (twoAt bs (x + 2)) (two-low bs b (x + 2)) in
       ap₂ (λ (u v : ℕ). two u ++ two v) p q ∙ ap₂ (λ (u v : List ℕ). u ++ v) (pair x) (pair (x + 2))
     where
       high : (u v : ℕ) → v < 65536 → (u * 65536 + v) / 65536 ≡ u
@@ -172,7 +186,8 @@ module _ (bs : List ℕ) (b : Bytes bs) where
 
   -- the eight bytes of a record
   eight : (i : ℕ) → getD bs (8 * i) 0 ≡ 1 → record1 (routeAt bs i)
-      ≡ getD bs (8 * i) 0 ∷ getD bs (8 * i + 1) 0 ∷ getD bs (8 * i + 1 + 1) 0 ∷ getD bs (8 * i + 1 + 2) 0 ∷ getD bs (8 * i + 1 + 2 + 1) 0 ∷ getD bs (8 * i + 5) 0 ∷ getD bs (8 * i + 6) 0 ∷ getD bs (8 * i + 6 + 1) 0 ∷ []
+      ≡ getD bs (8 * i) 0 ∷ getD bs (8 * i + 1) 0 ∷ getD bs (8 * i + 1 + 1) 0 ∷ getD bs (8 * i + 1 + 2) 0
+      ∷ getD bs (8 * i + 1 + 2 + 1) 0 ∷ getD bs (8 * i + 5) 0 ∷ getD bs (8 * i + 6) 0 ∷ getD bs (8 * i + 6 + 1) 0 ∷ []
   eight i k =
       let o : getD bs (8 * i + 5) 0 % 256 ≡ getD bs (8 * i + 5) 0 = omega (arith, b (8 * i + 5)) in
       λ j. sym k j ∷ (quad (8 * i + 1) j ++ ((o j ∷ []) ++ pair (8 * i + 6) j))
@@ -181,11 +196,14 @@ module _ (bs : List ℕ) (b : Bytes bs) where
   cut k n e h = drop-cons bs k 0 h ∙ rw e
 
   -- the bytes from a record on, after its eight
-  after-eight : (i : ℕ) → 8 * i + 8 ≤ length bs → getD bs (8 * i) 0 ≡ 1 → drop (8 * i) bs ≡ record1 (routeAt bs i) ++ drop (8 * suc i) bs
+  after-eight : (i : ℕ) → 8 * i + 8 ≤ length bs → getD bs (8 * i) 0 ≡ 1
+      → drop (8 * i) bs ≡ record1 (routeAt bs i) ++ drop (8 * suc i) bs
   after-eight i h k = cuts ∙ ap (λ (u : List ℕ). u ++ drop (8 * suc i) bs) (sym (eight i k))
     where
       cuts : drop (8 * i) bs
-          ≡ getD bs (8 * i) 0 ∷ getD bs (8 * i + 1) 0 ∷ getD bs (8 * i + 1 + 1) 0 ∷ getD bs (8 * i + 1 + 2) 0 ∷ getD bs (8 * i + 1 + 2 + 1) 0 ∷ getD bs (8 * i + 5) 0 ∷ getD bs (8 * i + 6) 0 ∷ getD bs (8 * i + 6 + 1) 0 ∷ drop (8 * suc i) bs
+          ≡ getD bs (8 * i) 0 ∷ getD bs (8 * i + 1) 0 ∷ getD bs (8 * i + 1 + 1) 0 ∷ getD bs (8 * i + 1 + 2) 0
+          ∷ getD bs (8 * i + 1 + 2 + 1) 0 ∷ getD bs (8 * i + 5) 0 ∷ getD bs (8 * i + 6) 0 ∷ getD bs (8 * i + 6 + 1) 0
+          ∷ drop (8 * suc i) bs
       cuts =
           rw (
             cut (8 * i) (8 * i + 1) (omega arith) (omega arith),
@@ -198,7 +216,8 @@ module _ (bs : List ℕ) (b : Bytes bs) where
             cut (8 * i + 6 + 1) (8 * suc i) (omega arith) (omega arith),
           )
 
-  rest : (n i : ℕ) → 8 * (i + n) + 1 ≡ length bs → ((j : ℕ) → i ≤ j → j < i + n → getD bs (8 * j) 0 ≡ 1) → getD bs (8 * (i + n)) 0 ≡ 0
+  rest : (n i : ℕ) → 8 * (i + n) + 1 ≡ length bs → ((j : ℕ) → i ≤ j → j < i + n → getD bs (8 * j) 0 ≡ 1)
+      → getD bs (8 * (i + n)) 0 ≡ 0
       → drop (8 * i) bs ≡ recordsBytes (announced (routesFrom bs n i)) ++ (0 ∷ [])
   unfolding routesFrom
   rest zero i e k z =
@@ -213,7 +232,8 @@ module _ (bs : List ℕ) (b : Bytes bs) where
   rest (suc n) i e k z =
       let q : i + suc n ≡ suc i + n = omega arith in
       after-eight i (omega arith) (k i (omega arith) (omega arith))
-      ∙ ap (λ (u : List ℕ). record1 (routeAt bs i) ++ u) (rest n (suc i) (omega arith) (λ j u v. k j (omega arith) (omega arith)) (rw q at z))
+      ∙ ap (λ (u : List ℕ). record1 (routeAt bs i) ++ u)
+      (rest n (suc i) (omega arith) (λ j u v. k j (omega arith) (omega arith)) (rw q at z))
       ∙ sym (append-assoc (record1 (routeAt bs i)) (recordsBytes (announced (routesFrom bs n (suc i)))) (0 ∷ []))
 
   whole-bytes : wholeB bs ≡ true → bs ≡ written (listOf bs)
@@ -224,14 +244,16 @@ module _ (bs : List ℕ) (b : Bytes bs) where
       let m : length bs % 8 ≡ 1 = eqb-true _ _ (x .0) in
       let q : 0 + length bs / 8 ≡ length bs / 8 = omega arith in
       rest (length bs / 8) 0 (omega arith)
-      (λ j u v. eqb-true _ _ (and-to (eqb (getD bs (8 * j) 0) 1) _ (all-to (recordB bs) (length bs / 8) (y .1) j (omega arith)) .0))
+      (λ j u v. eqb-true _ _ (and-to (eqb (getD bs (8 * j) 0) 1) _
+      (all-to (recordB bs) (length bs / 8) (y .1) j (omega arith)) .0))
       (rw q (eqb-true _ _ (y .0)))
 
   pub listed-out : (rs : List Route) → listedIn bs ≡ listed rs → WrittenOut bs rs
   unfolding listedIn
   listed-out rs e = go (wholeB bs) (leb (need 32 (listOf bs)) 4096) refl refl e
     where
-      go : (w r : Bool) → wholeB bs ≡ w → leb (need 32 (listOf bs)) 4096 ≡ r → cond (w && r) (listed (listOf bs)) unlisted ≡ listed rs → WrittenOut bs rs
+      go : (w r : Bool) → wholeB bs ≡ w → leb (need 32 (listOf bs)) 4096 ≡ r
+          → cond (w && r) (listed (listOf bs)) unlisted ≡ listed rs → WrittenOut bs rs
       go true true a c e =
           let q : listOf bs ≡ rs = cc in
           rw (← q) (record { list = whole-list bs b a; room = leb-true _ _ c; bytes = whole-bytes a })

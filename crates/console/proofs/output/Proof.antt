@@ -17,10 +17,15 @@ enum-known-r : tie.Need-enum-known-r
 enum-known-r c = search needs
 
 slice-reshare-prefix-lines : tie.Need-slice-reshare-prefix-lines
-slice-reshare-prefix-lines c = inside _ _ _ _ _ (c .before .before .before .before .before .before .before .run .result) _ (c .before .before .before .before .before .before .before .run .ensures) (c .before .r .given .1) (c .before .before .before .before .before .before .before .run .kept .1 .1 .0)
+slice-reshare-prefix-lines c =
+    let run = c .before .before .before .before .before .before .before .run in
+    inside _ _ _ _ _ (run .result) _ (run .ensures) (c .before .r .given .1) (run .kept .1 .1 .0)
 
 slice-aggregate-lines : tie.Need-slice-aggregate-lines
-slice-aggregate-lines c = front _ _ _ _ _ (c .before .before .before .before .before .before .before .before .run .result) _ (c .before .before .before .before .before .before .before .before .run .ensures) (c .before .before .r .given .1) (c .before .before .before .before .before .before .before .before .run .kept .1 .1 .0)
+slice-aggregate-lines c =
+    let run = c .before .before .before .before .before .before .before .before .run in
+    let r = c .before .before .r in
+    front _ _ _ _ _ (run .result) _ (run .ensures) (r .given .1) (run .kept .1 .1 .0)
 
 lines-requires : tie.Need-lines-requires
 lines-requires c κs = search needs

@@ -17,13 +17,25 @@ add-result : tie.Need-add-result
 add-result c = omega (arith, c .hop .ensures .1, c .before .before .before .before .before .pre .most)
 
 returns : tie.Need-returns
-returns c = of-route (c .before .before .before .before .before .args .bytes .now) (c .before .before .before .before .before .args .words .now) (c .before .before .before .before .before .args .i) (c .before .before .before .before .before .args .m) (c .before .before .before .before .before .args .v) (c .before .before .before .before .before .pre) (c .before .before .bits .result) (c .hop .result) (c .before .before .bits .ensures .0) (c .hop .ensures .0) (c .before .if1 .taken)
+returns c =
+    let a = c .before .before .before .before .before .args in
+    let p = c .before .before .before .before .before .pre in
+    let bits = c .before .before .bits in
+    of-route (a .bytes .now) (a .words .now) (a .i) (a .m) (a .v) p (bits .result) (c .hop .result) (bits .ensures .0) (c .hop .ensures .0)
+    (c .before .if1 .taken)
 
 shorter-requires : tie.Need-shorter-requires
-shorter-requires c κs = (c .before .before .before .before .pre .long, c .before .before .before .before .pre .few, c .before .before .before .before .pre .most)
+shorter-requires c κs =
+    let p = c .before .before .before .before .pre in
+    (p .long, p .few, p .most)
 
 returns-2 : tie.Need-returns-2
-returns-2 c = of-marker (c .before .before .before .before .before .args .bytes .now) (c .before .before .before .before .before .args .words .now) (c .before .before .before .before .before .args .i) (c .before .before .before .before .before .args .m) (c .before .before .before .before .before .args .v) (c .before .before .before .before .before .pre) (c .before .before .bits .result) (c .shorter .result) (c .before .before .bits .ensures .0) (c .before .if1 .left) (c .shorter .ensures)
+returns-2 c =
+    let a = c .before .before .before .before .before .args in
+    let p = c .before .before .before .before .before .pre in
+    let bits = c .before .before .bits in
+    of-marker (a .bytes .now) (a .words .now) (a .i) (a .m) (a .v) p (bits .result) (c .shorter .result) (bits .ensures .0) (c .before .if1 .left)
+    (c .shorter .ensures)
 
 pub best-of-spec : {M : Type 1} → statement M
 best-of-spec =

@@ -28,13 +28,19 @@ loop-less : tie.Need-loop-less Inv-loop μ-loop
 loop-less c = omega arith
 
 loop-again : tie.Need-loop-again Inv-loop μ-loop
-loop-again c = (omega arith, omega arith, cleared-more (c .before .before .args .words .now) (c .before .loop .words) (c .before .before .args .from) (c .before .loop .i) (omega arith) (omega (arith, c .before .loop .inv .2 .kept .long)) (c .before .loop .inv .2))
+loop-again c =
+    let a = c .before .before .args in
+    let l = c .before .loop in
+    (omega arith, omega arith, cleared-more (a .words .now) (l .words) (a .from) (l .i) (omega arith) (omega (arith, l .inv .2 .kept .long)) (l .inv .2))
 
 same-length : tie.Need-same-length Inv-loop μ-loop
 same-length c = c .before .loop .inv .2 .kept .long
 
 returns : tie.Need-returns Inv-loop μ-loop
-returns c = cleared-all (c .before .before .args .words .now) (c .before .loop .words) (c .before .before .args .from) (c .before .loop .i) (c .before .before .args .to) (omega arith) (omega arith) (c .before .loop .inv .2)
+returns c =
+    let a = c .before .before .args in
+    let l = c .before .loop in
+    cleared-all (a .words .now) (l .words) (a .from) (l .i) (a .to) (omega arith) (omega arith) (l .inv .2)
 
 pub clear-spec : {M : Type 1} → statement M
 clear-spec =

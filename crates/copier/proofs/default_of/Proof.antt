@@ -11,7 +11,10 @@ bits-requires : tie.Need-bits-requires
 bits-requires c κs = omega arith
 
 returns-2 : tie.Need-returns-2
-returns-2 c = default-none (c .before .before .before .before .args .bytes .now) (c .before .bits .result) (c .before .before .before .before .pre) (c .before .bits .ensures .0) (c .if2 .taken)
+returns-2 c =
+    let a = c .before .before .before .before .args in
+    let p = c .before .before .before .before .pre in
+    default-none (a .bytes .now) (c .before .bits .result) p (c .before .bits .ensures .0) (c .if2 .taken)
 
 hop-requires : tie.Need-hop-requires
 hop-requires c κs = omega arith
@@ -20,7 +23,12 @@ mul-result : tie.Need-mul-result
 mul-result c = omega (arith, c .hop .ensures .1)
 
 returns-3 : tie.Need-returns-3
-returns-3 c = default-held (c .before .before .before .before .before .args .bytes .now) (c .before .before .bits .result) (c .hop .result) (c .before .before .before .before .before .pre) (c .before .before .before .if1 .left) (c .before .before .bits .ensures .0) (c .before .if2 .left) (c .hop .ensures .0)
+returns-3 c =
+    let a = c .before .before .before .before .before .args in
+    let p = c .before .before .before .before .before .pre in
+    let if1 = c .before .before .before .if1 in
+    let bits = c .before .before .bits in
+    default-held (a .bytes .now) (bits .result) (c .hop .result) p (if1 .left) (bits .ensures .0) (c .before .if2 .left) (c .hop .ensures .0)
 
 pub default-of-spec : {M : Type 1} → statement M
 default-of-spec =

@@ -9,7 +9,10 @@ head-requires : tie.Need-head-requires
 head-requires c κs = (omega (arith, c .before .before .pre .0 .upto), c .before .before .pre .0 .most)
 
 cast-v : tie.Need-cast-v
-cast-v c = omega (arith, c .head .ensures, head-word (c .before .before .before .args .marks) (c .before .before .before .args .bytes .now) (c .before .before .before .args .words .now) (c .before .before .before .args .i) (c .before .before .before .args .m) (c .before .before .before .args .o) (c .before .before .before .args .p) (c .before .before .before .pre .0))
+cast-v c =
+    let a = c .before .before .before .args in
+    let p = c .before .before .before .pre in
+    omega (arith, c .head .ensures, head-word (a .marks) (a .bytes .now) (a .words .now) (a .i) (a .m) (a .o) (a .p) (p .0))
 
 absent-requires : tie.Need-absent-requires
 absent-requires c κs = c .before .before .before .before .pre .0 .fits
@@ -18,19 +21,46 @@ same-length : tie.Need-same-length
 same-length c = search needs
 
 returns : tie.Need-returns
-returns c = enter-again (c .before .before .before .before .before .before .args .marks) (c .before .before .before .before .before .before .args .bytes .now) (c .before .before .before .before .before .before .args .words .now) (c .before .before .before .before .before .before .args .i) (c .before .before .before .before .before .before .args .m) (c .before .before .before .before .before .before .args .o) (c .before .before .before .before .before .before .args .p) (c .before .before .before .before .before .before .pre .0) (c .before .before .before .before .before .before .pre .1) (c .before .before .before .head .result) (c .before .before .before .head .ensures) (c .before .absent .result) (c .before .absent .ensures) (c .if1 .taken)
+returns c =
+    let a = c .before .before .before .before .before .before .args in
+    let p = c .before .before .before .before .before .before .pre in
+    let head = c .before .before .before .head in
+    enter-again (a .marks) (a .bytes .now) (a .words .now) (a .i) (a .m) (a .o) (a .p) (p .0) (p .1) (head .result) (head .ensures) (c .before .absent .result)
+    (c .before .absent .ensures) (c .if1 .taken)
 
 best-of-requires : tie.Need-best-of-requires
-best-of-requires c κs = enter-bests (c .before .before .before .before .before .before .before .args .marks) (c .before .before .before .before .before .before .before .args .bytes .now) (c .before .before .before .before .before .before .before .args .words .now) (c .before .before .before .before .before .before .before .args .i) (c .before .before .before .before .before .before .before .args .m) (c .before .before .before .before .before .before .before .args .o) (c .before .before .before .before .before .before .before .args .p) (c .before .before .before .before .before .before .before .pre .0) (c .before .before .before .before .before .before .before .pre .1) (c .before .before .before .before .head .result) (c .before .before .before .before .head .ensures) (c .before .before .absent .result) (c .before .before .absent .ensures) (c .before .if1 .left)
+best-of-requires c κs =
+    let a = c .before .before .before .before .before .before .before .args in
+    let p = c .before .before .before .before .before .before .before .pre in
+    let head = c .before .before .before .before .head in
+    let absent = c .before .before .absent in
+    enter-bests (a .marks) (a .bytes .now) (a .words .now) (a .i) (a .m) (a .o) (a .p) (p .0) (p .1) (head .result) (head .ensures) (absent .result)
+    (absent .ensures) (c .before .if1 .left)
 
 put-requires : tie.Need-put-requires
-put-requires c κs = enter-room (c .before .before .before .before .before .before .before .before .before .args .marks) (c .before .before .before .before .before .before .before .before .before .args .bytes .now) (c .before .before .before .before .before .before .before .before .before .args .words .now) (c .before .before .before .before .before .before .before .before .before .args .i) (c .before .before .before .before .before .before .before .before .before .args .m) (c .before .before .before .before .before .before .before .before .before .args .o) (c .before .before .before .before .before .before .before .before .before .args .p) (c .before .before .before .before .before .before .before .before .before .pre .0) (c .before .before .before .before .before .before .before .before .before .pre .1) (c .before .before .before .before .before .before .head .result) (c .before .before .before .before .before .before .head .ensures) (c .before .before .before .before .absent .result) (c .before .before .before .before .absent .ensures) (c .before .before .before .if1 .left)
+put-requires c κs =
+    let a = c .before .before .before .before .before .before .before .before .before .args in
+    let p = c .before .before .before .before .before .before .before .before .before .pre in
+    let head = c .before .before .before .before .before .before .head in
+    let absent = c .before .before .before .before .absent in
+    let if1 = c .before .before .before .if1 in
+    enter-room (a .marks) (a .bytes .now) (a .words .now) (a .i) (a .m) (a .o) (a .p) (p .0) (p .1) (head .result) (head .ensures) (absent .result)
+    (absent .ensures) (if1 .left)
 
 same-length-2 : tie.Need-same-length-2
 same-length-2 c = search needs
 
 returns-2 : tie.Need-returns-2
-returns-2 c = enter-put (c .before .before .before .before .before .before .before .before .before .before .before .before .args .marks) (c .before .before .before .before .before .before .before .before .before .before .before .before .args .bytes .now) (c .before .before .before .before .before .before .before .before .before .before .before .before .args .words .now) (c .before .before .before .before .before .before .before .before .before .before .before .before .args .i) (c .before .before .before .before .before .before .before .before .before .before .before .before .args .m) (c .before .before .before .before .before .before .before .before .before .before .before .before .args .o) (c .before .before .before .before .before .before .before .before .before .before .before .before .args .p) (c .before .before .before .before .before .before .before .before .before .before .before .before .pre .0) (c .before .before .before .before .before .before .before .before .before .before .before .before .pre .1) (c .before .before .before .before .before .before .before .before .before .head .result) (c .before .before .before .before .before .before .before .before .before .head .ensures) (c .before .before .before .before .before .before .before .absent .result) (c .before .before .before .before .before .before .before .absent .ensures) (c .before .before .before .before .before .before .if1 .left) (c .before .before .put .last .0) (c .before .before .before .before .best-of .result) (c .before .before .before .before .best-of .ensures) (c .before .before .put .ensures)
+returns-2 c =
+    let a = c .before .before .before .before .before .before .before .before .before .before .before .before .args in
+    let p = c .before .before .before .before .before .before .before .before .before .before .before .before .pre in
+    let head = c .before .before .before .before .before .before .before .before .before .head in
+    let absent = c .before .before .before .before .before .before .before .absent in
+    let if1 = c .before .before .before .before .before .before .if1 in
+    let best-of = c .before .before .before .before .best-of in
+    let put = c .before .before .put in
+    enter-put (a .marks) (a .bytes .now) (a .words .now) (a .i) (a .m) (a .o) (a .p) (p .0) (p .1) (head .result) (head .ensures) (absent .result)
+    (absent .ensures) (if1 .left) (put .last .0) (best-of .result) (best-of .ensures) (put .ensures)
 
 pub enter-spec : {M : Type 1} → statement M
 enter-spec =

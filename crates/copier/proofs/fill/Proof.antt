@@ -16,7 +16,10 @@ abbrev μ-loop : tie.MeasureT-loop
 μ-loop bytes words₀ marks m o p i₀ words i = i
 
 loop-holds : tie.Need-loop-holds Inv-loop μ-loop
-loop-holds c = fill-none (c .before .before .args .marks) (c .before .before .args .bytes .now) (c .before .before .args .m) (c .before .before .args .o) (c .before .before .args .p) (c .before .before .args .words .now) (length (c .before .before .args .bytes .now) / 8) (c .before .before .pre)
+loop-holds c =
+    let a = c .before .before .args in
+    let p = c .before .before .pre in
+    fill-none (a .marks) (a .bytes .now) (a .m) (a .o) (a .p) (a .words .now) (length (a .bytes .now) / 8) p
 
 sub-i : tie.Need-sub-i Inv-loop μ-loop
 sub-i c = omega arith
@@ -28,25 +31,44 @@ is-chosen-requires : tie.Need-is-chosen-requires Inv-loop μ-loop
 is-chosen-requires c κs = search needs
 
 enter-requires : tie.Need-enter-requires Inv-loop μ-loop
-enter-requires c κs = (fill-at (c .before .before .before .before .before .before .before .before .args .marks) (c .before .before .before .before .before .before .before .before .args .bytes .now) (c .before .before .before .before .before .before .before .before .args .m) (c .before .before .before .before .before .before .before .before .args .o) (c .before .before .before .before .before .before .before .before .args .p) (c .before .before .before .before .before .loop .words) (c .before .before .before .before .before .loop .i) (c .before .before .before .before .before .loop .i - 1) (omega arith) (c .before .before .before .before .before .loop .inv .filling), sym (c .before .before .is-chosen .ensures ∙ ap (chosen (c .before .before .before .before .before .before .before .before .args .marks) (c .before .before .before .before .before .before .before .before .args .m)) (c .before .before .before .bits .ensures .0)) ∙ c .before .if1 .taken)
+enter-requires c κs =
+    let a = c .before .before .before .before .before .before .before .before .args in
+    let l = c .before .before .before .before .before .loop in
+    let bits = c .before .before .before .bits in
+    let is-chosen = c .before .before .is-chosen in (
+      fill-at (a .marks) (a .bytes .now) (a .m) (a .o) (a .p) (l .words) (l .i) (l .i - 1) (omega arith) (l .inv .filling),
+      sym (is-chosen .ensures ∙ ap (chosen (a .marks) (a .m)) (bits .ensures .0)) ∙ c .before .if1 .taken,
+    )
 
 loop-less : tie.Need-loop-less Inv-loop μ-loop
 loop-less c = omega arith
 
 loop-again : tie.Need-loop-again Inv-loop μ-loop
-loop-again c = fill-join (c .before .before .before .before .before .before .before .before .before .before .before .args .marks) (c .before .before .before .before .before .before .before .before .before .before .before .args .bytes .now) (c .before .before .before .before .before .before .before .before .before .before .before .args .m) (c .before .before .before .before .before .before .before .before .before .before .before .args .o) (c .before .before .before .before .before .before .before .before .before .before .before .args .p) (c .before .before .before .before .before .before .before .before .before .before .before .args .words .now) (c .before .before .before .before .before .before .before .before .loop .words) (c .before .before .enter .last .1 .0) (c .before .before .before .before .before .before .before .before .loop .i) (c .before .before .before .before .before .before .before .before .loop .i - 1) (c .before .before .before .before .before .before .before .before .loop .inv) (c .before .before .enter .ensures)
+loop-again c =
+    let a = c .before .before .before .before .before .before .before .before .before .before .before .args in
+    let l = c .before .before .before .before .before .before .before .before .loop in
+    let enter = c .before .before .enter in
+    fill-join (a .marks) (a .bytes .now) (a .m) (a .o) (a .p) (a .words .now) (l .words) (enter .last .1 .0) (l .i) (l .i - 1) (l .inv) (enter .ensures)
 
 loop-less-2 : tie.Need-loop-less-2 Inv-loop μ-loop
 loop-less-2 c = omega arith
 
 loop-again-2 : tie.Need-loop-again-2 Inv-loop μ-loop
-loop-again-2 c = fill-skip (c .before .before .before .before .before .before .before .args .marks) (c .before .before .before .before .before .before .before .args .bytes .now) (c .before .before .before .before .before .before .before .args .m) (c .before .before .before .before .before .before .before .args .o) (c .before .before .before .before .before .before .before .args .p) (c .before .before .before .before .before .before .before .args .words .now) (c .before .before .before .before .loop .words) (c .before .before .before .before .loop .i) (c .before .before .before .before .loop .i - 1) (omega arith) (c .before .before .before .before .loop .inv) (c .before .is-chosen .result) (c .before .is-chosen .ensures ∙ ap (chosen (c .before .before .before .before .before .before .before .args .marks) (c .before .before .before .before .before .before .before .args .m)) (c .before .before .bits .ensures .0)) (c .if1 .left)
+loop-again-2 c =
+    let a = c .before .before .before .before .before .before .before .args in
+    let l = c .before .before .before .before .loop in
+    let bits = c .before .before .bits in
+    fill-skip (a .marks) (a .bytes .now) (a .m) (a .o) (a .p) (a .words .now) (l .words) (l .i) (l .i - 1) (omega arith) (l .inv) (c .before .is-chosen .result)
+    (c .before .is-chosen .ensures ∙ ap (chosen (a .marks) (a .m)) (bits .ensures .0)) (c .if1 .left)
 
 same-length : tie.Need-same-length Inv-loop μ-loop
 same-length c = c .before .loop .inv .kept .long
 
 returns : tie.Need-returns Inv-loop μ-loop
-returns c = fill-end (c .before .before .before .before .args .marks) (c .before .before .before .before .args .bytes .now) (c .before .before .before .before .args .m) (c .before .before .before .before .args .o) (c .before .before .before .before .args .p) (c .before .before .before .before .args .words .now) (c .before .loop .words) (c .before .loop .i) (c .loop-test .left) (c .before .loop .inv)
+returns c =
+    let a = c .before .before .before .before .args in
+    let l = c .before .loop in
+    fill-end (a .marks) (a .bytes .now) (a .m) (a .o) (a .p) (a .words .now) (l .words) (l .i) (c .loop-test .left) (l .inv)
 
 pub fill-spec : {M : Type 1} → statement M
 fill-spec =

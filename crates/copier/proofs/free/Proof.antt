@@ -17,7 +17,9 @@ start-requires : tie.Need-start-requires Inv-loop μ-loop
 start-requires c κs = omega (arith, c .before .pre .1 .within)
 
 loop-holds : tie.Need-loop-holds Inv-loop μ-loop
-loop-holds c = (omega arith, passed-none (placesOf (c .before .before .args .words .now) (c .before .before .args .o)) (c .before .before .args .p) (c .before .before .args .v))
+loop-holds c =
+    let a = c .before .before .args in
+    (omega arith, passed-none (placesOf (a .words .now) (a .o)) (a .p) (a .v))
 
 place-requires : tie.Need-place-requires Inv-loop μ-loop
 place-requires c κs = (c .before .before .start .ensures .1, omega arith, omega arith)
@@ -35,7 +37,13 @@ shared-slice-read-if1 : tie.Need-shared-slice-read-if1 Inv-loop μ-loop
 shared-slice-read-if1 c = omega arith
 
 returns : tie.Need-returns Inv-loop μ-loop
-returns c = free-here (placesOf (c .before .before .before .before .before .before .before .args .words .now) (c .before .before .before .before .before .before .before .args .o)) (c .before .before .before .before .before .before .before .args .p) (c .before .before .before .before .before .before .before .args .v) (c .before .before .before .before .loop .d) (c .before .before .place .result) (omega arith) (omega arith) (c .before .before .before .before .loop .inv .1) (c .before .before .place .ensures .0 ∙ ap (λ (s : ℕ). place s (c .before .before .before .before .before .before .before .args .p) (c .before .before .before .before .loop .d)) (c .before .before .before .before .before .start .ensures .0)) (c .if1 .taken)
+returns c =
+    let a = c .before .before .before .before .before .before .before .args in
+    let start = c .before .before .before .before .before .start in
+    let l = c .before .before .before .before .loop in
+    let place-call = c .before .before .place in
+    free-here (placesOf (a .words .now) (a .o)) (a .p) (a .v) (l .d) (place-call .result) (omega arith) (omega arith) (l .inv .1)
+    (place-call .ensures .0 ∙ ap (λ (s : ℕ). place s (a .p) (l .d)) (start .ensures .0)) (c .if1 .taken)
 
 add-d : tie.Need-add-d Inv-loop μ-loop
 add-d c = omega arith
@@ -44,10 +52,21 @@ loop-less : tie.Need-loop-less Inv-loop μ-loop
 loop-less c = omega arith
 
 loop-again : tie.Need-loop-again Inv-loop μ-loop
-loop-again c = (omega arith, passed-more (placesOf (c .before .before .before .before .before .before .before .args .words .now) (c .before .before .before .before .before .before .before .args .o)) (c .before .before .before .before .before .before .before .args .p) (c .before .before .before .before .before .before .before .args .v) (c .before .before .before .before .loop .d) (c .before .before .place .result) (c .before .before .before .before .loop .inv .1) (c .before .before .place .ensures .0 ∙ ap (λ (s : ℕ). place s (c .before .before .before .before .before .before .before .args .p) (c .before .before .before .before .loop .d)) (c .before .before .before .before .before .start .ensures .0)) (c .if1 .left))
+loop-again c =
+    let a = c .before .before .before .before .before .before .before .args in
+    let start = c .before .before .before .before .before .start in
+    let l = c .before .before .before .before .loop in
+    let place-call = c .before .before .place in (
+      omega arith,
+      passed-more (placesOf (a .words .now) (a .o)) (a .p) (a .v) (l .d) (place-call .result) (l .inv .1)
+          (place-call .ensures .0 ∙ ap (λ (s : ℕ). place s (a .p) (l .d)) (start .ensures .0)) (c .if1 .left),
+    )
 
 returns-2 : tie.Need-returns-2 Inv-loop μ-loop
-returns-2 c = free-none (placesOf (c .before .before .before .before .args .words .now) (c .before .before .before .before .args .o)) (c .before .before .before .before .args .p) (c .before .before .before .before .args .v) (c .before .loop .d) (c .loop-test .left) (c .before .loop .inv .1) (c .before .before .before .before .pre .1)
+returns-2 c =
+    let a = c .before .before .before .before .args in
+    let p = c .before .before .before .before .pre in
+    free-none (placesOf (a .words .now) (a .o)) (a .p) (a .v) (c .before .loop .d) (c .loop-test .left) (c .before .loop .inv .1) (p .1)
 
 pub free-spec : {M : Type 1} → statement M
 free-spec =

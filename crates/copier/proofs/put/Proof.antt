@@ -45,7 +45,10 @@ same-length c = simp length-set
 
 returns : tie.Need-returns
 unfolding putAt
-returns c = put-law (c .before .before .before .args .words .now) (c .before .before .before .args .o) (c .before .before .before .args .p) (c .before .before .before .args .v) (c .before .before .before .args .best) (c .free .result) (c .before .before .before .pre .0) (c .free .ensures .1) (c .free .ensures .0)
+returns c =
+    let a = c .before .before .before .args in
+    let p = c .before .before .before .pre in
+    put-law (a .words .now) (a .o) (a .p) (a .v) (a .best) (c .free .result) (p .0) (c .free .ensures .1) (c .free .ensures .0)
 
 pub put-spec : {M : Type 1} → statement M
 put-spec =

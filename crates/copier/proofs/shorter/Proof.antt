@@ -37,7 +37,12 @@ enum-known-b : tie.Need-enum-known-b Inv-loop μ-loop
 enum-known-b c = search needs
 
 returns : tie.Need-returns Inv-loop μ-loop
-returns c = below-hit (c .before .before .before .before .before .before .before .args .words .now) (c .before .before .before .before .before .before .before .args .m) (c .before .before .before .before .before .before .before .args .v) (c .before .before .before .before .before .loop .l) (c .before .b .given .0 .0) (omega arith) (sym (c .before .before .before .look-in .ensures) ∙ ap seen (c .before .b .given .1)) ∙ c .before .before .before .before .before .loop .inv .1
+returns c =
+    let a = c .before .before .before .before .before .before .before .args in
+    let l = c .before .before .before .before .before .loop in
+    let look-in = c .before .before .before .look-in in
+    below-hit (a .words .now) (a .m) (a .v) (l .l) (c .before .b .given .0 .0) (omega arith) (sym (look-in .ensures) ∙ ap seen (c .before .b .given .1))
+    ∙ l .inv .1
 
 enum-told : tie.Need-enum-told Inv-loop μ-loop
 enum-told c = search needs
@@ -46,7 +51,11 @@ loop-less : tie.Need-loop-less Inv-loop μ-loop
 loop-less c = omega arith
 
 loop-again : tie.Need-loop-again Inv-loop μ-loop
-loop-again c = (omega arith, below-miss (c .before .before .before .before .before .before .args .words .now) (c .before .before .before .before .before .before .args .m) (c .before .before .before .before .before .before .args .v) (c .before .before .before .before .loop .l) (omega arith) (sym (c .before .before .look-in .ensures) ∙ ap seen (c .enum-told .given .1)) ∙ c .before .before .before .before .loop .inv .1)
+loop-again c =
+    let a = c .before .before .before .before .before .before .args in
+    let l = c .before .before .before .before .loop in
+    let look-in = c .before .before .look-in in
+    (omega arith, below-miss (a .words .now) (a .m) (a .v) (l .l) (omega arith) (sym (look-in .ensures) ∙ ap seen (c .enum-told .given .1)) ∙ l .inv .1)
 
 enum-told-2 : tie.Need-enum-told-2 Inv-loop μ-loop
 enum-told-2 c = search needs
@@ -55,13 +64,20 @@ loop-less-2 : tie.Need-loop-less-2 Inv-loop μ-loop
 loop-less-2 c = omega arith
 
 loop-again-2 : tie.Need-loop-again-2 Inv-loop μ-loop
-loop-again-2 c = (omega arith, below-outside (c .before .before .before .before .before .before .args .words .now) (c .before .before .before .before .before .before .args .m) (c .before .before .before .before .before .before .args .v) (c .before .before .before .before .loop .l) (omega arith) (sym (c .before .before .look-in .ensures) ∙ ap seen (c .enum-told2 .given .1)) ∙ c .before .before .before .before .loop .inv .1)
+loop-again-2 c =
+    let a = c .before .before .before .before .before .before .args in
+    let l = c .before .before .before .before .loop in
+    let look-in = c .before .before .look-in in
+    (omega arith, below-outside (a .words .now) (a .m) (a .v) (l .l) (omega arith) (sym (look-in .ensures) ∙ ap seen (c .enum-told2 .given .1)) ∙ l .inv .1)
 
 shared-slice-read-result : tie.Need-shared-slice-read-result Inv-loop μ-loop
 shared-slice-read-result c = omega (arith, c .before .before .before .before .pre .0)
 
 returns-2 : tie.Need-returns-2 Inv-loop μ-loop
-returns-2 c = below-end (c .before .before .before .before .args .words .now) (c .before .before .before .before .args .m) (c .before .before .before .before .args .v) (c .before .before .loop .l) (c .before .loop-test .left) ∙ c .before .before .loop .inv .1
+returns-2 c =
+    let a = c .before .before .before .before .args in
+    let l = c .before .before .loop in
+    below-end (a .words .now) (a .m) (a .v) (l .l) (c .before .loop-test .left) ∙ l .inv .1
 
 pub shorter-spec : {M : Type 1} → statement M
 shorter-spec =

@@ -18,13 +18,26 @@ count-requires : tie.Need-count-requires Inv-loop μ-loop
 count-requires c κs = (c .before .before .before .before .pre .list, c .loop-test .taken)
 
 table-requires : tie.Need-table-requires Inv-loop μ-loop
-table-requires c κs = going-makes (c .before .before .before .before .before .before .args .bytes .now) (c .before .before .before .before .before .before .args .words .now) (c .before .before .before .before .before .before .pre) (c .before .before .before .loop .words) (c .before .before .before .loop .m) (c .before .before .before .loop .o) (c .before .before .before .loop .inv) (omega arith) (c .before .count .result) (c .before .count .ensures .0)
+table-requires c κs =
+    let a = c .before .before .before .before .before .before .args in
+    let p = c .before .before .before .before .before .before .pre in
+    let l = c .before .before .before .loop in
+    going-makes (a .bytes .now) (a .words .now) p (l .words) (l .m) (l .o) (l .inv) (omega arith) (c .before .count .result) (c .before .count .ensures .0)
 
 mul-o : tie.Need-mul-o Inv-loop μ-loop
 mul-o c = omega (arith, c .before .before .before .before .count .ensures .1)
 
 add-o : tie.Need-add-o Inv-loop μ-loop
-add-o c = omega (arith, going-fits (c .before .before .before .before .before .before .before .before .before .args .bytes .now) (c .before .before .before .before .before .before .before .before .before .args .words .now) (c .before .before .before .before .before .before .before .before .before .pre) (c .before .before .before .before .before .before .loop .words) (c .before .before .before .before .before .before .loop .m) (c .before .before .before .before .before .before .loop .o) (c .before .before .before .before .before .before .loop .inv) (omega arith) (c .before .before .before .before .count .result) (c .before .before .before .before .count .ensures .0), c .before .before .before .before .before .before .loop .inv .long)
+add-o c =
+    let a = c .before .before .before .before .before .before .before .before .before .args in
+    let p = c .before .before .before .before .before .before .before .before .before .pre in
+    let l = c .before .before .before .before .before .before .loop in
+    let count = c .before .before .before .before .count in
+    omega (
+      arith,
+      going-fits (a .bytes .now) (a .words .now) p (l .words) (l .m) (l .o) (l .inv) (omega arith) (count .result) (count .ensures .0),
+      l .inv .long,
+    )
 
 add-m : tie.Need-add-m Inv-loop μ-loop
 add-m c = omega (arith, c .before .before .before .before .before .before .loop .inv .most)
@@ -33,13 +46,24 @@ loop-less : tie.Need-loop-less Inv-loop μ-loop
 loop-less c = omega (arith, c .before .before .before .before .before .before .loop .inv .most)
 
 loop-again : tie.Need-loop-again Inv-loop μ-loop
-loop-again c = going-more (c .before .before .before .before .before .before .before .before .before .args .bytes .now) (c .before .before .before .before .before .before .before .before .before .args .words .now) (c .before .before .before .before .before .before .before .before .before .pre) (c .before .before .before .before .before .before .loop .words) (c .before .before .before .before .before .before .loop .m) (c .before .before .before .before .before .before .loop .o) (c .before .before .before .before .before .before .loop .inv) (omega arith) (c .before .before .before .before .count .result) (c .before .before .before .before .count .ensures .0) (c .before .before .table .last .1 .0) (c .before .before .table .ensures)
+loop-again c =
+    let a = c .before .before .before .before .before .before .before .before .before .args in
+    let p = c .before .before .before .before .before .before .before .before .before .pre in
+    let l = c .before .before .before .before .before .before .loop in
+    let count = c .before .before .before .before .count in
+    let table = c .before .before .table in
+    going-more (a .bytes .now) (a .words .now) p (l .words) (l .m) (l .o) (l .inv) (omega arith) (count .result) (count .ensures .0) (table .last .1 .0)
+    (table .ensures)
 
 same-length : tie.Need-same-length Inv-loop μ-loop
 same-length c = c .before .loop .inv .long
 
 returns : tie.Need-returns Inv-loop μ-loop
-returns c = going-end (c .before .before .before .before .args .bytes .now) (c .before .before .before .before .args .words .now) (c .before .before .before .before .pre) (c .before .loop .words) (c .before .loop .m) (c .before .loop .o) (c .before .loop .inv) (c .loop-test .left)
+returns c =
+    let a = c .before .before .before .before .args in
+    let p = c .before .before .before .before .pre in
+    let l = c .before .loop in
+    going-end (a .bytes .now) (a .words .now) p (l .words) (l .m) (l .o) (l .inv) (c .loop-test .left)
 
 pub tables-spec : {M : Type 1} → statement M
 tables-spec =

@@ -25,19 +25,34 @@ longer-requires : tie.Need-longer-requires
 longer-requires c κs = search needs
 
 returns : tie.Need-returns
-returns c = c .longer .ensures ∙ end-longer (looks (c .before .before .before .before .before .before .before .args .words .now) (c .before .before .before .before .before .before .before .args .address)) (c .before .before .before .before .before .before .before .args .m) (c .before .before .before .before .before .before .before .args .best) (c .before .before .before .b .given .0 .0) (sym (c .before .before .before .before .before .look-in .ensures) ∙ ap seen (c .before .before .before .b .given .1)) (c .before .if1 .taken)
+returns c =
+    let a = c .before .before .before .before .before .before .before .args in
+    let look-in = c .before .before .before .before .before .look-in in
+    let b = c .before .before .before .b in
+    c .longer .ensures ∙ end-longer (looks (a .words .now) (a .address)) (a .m) (a .best) (b .given .0 .0) (sym (look-in .ensures) ∙ ap seen (b .given .1))
+    (c .before .if1 .taken)
 
 enum-told-2 : tie.Need-enum-told-2
 enum-told-2 c = search needs
 
 returns-2 : tie.Need-returns-2
-returns-2 c = end-miss (looks (c .before .before .before .before .args .words .now) (c .before .before .before .before .args .address)) (c .before .before .before .before .args .m) (c .before .before .before .before .args .best) (sym (c .before .before .look-in .ensures) ∙ ap seen (c .enum-told .given .1))
+returns-2 c =
+    let a = c .before .before .before .before .args in
+    let look-in = c .before .before .look-in in
+    end-miss (looks (a .words .now) (a .address)) (a .m) (a .best) (sym (look-in .ensures) ∙ ap seen (c .enum-told .given .1))
 
 returns-3 : tie.Need-returns-3
-returns-3 c = end-hit (looks (c .before .before .before .before .before .before .args .words .now) (c .before .before .before .before .before .before .args .address)) (c .before .before .before .before .before .before .args .m) (c .before .before .before .before .before .before .args .best) (c .before .before .b .given .0 .0) (sym (c .before .before .before .before .look-in .ensures) ∙ ap seen (c .before .before .b .given .1)) (c .if1 .left)
+returns-3 c =
+    let a = c .before .before .before .before .before .before .args in
+    let look-in = c .before .before .before .before .look-in in
+    let b = c .before .before .b in
+    end-hit (looks (a .words .now) (a .address)) (a .m) (a .best) (b .given .0 .0) (sym (look-in .ensures) ∙ ap seen (b .given .1)) (c .if1 .left)
 
 returns-4 : tie.Need-returns-4
-returns-4 c = any-outside (looks (c .before .before .before .before .args .words .now) (c .before .before .before .before .args .address)) (c .before .before .before .before .args .m) (c .before .before .before .before .args .best) 0 (sym (c .before .before .look-in .ensures) ∙ ap seen (c .enum-told2 .given .1))
+returns-4 c =
+    let a = c .before .before .before .before .args in
+    let look-in = c .before .before .look-in in
+    any-outside (looks (a .words .now) (a .address)) (a .m) (a .best) 0 (sym (look-in .ensures) ∙ ap seen (c .enum-told2 .given .1))
 
 pub last-spec : {M : Type 1} → statement M
 last-spec =

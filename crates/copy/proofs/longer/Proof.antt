@@ -20,13 +20,25 @@ enum-told-2 : tie.Need-enum-told-2
 enum-told-2 c = search needs
 
 returns : tie.Need-returns
-returns c = ap (λ (x : Look). after x (hit (c .before .before .before .before .args .best)) (λ b. hit b)) (sym (ap seen (c .enum-told .given .1))) ∙ longer-look (c .before .before .before .before .args .words .now) (c .before .before .before .before .args .address) (c .before .before .before .before .args .best) (seen (c .before .before .look-in .result)) (c .before .before .look-in .ensures)
+returns c =
+    let a = c .before .before .before .before .args in
+    let look-in = c .before .before .look-in in
+    ap (λ (x : Look). after x (hit (a .best)) (λ b. hit b)) (sym (ap seen (c .enum-told .given .1)))
+    ∙ longer-look (a .words .now) (a .address) (a .best) (seen (look-in .result)) (look-in .ensures)
 
 returns-2 : tie.Need-returns-2
-returns-2 c = ap (λ (x : Look). after x (hit (c .before .before .before .before .before .args .best)) (λ b. hit b)) (sym (ap seen (c .before .b .given .1))) ∙ longer-look (c .before .before .before .before .before .args .words .now) (c .before .before .before .before .before .args .address) (c .before .before .before .before .before .args .best) (seen (c .before .before .before .look-in .result)) (c .before .before .before .look-in .ensures)
+returns-2 c =
+    let a = c .before .before .before .before .before .args in
+    let look-in = c .before .before .before .look-in in
+    ap (λ (x : Look). after x (hit (a .best)) (λ b. hit b)) (sym (ap seen (c .before .b .given .1)))
+    ∙ longer-look (a .words .now) (a .address) (a .best) (seen (look-in .result)) (look-in .ensures)
 
 returns-3 : tie.Need-returns-3
-returns-3 c = ap (λ (x : Look). after x (hit (c .before .before .before .before .args .best)) (λ b. hit b)) (sym (ap seen (c .enum-told2 .given .1))) ∙ longer-look (c .before .before .before .before .args .words .now) (c .before .before .before .before .args .address) (c .before .before .before .before .args .best) (seen (c .before .before .look-in .result)) (c .before .before .look-in .ensures)
+returns-3 c =
+    let a = c .before .before .before .before .args in
+    let look-in = c .before .before .look-in in
+    ap (λ (x : Look). after x (hit (a .best)) (λ b. hit b)) (sym (ap seen (c .enum-told2 .given .1)))
+    ∙ longer-look (a .words .now) (a .address) (a .best) (seen (look-in .result)) (look-in .ensures)
 
 pub longer-spec : {M : Type 1} → statement M
 longer-spec =

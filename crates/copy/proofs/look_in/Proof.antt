@@ -18,10 +18,17 @@ wide-requires-2 : tie.Need-wide-requires-2
 wide-requires-2 c κs = search needs
 
 returns : tie.Need-returns
-returns c = look-past (c .before .before .before .before .args .words .now) (c .before .before .before .before .args .m) (c .before .before .before .before .args .v) (c .before .before .wide .result) (c .before .wide2 .result) (c .before .before .wide .ensures) (c .before .wide2 .ensures) (c .if1 .taken)
+returns c =
+    let a = c .before .before .before .before .args in
+    let wide = c .before .before .wide in
+    look-past (a .words .now) (a .m) (a .v) (wide .result) (c .before .wide2 .result) (wide .ensures) (c .before .wide2 .ensures) (c .if1 .taken)
 
 returns-2 : tie.Need-returns-2
-returns-2 c = look-long (c .before .before .before .before .before .args .words .now) (c .before .before .before .before .before .args .m) (c .before .before .before .before .before .args .v) (c .before .before .before .wide .result) (c .before .before .wide2 .result) (c .before .before .before .wide .ensures) (c .before .before .wide2 .ensures) (c .before .if1 .left) (c .if2 .taken)
+returns-2 c =
+    let a = c .before .before .before .before .before .args in
+    let wide = c .before .before .before .wide in
+    let wide2 = c .before .before .wide2 in
+    look-long (a .words .now) (a .m) (a .v) (wide .result) (wide2 .result) (wide .ensures) (wide2 .ensures) (c .before .if1 .left) (c .if2 .taken)
 
 mul-probe : tie.Need-mul-probe
 mul-probe c = search needs
@@ -30,7 +37,13 @@ probe-requires : tie.Need-probe-requires
 probe-requires c κs = search needs
 
 returns-3 : tie.Need-returns-3
-returns-3 c = c .probe .ensures ∙ look-there (c .before .before .before .before .before .before .args .words .now) (c .before .before .before .before .before .before .args .m) (c .before .before .before .before .before .before .args .v) (c .before .before .before .before .wide .result) (c .before .before .before .wide2 .result) (c .before .before .before .before .wide .ensures) (c .before .before .before .wide2 .ensures) (c .before .before .if1 .left) (c .before .if2 .left)
+returns-3 c =
+    let a = c .before .before .before .before .before .before .args in
+    let wide = c .before .before .before .before .wide in
+    let wide2 = c .before .before .before .wide2 in
+    let if1 = c .before .before .if1 in
+    c .probe .ensures ∙ look-there (a .words .now) (a .m) (a .v) (wide .result) (wide2 .result) (wide .ensures) (wide2 .ensures) (if1 .left)
+    (c .before .if2 .left)
 
 pub look-in-spec : {M : Type 1} → statement M
 look-in-spec =

@@ -10,7 +10,10 @@ use Rattle.copy.proofs.lookup.Statement.{statement}
 use Rattle.copy.proofs.lookup.Tie as tie
 
 returns : tie.Need-returns
-returns c = let w : refused 2 ≡ walk (c .before .before .args .words .now) (c .before .before .args .address) = walk-short (c .before .before .args .words .now) (c .before .before .args .address) (c .if1 .taken) in (w, of-copy (c .before .before .args .words .now) (c .before .before .args .address) (refused 2) (omega arith) w)
+returns c =
+    let a = c .before .before .args in
+    let w : refused 2 ≡ walk (a .words .now) (a .address) = walk-short (a .words .now) (a .address) (c .if1 .taken) in
+    (w, of-copy (a .words .now) (a .address) (refused 2) (omega arith) w)
 
 shared-slice-read-default : tie.Need-shared-slice-read-default
 shared-slice-read-default c = search needs
@@ -19,7 +22,12 @@ strange-requires : tie.Need-strange-requires
 strange-requires c κs = search needs
 
 returns-2 : tie.Need-returns-2
-returns-2 c = let w : refused 2 ≡ walk (c .before .before .before .before .before .args .words .now) (c .before .before .before .before .before .args .address) = walk-strange (c .before .before .before .before .before .args .words .now) (c .before .before .before .before .before .args .address) (c .before .strange .result) (c .before .before .before .if1 .left) (c .before .strange .ensures) (c .if2 .taken) in (w, of-copy (c .before .before .before .before .before .args .words .now) (c .before .before .before .before .before .args .address) (refused 2) (omega arith) w)
+returns-2 c =
+    let a = c .before .before .before .before .before .args in
+    let if1 = c .before .before .before .if1 in
+    let w : refused 2 ≡ walk (a .words .now) (a .address) =
+    walk-strange (a .words .now) (a .address) (c .before .strange .result) (if1 .left) (c .before .strange .ensures) (c .if2 .taken) in
+    (w, of-copy (a .words .now) (a .address) (refused 2) (omega arith) w)
 
 search-from-requires : tie.Need-search-from-requires
 search-from-requires c κs = search needs
@@ -28,7 +36,15 @@ answer-requires : tie.Need-answer-requires
 answer-requires c κs = search needs
 
 returns-3 : tie.Need-returns-3
-returns-3 c = let w : told (c .answer .result) ≡ walk (c .before .before .before .before .before .before .before .args .words .now) (c .before .before .before .before .before .before .before .args .address) = walk-search (c .before .before .before .before .before .before .before .args .words .now) (c .before .before .before .before .before .before .before .args .address) (c .before .before .before .strange .result) (told (c .answer .result)) (c .before .before .before .before .before .if1 .left) (c .before .before .before .strange .ensures) (c .before .before .if2 .left) (c .answer .ensures ∙ ap answered (c .before .search-from .ensures)) in (w, of-copy (c .before .before .before .before .before .before .before .args .words .now) (c .before .before .before .before .before .before .before .args .address) (told (c .answer .result)) (omega arith) w)
+returns-3 c =
+    let a = c .before .before .before .before .before .before .before .args in
+    let if1 = c .before .before .before .before .before .if1 in
+    let strange = c .before .before .before .strange in
+    let if2 = c .before .before .if2 in
+    let w : told (c .answer .result) ≡ walk (a .words .now) (a .address) =
+    walk-search (a .words .now) (a .address) (strange .result) (told (c .answer .result)) (if1 .left) (strange .ensures) (if2 .left)
+    (c .answer .ensures ∙ ap answered (c .before .search-from .ensures)) in
+    (w, of-copy (a .words .now) (a .address) (told (c .answer .result)) (omega arith) w)
 
 pub lookup-spec : {M : Type 1} → statement M
 lookup-spec =

@@ -15,13 +15,17 @@ abbrev μ-loop : tie.MeasureT-loop
 μ-loop words o m p v s d₀ d = p - d
 
 returns : tie.Need-returns Inv-loop μ-loop
-returns c = find-none (placesOf (c .before .before .args .words .now) (c .before .before .args .o)) (c .before .before .args .m) (c .before .before .args .p) (c .before .before .args .v) (c .if1 .taken)
+returns c =
+    let a = c .before .before .args in
+    find-none (placesOf (a .words .now) (a .o)) (a .m) (a .p) (a .v) (c .if1 .taken)
 
 start-requires : tie.Need-start-requires Inv-loop μ-loop
 start-requires c κs = omega arith
 
 loop-holds : tie.Need-loop-holds Inv-loop μ-loop
-loop-holds c = (omega arith, find-all (placesOf (c .before .before .before .args .words .now) (c .before .before .before .args .o)) (c .before .before .before .args .m) (c .before .before .before .args .p) (c .before .before .before .args .v))
+loop-holds c =
+    let a = c .before .before .before .args in
+    (omega arith, find-all (placesOf (a .words .now) (a .o)) (a .m) (a .p) (a .v))
 
 place-requires : tie.Need-place-requires Inv-loop μ-loop
 place-requires c κs = (c .before .before .start .ensures .1, omega arith, omega arith)
@@ -39,10 +43,22 @@ shared-slice-read-taken : tie.Need-shared-slice-read-taken Inv-loop μ-loop
 shared-slice-read-taken c = omega arith
 
 returns-2 : tie.Need-returns-2 Inv-loop μ-loop
-returns-2 c = probe-free (placesOf (c .before .before .before .before .before .before .before .before .args .words .now) (c .before .before .before .before .before .before .before .before .args .o)) (c .before .before .before .before .before .before .before .before .args .m) (c .before .before .before .before .before .before .before .before .args .p) (c .before .before .before .before .before .before .before .before .args .v) (c .before .before .before .before .loop .d) (omega arith) (c .before .before .place .result) (c .before .before .place .ensures .0 ∙ ap (λ (s : ℕ). place s (c .before .before .before .before .before .before .before .before .args .p) (c .before .before .before .before .loop .d)) (c .before .before .before .before .before .start .ensures .0)) (c .if2 .taken) ∙ c .before .before .before .before .loop .inv .1
+returns-2 c =
+    let a = c .before .before .before .before .before .before .before .before .args in
+    let start = c .before .before .before .before .before .start in
+    let l = c .before .before .before .before .loop in
+    let place-call = c .before .before .place in
+    probe-free (placesOf (a .words .now) (a .o)) (a .m) (a .p) (a .v) (l .d) (omega arith) (place-call .result)
+    (place-call .ensures .0 ∙ ap (λ (s : ℕ). place s (a .p) (l .d)) (start .ensures .0)) (c .if2 .taken) ∙ l .inv .1
 
 returns-3 : tie.Need-returns-3 Inv-loop μ-loop
-returns-3 c = probe-outside (placesOf (c .before .before .before .before .before .before .before .before .before .args .words .now) (c .before .before .before .before .before .before .before .before .before .args .o)) (c .before .before .before .before .before .before .before .before .before .args .m) (c .before .before .before .before .before .before .before .before .before .args .p) (c .before .before .before .before .before .before .before .before .before .args .v) (c .before .before .before .before .before .loop .d) (omega arith) (c .before .before .before .place .result) (c .before .before .before .place .ensures .0 ∙ ap (λ (s : ℕ). place s (c .before .before .before .before .before .before .before .before .before .args .p) (c .before .before .before .before .before .loop .d)) (c .before .before .before .before .before .before .start .ensures .0)) (c .before .if2 .left) (c .if3 .taken) ∙ c .before .before .before .before .before .loop .inv .1
+returns-3 c =
+    let a = c .before .before .before .before .before .before .before .before .before .args in
+    let start = c .before .before .before .before .before .before .start in
+    let l = c .before .before .before .before .before .loop in
+    let place-call = c .before .before .before .place in
+    probe-outside (placesOf (a .words .now) (a .o)) (a .m) (a .p) (a .v) (l .d) (omega arith) (place-call .result)
+    (place-call .ensures .0 ∙ ap (λ (s : ℕ). place s (a .p) (l .d)) (start .ensures .0)) (c .before .if2 .left) (c .if3 .taken) ∙ l .inv .1
 
 add-if4 : tie.Need-add-if4 Inv-loop μ-loop
 add-if4 c = omega arith
@@ -66,7 +82,16 @@ ranged-requires : tie.Need-ranged-requires Inv-loop μ-loop
 ranged-requires c κs = search needs
 
 returns-4 : tie.Need-returns-4 Inv-loop μ-loop
-returns-4 c = c .ranged .ensures ∙ probe-own (placesOf (c .before .before .before .before .before .before .before .before .before .before .before .before .before .args .words .now) (c .before .before .before .before .before .before .before .before .before .before .before .before .before .args .o)) (c .before .before .before .before .before .before .before .before .before .before .before .before .before .args .m) (c .before .before .before .before .before .before .before .before .before .before .before .before .before .args .p) (c .before .before .before .before .before .before .before .before .before .before .before .before .before .args .v) (c .before .before .before .before .before .before .before .before .before .loop .d) (omega arith) (c .before .before .before .before .before .before .before .place .result) (c .before .before .before .before .before .before .before .place .ensures .0 ∙ ap (λ (s : ℕ). place s (c .before .before .before .before .before .before .before .before .before .before .before .before .before .args .p) (c .before .before .before .before .before .before .before .before .before .loop .d)) (c .before .before .before .before .before .before .before .before .before .before .start .ensures .0)) (c .before .before .before .before .before .if2 .left) (c .before .before .before .before .if3 .left) (c .before .before .if4 .taken) ∙ c .before .before .before .before .before .before .before .before .before .loop .inv .1
+returns-4 c =
+    let a = c .before .before .before .before .before .before .before .before .before .before .before .before .before .args in
+    let start = c .before .before .before .before .before .before .before .before .before .before .start in
+    let l = c .before .before .before .before .before .before .before .before .before .loop in
+    let place-call = c .before .before .before .before .before .before .before .place in
+    let if2 = c .before .before .before .before .before .if2 in
+    let if3 = c .before .before .before .before .if3 in
+    let if4 = c .before .before .if4 in
+    c .ranged .ensures ∙ probe-own (placesOf (a .words .now) (a .o)) (a .m) (a .p) (a .v) (l .d) (omega arith) (place-call .result)
+    (place-call .ensures .0 ∙ ap (λ (s : ℕ). place s (a .p) (l .d)) (start .ensures .0)) (if2 .left) (if3 .left) (if4 .taken) ∙ l .inv .1
 
 add-d : tie.Need-add-d Inv-loop μ-loop
 add-d c = omega arith
@@ -75,10 +100,22 @@ loop-less : tie.Need-loop-less Inv-loop μ-loop
 loop-less c = omega arith
 
 loop-again : tie.Need-loop-again Inv-loop μ-loop
-loop-again c = (omega arith, probe-on (placesOf (c .before .before .before .before .before .before .before .before .before .before .before .args .words .now) (c .before .before .before .before .before .before .before .before .before .before .before .args .o)) (c .before .before .before .before .before .before .before .before .before .before .before .args .m) (c .before .before .before .before .before .before .before .before .before .before .before .args .p) (c .before .before .before .before .before .before .before .before .before .before .before .args .v) (c .before .before .before .before .before .before .before .loop .d) (omega arith) (c .before .before .before .before .before .place .result) (c .before .before .before .before .before .place .ensures .0 ∙ ap (λ (s : ℕ). place s (c .before .before .before .before .before .before .before .before .before .before .before .args .p) (c .before .before .before .before .before .before .before .loop .d)) (c .before .before .before .before .before .before .before .before .start .ensures .0)) (c .before .before .before .if2 .left) (c .before .before .if3 .left) (c .if4 .left) ∙ c .before .before .before .before .before .before .before .loop .inv .1)
+loop-again c =
+    let a = c .before .before .before .before .before .before .before .before .before .before .before .args in
+    let start = c .before .before .before .before .before .before .before .before .start in
+    let l = c .before .before .before .before .before .before .before .loop in
+    let place-call = c .before .before .before .before .before .place in
+    let if2 = c .before .before .before .if2 in
+    let if3 = c .before .before .if3 in (
+      omega arith,
+      probe-on (placesOf (a .words .now) (a .o)) (a .m) (a .p) (a .v) (l .d) (omega arith) (place-call .result)
+          (place-call .ensures .0 ∙ ap (λ (s : ℕ). place s (a .p) (l .d)) (start .ensures .0)) (if2 .left) (if3 .left) (c .if4 .left) ∙ l .inv .1,
+    )
 
 returns-5 : tie.Need-returns-5 Inv-loop μ-loop
-returns-5 c = probe-none (placesOf (c .before .before .before .before .before .args .words .now) (c .before .before .before .before .before .args .o)) (c .before .before .before .before .before .args .m) (c .before .before .before .before .before .args .p) (c .before .before .before .before .before .args .v) (c .before .loop .d) (c .loop-test .left) ∙ c .before .loop .inv .1
+returns-5 c =
+    let a = c .before .before .before .before .before .args in
+    probe-none (placesOf (a .words .now) (a .o)) (a .m) (a .p) (a .v) (c .before .loop .d) (c .loop-test .left) ∙ c .before .loop .inv .1
 
 pub probe-spec : {M : Type 1} → statement M
 probe-spec =

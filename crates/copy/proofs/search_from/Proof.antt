@@ -11,7 +11,8 @@ use Rattle.copy.proofs.search_from.Statement.{statement}
 use Rattle.copy.proofs.search_from.Tie as tie
 
 abbrev Inv-loop : tie.InvT-loop
-Inv-loop words address default n₀ m₀ best₀ n m best = (n ≤ 4) × (2 ^ n ≤ m) × (m + 2 ^ n ≤ 32) × (seek (looks words address) n m best ≡ seek (looks words address) 4 16 default)
+Inv-loop words address default n₀ m₀ best₀ n m best = (n ≤ 4) × (2 ^ n ≤ m) × (m + 2 ^ n ≤ 32)
+    × (seek (looks words address) n m best ≡ seek (looks words address) 4 16 default)
 
 abbrev μ-loop : tie.MeasureT-loop
 μ-loop words address default n₀ m₀ best₀ n m best = n
@@ -44,7 +45,17 @@ loop-less : tie.Need-loop-less Inv-loop μ-loop
 loop-less c = omega arith
 
 loop-again : tie.Need-loop-again Inv-loop μ-loop
-loop-again c = let h = half (c .before .before .before .before .before .loop .n) (omega arith) in (omega arith, omega (arith, c .power .ensures), omega (arith, c .power .ensures), turn-shorter (looks (c .before .before .before .before .before .before .before .args .words .now) (c .before .before .before .before .before .before .before .args .address)) (c .before .before .before .before .before .loop .m) (c .before .before .before .before .before .loop .best) (c .before .before .before .before .before .loop .n) (c .power .result) (omega arith) (c .power .ensures) (sym (c .before .before .before .look-in .ensures) ∙ ap seen (c .before .enum-told .given .1)) ∙ c .before .before .before .before .before .loop .inv .3)
+loop-again c =
+    let a = c .before .before .before .before .before .before .before .args in
+    let l = c .before .before .before .before .before .loop in
+    let look-in = c .before .before .before .look-in in
+    let h = half (l .n) (omega arith) in (
+      omega arith,
+      omega (arith, c .power .ensures),
+      omega (arith, c .power .ensures),
+      turn-shorter (looks (a .words .now) (a .address)) (l .m) (l .best) (l .n) (c .power .result) (omega arith) (c .power .ensures)
+          (sym (look-in .ensures) ∙ ap seen (c .before .enum-told .given .1)) ∙ l .inv .3,
+    )
 
 enum-known-b : tie.Need-enum-known-b Inv-loop μ-loop
 enum-known-b c = search needs
@@ -53,19 +64,36 @@ power-requires-2 : tie.Need-power-requires-2 Inv-loop μ-loop
 power-requires-2 c κs = omega arith
 
 add-m : tie.Need-add-m Inv-loop μ-loop
-add-m c = omega (arith, c .power2 .ensures, half (c .before .before .before .before .before .before .loop .n) (omega arith), c .before .before .before .before .before .before .loop .inv .2)
+add-m c =
+    let l = c .before .before .before .before .before .before .loop in
+    omega (arith, c .power2 .ensures, half (l .n) (omega arith), l .inv .2)
 
 loop-less-2 : tie.Need-loop-less-2 Inv-loop μ-loop
 loop-less-2 c = omega arith
 
 loop-again-2 : tie.Need-loop-again-2 Inv-loop μ-loop
-loop-again-2 c = let h = half (c .before .before .before .before .before .before .loop .n) (omega arith) in (omega arith, omega (arith, c .power2 .ensures), omega (arith, c .power2 .ensures), turn-longer (looks (c .before .before .before .before .before .before .before .before .args .words .now) (c .before .before .before .before .before .before .before .before .args .address)) (c .before .before .before .before .before .before .loop .m) (c .before .before .before .before .before .before .loop .best) (c .before .before .before .before .before .before .loop .n) (c .power2 .result) (c .before .before .b .given .0 .0) (omega arith) (c .power2 .ensures) (sym (c .before .before .before .before .look-in .ensures) ∙ ap seen (c .before .before .b .given .1)) ∙ c .before .before .before .before .before .before .loop .inv .3)
+loop-again-2 c =
+    let a = c .before .before .before .before .before .before .before .before .args in
+    let l = c .before .before .before .before .before .before .loop in
+    let look-in = c .before .before .before .before .look-in in
+    let b = c .before .before .b in
+    let h = half (l .n) (omega arith) in (
+      omega arith,
+      omega (arith, c .power2 .ensures),
+      omega (arith, c .power2 .ensures),
+      turn-longer (looks (a .words .now) (a .address)) (l .m) (l .best) (l .n) (c .power2 .result) (b .given .0 .0) (omega arith) (c .power2 .ensures)
+          (sym (look-in .ensures) ∙ ap seen (b .given .1)) ∙ l .inv .3,
+    )
 
 enum-told-2 : tie.Need-enum-told-2 Inv-loop μ-loop
 enum-told-2 c = search needs
 
 returns : tie.Need-returns Inv-loop μ-loop
-returns c = any-outside (looks (c .before .before .before .before .before .before .args .words .now) (c .before .before .before .before .before .before .args .address)) (c .before .before .before .before .loop .m) (c .before .before .before .before .loop .best) (c .before .before .before .before .loop .n) (sym (c .before .before .look-in .ensures) ∙ ap seen (c .enum-told2 .given .1)) ∙ c .before .before .before .before .loop .inv .3
+returns c =
+    let a = c .before .before .before .before .before .before .args in
+    let l = c .before .before .before .before .loop in
+    let look-in = c .before .before .look-in in
+    any-outside (looks (a .words .now) (a .address)) (l .m) (l .best) (l .n) (sym (look-in .ensures) ∙ ap seen (c .enum-told2 .given .1)) ∙ l .inv .3
 
 last-requires : tie.Need-last-requires Inv-loop μ-loop
 last-requires c κs = (c .before .before .before .pre, omega (arith, pow-pos (c .before .loop .n)), omega arith)

@@ -27,10 +27,14 @@ shared-slice-read-result-2 : tie.Need-shared-slice-read-result-2
 shared-slice-read-result-2 c = search needs
 
 cast-result-2 : tie.Need-cast-result-2
-cast-result-2 c = omega (arith, c .before .shared-slice-known .given (c .before .before .args .i), c .shared-slice-known2 .given (c .before .before .args .i + 1))
+cast-result-2 c =
+    let a = c .before .before .args in
+    omega (arith, c .before .shared-slice-known .given (a .i), c .shared-slice-known2 .given (a .i + 1))
 
 add-result-2 : tie.Need-add-result-2
-add-result-2 c = omega (arith, c .before .shared-slice-known .given (c .before .before .args .i), c .shared-slice-known2 .given (c .before .before .args .i + 1))
+add-result-2 c =
+    let a = c .before .before .args in
+    omega (arith, c .before .shared-slice-known .given (a .i), c .shared-slice-known2 .given (a .i + 1))
 
 returns : tie.Need-returns
 returns c = search needs

@@ -24,7 +24,11 @@ add-result-3 : tie.Need-add-result-3
 add-result-3 c = search needs
 
 returns : tie.Need-returns
-returns c = arrays-need (listOf (c .before .before .before .before .args .bytes .now)) (c .before .before .count .result) (c .before .count2 .result) (c .count3 .result) (c .before .before .count .ensures .0) (c .before .count2 .ensures .0) (c .count3 .ensures .0)
+returns c =
+    let a = c .before .before .before .before .args in
+    let count = c .before .before .count in
+    arrays-need (listOf (a .bytes .now)) (count .result) (c .before .count2 .result) (c .count3 .result) (count .ensures .0) (c .before .count2 .ensures .0)
+    (c .count3 .ensures .0)
 
 pub arrays-spec : {M : Type 1} → statement M
 arrays-spec =

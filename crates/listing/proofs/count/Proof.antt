@@ -17,7 +17,9 @@ abbrev μ-loop : tie.MeasureT-loop
 μ-loop bytes pick m i₀ seen₀ last₀ i seen last = i
 
 loop-holds : tie.Need-loop-holds Inv-loop μ-loop
-loop-holds c = (omega arith, counts-none (picked (c .before .args .pick) (c .before .args .m)) (c .before .args .m) (length (c .before .args .bytes .now) / 8) (c .before .args .bytes .now))
+loop-holds c =
+    let a = c .before .args in
+    (omega arith, counts-none (picked (a .pick) (a .m)) (a .m) (length (a .bytes .now) / 8) (a .bytes .now))
 
 sub-i : tie.Need-sub-i Inv-loop μ-loop
 sub-i c = omega arith
@@ -32,26 +34,51 @@ head-requires : tie.Need-head-requires Inv-loop μ-loop
 head-requires c κs = (omega arith, omega arith)
 
 counted-requires : tie.Need-counted-requires Inv-loop μ-loop
-counted-requires c κs = omega (arith, counts-low (picked (c .before .before .before .before .before .before .before .args .pick) (c .before .before .before .before .before .before .before .args .m)) (c .before .before .before .before .before .before .before .args .m) (length (c .before .before .before .before .before .before .before .args .bytes .now) / 8) (c .before .before .before .before .before .loop .i) (c .before .before .before .before .before .before .before .args .bytes .now) (c .before .before .before .before .before .loop .seen) (c .before .before .before .before .before .loop .last) (c .before .before .before .before .before .loop .inv .1))
+counted-requires c κs =
+    let a = c .before .before .before .before .before .before .before .args in
+    let l = c .before .before .before .before .before .loop in
+    omega (arith, counts-low (picked (a .pick) (a .m)) (a .m) (length (a .bytes .now) / 8) (l .i) (a .bytes .now) (l .seen) (l .last) (l .inv .1))
 
 loop-less : tie.Need-loop-less Inv-loop μ-loop
 loop-less c = omega arith
 
 loop-again : tie.Need-loop-again Inv-loop μ-loop
 loop-again c =
-    let e : c .before .before .before .picked .result ≡ picked (c .before .before .before .before .before .before .before .before .args .pick) (c .before .before .before .before .before .before .before .before .args .m) (routeAt (c .before .before .before .before .before .before .before .before .args .bytes .now) (c .before .before .before .before .before .before .loop .i - 1) .len) = c .before .before .before .picked .ensures ∙ rw (c .before .before .before .before .bits .ensures .0) in
-    (omega arith, counts-more (picked (c .before .before .before .before .before .before .before .before .args .pick) (c .before .before .before .before .before .before .before .before .args .m)) (c .before .before .before .before .before .before .before .before .args .m) (length (c .before .before .before .before .before .before .before .before .args .bytes .now) / 8) (c .before .before .before .before .before .before .loop .i) (c .before .before .before .before .before .before .loop .i - 1) (c .before .before .before .before .before .before .before .before .args .bytes .now) (omega arith) (omega arith) (c .before .before .before .before .before .before .before .before .pre .0) (c .before .before .before .before .before .before .loop .seen) (c .before .before .before .before .before .before .loop .last) (c .before .before .before .before .before .before .loop .inv .1) (c .before .before .before .picked .result) (c .before .head .result) (c .counted .result) e (c .before .before .if1 .taken) (c .before .head .ensures) (c .counted .ensures))
+    let a = c .before .before .before .before .before .before .before .before .args in
+    let p = c .before .before .before .before .before .before .before .before .pre in
+    let l = c .before .before .before .before .before .before .loop in
+    let bits = c .before .before .before .before .bits in
+    let picked-call = c .before .before .before .picked in
+    let if1 = c .before .before .if1 in
+    let e : picked-call .result ≡ picked (a .pick) (a .m) (routeAt (a .bytes .now) (l .i - 1) .len) = picked-call .ensures ∙ rw (bits .ensures .0) in (
+      omega arith,
+      counts-more (picked (a .pick) (a .m)) (a .m) (length (a .bytes .now) / 8) (l .i) (l .i - 1) (a .bytes .now) (omega arith) (omega arith) (p .0)
+          (l .seen) (l .last) (l .inv .1) (picked-call .result) (c .before .head .result) (c .counted .result) e (if1 .taken) (c .before .head .ensures)
+          (c .counted .ensures),
+    )
 
 loop-less-2 : tie.Need-loop-less-2 Inv-loop μ-loop
 loop-less-2 c = omega arith
 
 loop-again-2 : tie.Need-loop-again-2 Inv-loop μ-loop
 loop-again-2 c =
-    let e : c .before .picked .result ≡ picked (c .before .before .before .before .before .before .args .pick) (c .before .before .before .before .before .before .args .m) (routeAt (c .before .before .before .before .before .before .args .bytes .now) (c .before .before .before .before .loop .i - 1) .len) = c .before .picked .ensures ∙ rw (c .before .before .bits .ensures .0) in
-    (omega arith, counts-past (picked (c .before .before .before .before .before .before .args .pick) (c .before .before .before .before .before .before .args .m)) (c .before .before .before .before .before .before .args .m) (length (c .before .before .before .before .before .before .args .bytes .now) / 8) (c .before .before .before .before .loop .i) (c .before .before .before .before .loop .i - 1) (c .before .before .before .before .before .before .args .bytes .now) (omega arith) (omega arith) (c .before .before .before .before .before .before .pre .0) (c .before .before .before .before .loop .seen) (c .before .before .before .before .loop .last) (c .before .before .before .before .loop .inv .1) (c .before .picked .result) e (c .if1 .left))
+    let a = c .before .before .before .before .before .before .args in
+    let p = c .before .before .before .before .before .before .pre in
+    let l = c .before .before .before .before .loop in
+    let bits = c .before .before .bits in
+    let picked-call = c .before .picked in
+    let e : picked-call .result ≡ picked (a .pick) (a .m) (routeAt (a .bytes .now) (l .i - 1) .len) = picked-call .ensures ∙ rw (bits .ensures .0) in (
+      omega arith,
+      counts-past (picked (a .pick) (a .m)) (a .m) (length (a .bytes .now) / 8) (l .i) (l .i - 1) (a .bytes .now) (omega arith) (omega arith) (p .0)
+          (l .seen) (l .last) (l .inv .1) (picked-call .result) e (c .if1 .left),
+    )
 
 returns : tie.Need-returns Inv-loop μ-loop
-returns c = counts-end (picked (c .before .before .before .args .pick) (c .before .before .before .args .m)) (c .before .before .before .args .m) (length (c .before .before .before .args .bytes .now) / 8) (c .before .loop .i) (c .before .before .before .args .bytes .now) (c .before .loop .seen) (c .before .loop .last) (c .loop-test .left) (c .before .before .before .pre .0) (c .before .loop .inv .1)
+returns c =
+    let a = c .before .before .before .args in
+    let p = c .before .before .before .pre in
+    let l = c .before .loop in
+    counts-end (picked (a .pick) (a .m)) (a .m) (length (a .bytes .now) / 8) (l .i) (a .bytes .now) (l .seen) (l .last) (c .loop-test .left) (p .0) (l .inv .1)
 
 pub count-spec : {M : Type 1} → statement M
 count-spec =

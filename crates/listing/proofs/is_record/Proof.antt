@@ -29,10 +29,28 @@ is-route-requires : tie.Need-is-route-requires
 is-route-requires c κs = search needs
 
 returns-2 : tie.Need-returns-2
-returns-2 c = record-bad (c .before .before .before .before .before .before .before .before .args .bytes .now) (c .before .before .before .before .before .before .before .before .args .i) (c .before .is-route .result) (record-route (c .before .before .before .before .before .before .before .before .args .bytes .now) (c .before .before .before .before .before .before .before .before .args .i) (c .before .before .before .before .four-at .result) (c .before .before .before .bits .result) (c .before .before .hop .result) (c .before .is-route .result) (c .before .before .before .before .four-at .ensures) (c .before .before .before .bits .ensures .0) (c .before .before .hop .ensures .0) (c .before .is-route .ensures)) (off (c .before .is-route .result) (c .if2 .taken)) (c .before .before .before .before .before .if1 .left)
+returns-2 c =
+    let a = c .before .before .before .before .before .before .before .before .args in
+    let if1 = c .before .before .before .before .before .if1 in
+    let four-at = c .before .before .before .before .four-at in
+    let bits = c .before .before .before .bits in
+    let hop = c .before .before .hop in
+    let is-route = c .before .is-route in
+    record-bad (a .bytes .now) (a .i) (is-route .result)
+    (record-route (a .bytes .now) (a .i) (four-at .result) (bits .result) (hop .result) (is-route .result) (four-at .ensures) (bits .ensures .0)
+    (hop .ensures .0) (is-route .ensures)) (off (is-route .result) (c .if2 .taken)) (if1 .left)
 
 returns-3 : tie.Need-returns-3
-returns-3 c = record-first (c .before .before .before .before .before .before .before .before .before .args .bytes .now) (c .before .before .before .before .before .before .before .before .before .args .i) (c .before .before .is-route .result) (record-route (c .before .before .before .before .before .before .before .before .before .args .bytes .now) (c .before .before .before .before .before .before .before .before .before .args .i) (c .before .before .before .before .before .four-at .result) (c .before .before .before .before .bits .result) (c .before .before .before .hop .result) (c .before .before .is-route .result) (c .before .before .before .before .before .four-at .ensures) (c .before .before .before .before .bits .ensures .0) (c .before .before .before .hop .ensures .0) (c .before .before .is-route .ensures)) (on (c .before .before .is-route .result) (c .before .if2 .left)) (c .before .before .before .before .before .before .if1 .left) (c .if3 .taken)
+returns-3 c =
+    let a = c .before .before .before .before .before .before .before .before .before .args in
+    let if1 = c .before .before .before .before .before .before .if1 in
+    let four-at = c .before .before .before .before .before .four-at in
+    let bits = c .before .before .before .before .bits in
+    let hop = c .before .before .before .hop in
+    let is-route = c .before .before .is-route in
+    record-first (a .bytes .now) (a .i) (is-route .result)
+    (record-route (a .bytes .now) (a .i) (four-at .result) (bits .result) (hop .result) (is-route .result) (four-at .ensures) (bits .ensures .0)
+    (hop .ensures .0) (is-route .ensures)) (on (is-route .result) (c .before .if2 .left)) (if1 .left) (c .if3 .taken)
 
 sub-key-at : tie.Need-sub-key-at
 sub-key-at c = search needs
@@ -44,7 +62,18 @@ key-at-requires-2 : tie.Need-key-at-requires-2
 key-at-requires-2 c κs = search needs
 
 returns-4 : tie.Need-returns-4
-returns-4 c = record-order (c .before .before .before .before .before .before .before .before .before .before .before .args .bytes .now) (c .before .before .before .before .before .before .before .before .before .before .before .args .i) (c .before .before .before .before .is-route .result) (c .before .key-at .result) (c .key-at2 .result) (record-route (c .before .before .before .before .before .before .before .before .before .before .before .args .bytes .now) (c .before .before .before .before .before .before .before .before .before .before .before .args .i) (c .before .before .before .before .before .before .before .four-at .result) (c .before .before .before .before .before .before .bits .result) (c .before .before .before .before .before .hop .result) (c .before .before .before .before .is-route .result) (c .before .before .before .before .before .before .before .four-at .ensures) (c .before .before .before .before .before .before .bits .ensures .0) (c .before .before .before .before .before .hop .ensures .0) (c .before .before .before .before .is-route .ensures)) (on (c .before .before .before .before .is-route .result) (c .before .before .before .if2 .left)) (c .before .before .before .before .before .before .before .before .if1 .left) (c .before .before .if3 .left) (c .before .key-at .ensures) (c .key-at2 .ensures)
+returns-4 c =
+    let a = c .before .before .before .before .before .before .before .before .before .before .before .args in
+    let if1 = c .before .before .before .before .before .before .before .before .if1 in
+    let four-at = c .before .before .before .before .before .before .before .four-at in
+    let bits = c .before .before .before .before .before .before .bits in
+    let hop = c .before .before .before .before .before .hop in
+    let is-route = c .before .before .before .before .is-route in
+    let if2 = c .before .before .before .if2 in
+    let if3 = c .before .before .if3 in
+    record-order (a .bytes .now) (a .i) (is-route .result) (c .before .key-at .result) (c .key-at2 .result)
+    (record-route (a .bytes .now) (a .i) (four-at .result) (bits .result) (hop .result) (is-route .result) (four-at .ensures) (bits .ensures .0)
+    (hop .ensures .0) (is-route .ensures)) (on (is-route .result) (if2 .left)) (if1 .left) (if3 .left) (c .before .key-at .ensures) (c .key-at2 .ensures)
 
 pub is-record-spec : {M : Type 1} → statement M
 is-record-spec =

@@ -14,7 +14,11 @@ arrays-requires : tie.Need-arrays-requires
 arrays-requires c κs = c .before .whole .ensures .list (on (c .before .whole .result) (c .if1 .left))
 
 returns-2 : tie.Need-returns-2
-returns-2 c = need-crowded (c .before .before .before .before .before .args .bytes .now) (c .before .before .before .whole .result) (c .before .arrays .result) (c .before .before .before .whole .ensures) (c .before .before .if1 .left) (c .before .arrays .ensures) (c .if2 .taken)
+returns-2 c =
+    let a = c .before .before .before .before .before .args in
+    let whole = c .before .before .before .whole in
+    let if1 = c .before .before .if1 in
+    need-crowded (a .bytes .now) (whole .result) (c .before .arrays .result) (whole .ensures) (if1 .left) (c .before .arrays .ensures) (c .if2 .taken)
 
 total-requires : tie.Need-total-requires
 total-requires c κs = c .before .before .before .whole .ensures .list (on (c .before .before .before .whole .result) (c .before .before .if1 .left))
@@ -26,7 +30,13 @@ add-t6 : tie.Need-add-t6
 add-t6 c = search needs
 
 returns-3 : tie.Need-returns-3
-returns-3 c = need-words (c .before .before .before .before .before .before .args .bytes .now) (c .before .before .before .before .whole .result) (c .before .before .arrays .result) (c .total .result) (c .before .before .before .before .whole .ensures) (c .before .before .before .if1 .left) (c .before .before .arrays .ensures) (c .before .if2 .left) (c .total .ensures .0)
+returns-3 c =
+    let a = c .before .before .before .before .before .before .args in
+    let whole = c .before .before .before .before .whole in
+    let if1 = c .before .before .before .if1 in
+    let arrays = c .before .before .arrays in
+    need-words (a .bytes .now) (whole .result) (arrays .result) (c .total .result) (whole .ensures) (if1 .left) (arrays .ensures) (c .before .if2 .left)
+    (c .total .ensures .0)
 
 pub need-spec : {M : Type 1} → statement M
 need-spec =

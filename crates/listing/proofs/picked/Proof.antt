@@ -35,7 +35,10 @@ returns-4 : tie.Need-returns-4
 returns-4 c = rw (c .before .enum-told3 .given .1) (c .turns .ensures)
 
 returns-5 : tie.Need-returns-5
-returns-5 c = rw (c .before .before .enum-told4 .given .1, ne-eqb (c .before .before .before .before .args .l) (c .before .before .before .before .args .m) (c .before .if1 .left)) (c .turns2 .ensures)
+returns-5 c =
+    let a = c .before .before .before .before .args in
+    let enum-told4 = c .before .before .enum-told4 in
+    rw (enum-told4 .given .1, ne-eqb (a .l) (a .m) (c .before .if1 .left)) (c .turns2 .ensures)
 
 pub picked-spec : {M : Type 1} → statement M
 picked-spec =

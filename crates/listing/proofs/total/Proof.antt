@@ -18,7 +18,10 @@ count-requires : tie.Need-count-requires Inv-loop μ-loop
 count-requires c κs = (c .before .pre, omega arith)
 
 loop-holds : tie.Need-loop-holds Inv-loop μ-loop
-loop-holds c = (omega arith, total-none (listOf (c .before .before .args .bytes .now)) (c .count .result) (c .before .before .pre) (c .count .ensures .0), omega (arith, c .count .ensures .1))
+loop-holds c =
+    let a = c .before .before .args in
+    let p = c .before .before .pre in
+    (omega arith, total-none (listOf (a .bytes .now)) (c .count .result) p (c .count .ensures .0), omega (arith, c .count .ensures .1))
 
 add-m : tie.Need-add-m Inv-loop μ-loop
 add-m c = omega arith
@@ -33,10 +36,20 @@ loop-less : tie.Need-loop-less Inv-loop μ-loop
 loop-less c = omega arith
 
 loop-again : tie.Need-loop-again Inv-loop μ-loop
-loop-again c = (omega arith, total-more (listOf (c .before .before .before .before .before .args .bytes .now)) (c .before .before .loop .m) (c .before .before .loop .sum) (c .count2 .result) (c .before .before .loop .inv .1) (c .count2 .ensures .0), omega (arith, c .count2 .ensures .1, c .before .before .loop .inv .2))
+loop-again c =
+    let a = c .before .before .before .before .before .args in
+    let l = c .before .before .loop in (
+      omega arith,
+      total-more (listOf (a .bytes .now)) (l .m) (l .sum) (c .count2 .result) (l .inv .1) (c .count2 .ensures .0),
+      omega (arith, c .count2 .ensures .1, l .inv .2),
+    )
 
 returns : tie.Need-returns Inv-loop μ-loop
-returns c = (total-all (listOf (c .before .before .before .before .args .bytes .now)) (c .before .loop .m) (c .before .loop .sum) (c .before .before .before .before .pre) (omega arith) (omega arith) (c .before .loop .inv .1), omega (arith, c .before .loop .inv .2))
+returns c =
+    let a = c .before .before .before .before .args in
+    let p = c .before .before .before .before .pre in
+    let l = c .before .loop in
+    (total-all (listOf (a .bytes .now)) (l .m) (l .sum) p (omega arith) (omega arith) (l .inv .1), omega (arith, l .inv .2))
 
 pub total-spec : {M : Type 1} → statement M
 total-spec =

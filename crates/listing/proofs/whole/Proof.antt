@@ -35,7 +35,10 @@ is-record-requires : tie.Need-is-record-requires Inv-loop μ-loop
 is-record-requires c κs = omega arith
 
 returns-3 : tie.Need-returns-3 Inv-loop μ-loop
-returns-3 c = whole-broken (c .before .before .before .before .before .before .before .before .args .bytes .now) (c .before .before .before .loop .i) (c .before .is-record .result) (omega arith) (c .before .is-record .ensures) (c .if3 .taken)
+returns-3 c =
+    let a = c .before .before .before .before .before .before .before .before .args in
+    let l = c .before .before .before .loop in
+    whole-broken (a .bytes .now) (l .i) (c .before .is-record .result) (omega arith) (c .before .is-record .ensures) (c .if3 .taken)
 
 add-i : tie.Need-add-i Inv-loop μ-loop
 add-i c = omega arith
@@ -44,10 +47,22 @@ loop-less : tie.Need-loop-less Inv-loop μ-loop
 loop-less c = omega arith
 
 loop-again : tie.Need-loop-again Inv-loop μ-loop
-loop-again c = (omega arith, all-more (recordB (c .before .before .before .before .before .before .before .before .args .bytes .now)) (c .before .before .before .loop .i) (c .before .before .before .loop .inv .1) (sym (c .before .is-record .ensures) ∙ on (c .before .is-record .result) (c .if3 .left)))
+loop-again c =
+    let a = c .before .before .before .before .before .before .before .before .args in
+    let l = c .before .before .before .loop in (
+      omega arith,
+      all-more (recordB (a .bytes .now)) (l .i) (l .inv .1)
+          (sym (c .before .is-record .ensures) ∙ on (c .before .is-record .result) (c .if3 .left)),
+    )
 
 returns-4 : tie.Need-returns-4 Inv-loop μ-loop
-returns-4 c = whole-right (c .before .before .before .before .before .before .args .bytes .now) (λ i. omega (arith, c .before .before .before .before .before .shared-slice-known .given i)) (c .before .before .before .before .if1 .left) (c .before .before .if2 .left) (c .before .loop .i) (omega arith) (omega arith) (c .before .loop .inv .1)
+returns-4 c =
+    let a = c .before .before .before .before .before .before .args in
+    let shared-slice-known = c .before .before .before .before .before .shared-slice-known in
+    let if1 = c .before .before .before .before .if1 in
+    let if2 = c .before .before .if2 in
+    whole-right (a .bytes .now) (λ i. omega (arith, shared-slice-known .given i)) (if1 .left) (if2 .left) (c .before .loop .i) (omega arith) (omega arith)
+    (c .before .loop .inv .1)
 
 pub whole-spec : {M : Type 1} → statement M
 whole-spec =
