@@ -33,6 +33,7 @@ after c = next 32 (c .room) (before c) (c .call)
 abbrev defined : Case → Case
 defined c =
     record {
+      number = c .number;
       room = c .room;
       before = c .before;
       call = c .call;
@@ -88,7 +89,7 @@ each (c ∷ cs) e = (as-said c (cc), each cs (cc))
 
 -- P1 to P12
 pub small-called : Each (λ c. (p : Played c) → AsSaid c p) small
-small-called = each small small-cases
+small-called = each small (small-cases .0)
 
 -- the A = 4 case, bad input, and the traps of the trade
 pub further-called : Each (λ c. (p : Played c) → AsSaid c p) further
