@@ -129,11 +129,11 @@ module _ (bs ws : List ℕ) (i m v : ℕ) (b : Bests bs ws i m v) where
 
 -- ---- a record entered
 
-pub off : (b : Bool) → not b ≡ true → b ≡ false
+off : (b : Bool) → not b ≡ true → b ≡ false
 off true e = absurd (false≢true e)
 off false e = refl
 
-pub on : (b : Bool) → not b ≡ false → b ≡ true
+on : (b : Bool) → not b ≡ false → b ≡ true
 on true e = refl
 on false e = absurd (true≢false e)
 

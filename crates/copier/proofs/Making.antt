@@ -128,9 +128,6 @@ module _ (bs ws : List ℕ) (m o size : ℕ) (f : Makes bs ws m o size) (us : Li
         (λ i a b. h .kept .above i (omega (arith, f .most))) (f .built .tables l x y);
   }
 
-  pub make-room : (o ≤ o + 8 * size) × (o + 8 * size ≤ length us)
-  make-room = (omega arith, omega (arith, f .fits, h .kept .long))
-
   -- the passes ask that the table's words are cleared, and what is made that no other is
   module _ (vs : List ℕ) (to : ℕ) (r : o + 8 * size ≤ to) (c : Cleared us vs o to) where
     pub make-first : Filling false bs vs (length bs / 8) m o (2 * size)

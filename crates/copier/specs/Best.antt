@@ -50,7 +50,7 @@ record-is bs (suc n) i (suc k) f h = let e : suc i + k ≡ i + suc k = omega ari
     rw e at (record-is bs n (suc i) k (f .1) (omega arith))
 
 module _ (bs : List ℕ) (l : IsList 32 (listOf bs)) (i : ℕ) (h : i < length bs / 8) where
-  pub route-of : IsRoute 32 (routeAt bs i)
+  route-of : IsRoute 32 (routeAt bs i)
   route-of = let e : 0 + i ≡ i = omega arith in rw e at (record-is bs (length bs / 8) 0 i (l .routes) h)
 
   hop-of : hopAt (listOf bs) (key (routeAt bs i)) ≡ routeAt bs i .hop
@@ -105,7 +105,7 @@ module _ (rs : List Route) (w : Wfs 32 rs) (ws : List ℕ) (o m v : ℕ) (long :
       b .default ∙ best-same (λ j. heldAt rs j (0 / 2 ^ (0 - j))) G 0 (λ j h. (let q : j ≡ 0 = omega arith in rw (q, e, z)))
 
   -- a length without an entry adds nothing
-  pub best-skip : (l : ℕ) → heldAt rs (suc l) (v / 2 ^ (m - suc l)) ≡ 0 → best G (suc l) ≡ best G l
+  best-skip : (l : ℕ) → heldAt rs (suc l) (v / 2 ^ (m - suc l)) ≡ 0 → best G (suc l) ≡ best G l
   best-skip l e = ap code (last-past G l (suc l) (omega arith) (λ j h q. (let z : j ≡ suc l = omega arith in rw z e)))
 
   below-best : (l : ℕ) → l < m → below ws m v l ≡ best G l

@@ -10,7 +10,7 @@ use Rattle.routes.specs.Answers.{Reply, matched}
 use Rattle.routes.specs.Seen.{Answer}
 use Rattle.logic.specs.Cases.{less}
 use Rattle.way.specs.Marks.{wordsFor}
-use Rattle.way.specs.Listed.{unlisted, listed, listedIn, needOn, buildOn, Counts}
+use Rattle.way.specs.Listed.{listed, listedIn, needOn, buildOn, Counts}
 use Rattle.way.specs.Records.{Bytes}
 use Rattle.way.specs.Written.{listed-out}
 use Rattle.copy.specs.Layout.{walk}
@@ -54,10 +54,7 @@ leaves-alike rs ws us vs l p q =
       walks = λ a k. copy-walk rs us l (p .copy h) a k ∙ sym (copy-walk rs vs l (q .copy h) a k);
     })
 
--- build on bytes that are no list leaves the words; on a list, two outcomes are alike
-pub words-sharp-none : (bs ws us : List ℕ) → listedIn bs ≡ unlisted → LeavesOn (listedIn bs) ws us → us ≡ ws
-words-sharp-none bs ws us e p = rw e at p
-
+-- on a list, two outcomes of a build are alike
 pub words-sharp : (bs ws us vs : List ℕ) (rs : List Route) → Bytes bs → listedIn bs ≡ listed rs → LeavesOn (listedIn bs) ws us
     → LeavesOn (listedIn bs) ws vs → Alike (wordsFor rs) us vs
 words-sharp bs ws us vs rs b e p q = leaves-alike rs ws us vs (listed-out bs b rs e .list) (rw e at p) (rw e at q)

@@ -52,7 +52,7 @@ unfolding last
 last-low g zero b = hit-low (g 0) 0 0 0 none (b 0) (omega arith) (omega arith) tt
 last-low g (suc m) b = hit-low (g (suc m)) (suc m) m (suc m) (last g m) (b (suc m)) (omega arith) (omega arith) (last-low g m b)
 
-pub hop-low : (rs : List Route) (k : ℕ) → All (IsRoute 32) rs → hopAt rs k ≤ 65535
+hop-low : (rs : List Route) (k : ℕ) → All (IsRoute 32) rs → hopAt rs k ≤ 65535
 hop-low [] k p = omega arith
 hop-low (r ∷ rs) k p = same (key r) k (λ q e. rw e (p .0 .low)) (λ q e. rw e (hop-low rs k (p .1)))
 
@@ -81,7 +81,7 @@ code-back (found h l) w =
 -- ---- the walk on a copy
 
 module _ (rs : List Route) (ws : List ℕ) (l : IsList 32 rs) (c : Copy rs ws) (a : ℕ) (h : a < 4294967296) where
-  pub copy-look : (m v : ℕ) → 1 ≤ m → m ≤ 32 → look ws m v ≡ cond (mem v (entries m rs)) (hit (bestAt rs m v)) miss
+  copy-look : (m v : ℕ) → 1 ≤ m → m ≤ 32 → look ws m v ≡ cond (mem v (entries m rs)) (hit (bestAt rs m v)) miss
   unfolding look
   copy-look m v i j =
       let t = c .tables m i j in
@@ -105,7 +105,7 @@ module _ (rs : List Route) (ws : List ℕ) (l : IsList 32 rs) (c : Copy rs ws) (
 -- ---- what a table hangs on
 
 -- U has the places of T
-pub probe-same : (T U : Places) (m p v : ℕ) → ((i : ℕ) → i < p → U .taken i ≡ T .taken i)
+probe-same : (T U : Places) (m p v : ℕ) → ((i : ℕ) → i < p → U .taken i ≡ T .taken i)
     → ((i : ℕ) → i < p → U .value i ≡ T .value i) → ((i : ℕ) → i < p → U .best i ≡ T .best i)
     → (n d : ℕ) → d + n ≤ p → probe U m p v n d ≡ probe T m p v n d
 unfolding probe

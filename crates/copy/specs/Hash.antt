@@ -176,7 +176,7 @@ filled-put T U j (suc p) h f t e =
     pull true n = refl
     pull false n = refl
 
-pub filled-none : (T : Places) (p : ℕ) → ((i : ℕ) → i < p → T .taken i ≡ 0) → filled T p ≡ 0
+filled-none : (T : Places) (p : ℕ) → ((i : ℕ) → i < p → T .taken i ≡ 0) → filled T p ≡ 0
 unfolding filled
 filled-none T zero e = refl
 filled-none T (suc p) e = rw (e p (omega arith)) (filled-none T p (λ i h. e i (omega arith)))

@@ -145,7 +145,7 @@ record Ended (o : Outcome) (A : ℕ) (b vs c : List ℕ) (r : Report) : Type 0 w
   replies : c ≡ o .end .replies ++ drop (length (o .end .replies)) b
 
 module _ (ws₀ feed b₀ ws b : List ℕ) (p : Progress) (stop : ℕ) (g : Going ws₀ feed b₀ ws b p stop) where
-  pub going-clear : stop ≡ 5 → Clear feed (length b) (p .at) (p .out)
+  going-clear : stop ≡ 5 → Clear feed (length b) (p .at) (p .out)
   going-clear e = rw (g .long) (halts-clear feed (length b₀) (p .at) (p .out) (sym (g .halted) ∙ e))
 
   is-table : IsTable (seen 4 ws)

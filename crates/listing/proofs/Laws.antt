@@ -211,7 +211,7 @@ module _ (bs : List ℕ) where
   unfolding listedIn
   crowded e h = rw (e, lt-leb (need 32 (listOf bs)) 4096 h)
 
-  pub fitting : wholeB bs ≡ true → need 32 (listOf bs) ≤ 4096 → listedIn bs ≡ listed (listOf bs)
+  fitting : wholeB bs ≡ true → need 32 (listOf bs) ≤ 4096 → listedIn bs ≡ listed (listOf bs)
   unfolding listedIn
   fitting e h = rw (e, le-leb (need 32 (listOf bs)) 4096 h)
 

@@ -152,7 +152,7 @@ module _ (L : ℕ) (ws : List ℕ) (o : Table L ws) (x : ℕ) (small : x < 2 ^ (
   onward zero k p there = turns k zero p there (λ h b. absurd (omega arith))
   onward (suc n) k p there = turns k (suc n) p there (λ h b. onward n (suc k) (omega arith) b)
 
-  pub walk-longest : walk L ws x ≡ matched (longest (8 * L) x (listOf L ws))
+  walk-longest : walk L ws x ≡ matched (longest (8 * L) x (listOf L ws))
   unfolding node
   walk-longest =
       let e : suc (L - 1) ≡ L = omega (arith, o .shape .some-level) in

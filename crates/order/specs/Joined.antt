@@ -35,7 +35,7 @@ module _ (W : ℕ) (w : W < 256) (A : ℕ) (N : List Route) (roomy : need W N �
     pub own : (k : ℕ) → mine k ≡ true → hopAt js k ≡ hopAt ss k
     pub others : (k : ℕ) → mine k ≡ false → hopAt ss k ≡ 0
 
-  pub beside-empty : Beside [] []
+  beside-empty : Beside [] []
   beside-empty = record { joint = fair-empty W N; alone = fair-empty W N; own = λ k e. refl; others = λ k e. refl }
 
   -- an update changes nothing at a key that is not of its feed
@@ -86,14 +86,14 @@ module _ (W : ℕ) (w : W < 256) (A : ℕ) (N : List Route) (roomy : need W N �
         }
 
   -- the whole of an interleaving
-  pub beside-heard : {xs ys zs : List Update} (v : Weave xs ys zs) (js ss : List Route) → Each (Owned true) xs → Each (Owned false) ys → Beside js ss
+  beside-heard : {xs ys zs : List Update} (v : Weave xs ys zs) (js ss : List Route) → Each (Owned true) xs → Each (Owned false) ys → Beside js ss
       → plains (heard v (replies W A js (records zs))) ≡ plains (replies W A ss (records xs))
   beside-heard nothing js ss o p b = refl
   beside-heard (left x v) js ss o p b =
       ap₂ _∷_ (alike x js ss (o .0) b) (beside-heard v (after W A js x) (after W A ss x) (o .1) p (beside-own x js ss (o .0) b))
   beside-heard (right y v) js ss o p b = beside-heard v (after W A js y) ss o (p .1) (beside-other y js ss (p .0) b)
 
-  pub beside-leaves : {xs ys zs : List Update} (v : Weave xs ys zs) (js ss : List Route) → Each (Owned true) xs → Each (Owned false) ys → Beside js ss
+  beside-leaves : {xs ys zs : List Update} (v : Weave xs ys zs) (js ss : List Route) → Each (Owned true) xs → Each (Owned false) ys → Beside js ss
       → Beside (leaves W A js (records zs)) (leaves W A ss (records xs))
   beside-leaves nothing js ss o p b = b
   beside-leaves (left x v) js ss o p b = beside-leaves v (after W A js x) (after W A ss x) (o .1) p (beside-own x js ss (o .0) b)
@@ -101,23 +101,23 @@ module _ (W : ℕ) (w : W < 256) (A : ℕ) (N : List Route) (roomy : need W N �
 
 -- ---- joined lists
 
-pub join-hop : (xs ys : List Route) (k : ℕ) → All Good xs → hopAt (join xs ys) k ≡ cond (eqb (hopAt xs k) 0) (hopAt ys k) (hopAt xs k)
+join-hop : (xs ys : List Route) (k : ℕ) → All Good xs → hopAt (join xs ys) k ≡ cond (eqb (hopAt xs k) 0) (hopAt ys k) (hopAt xs k)
 join-hop [] ys k p = refl
 join-hop (x ∷ xs) ys k p =
     same (key x) k
     (λ e d. rw (d, ne-eqb (x .hop) 0 (λ z. (let q = p .0 .pos in omega arith))) (rw (← e) (insert-same x (join xs ys))))
     (λ n d. rw d (insert-other x (join xs ys) k n ∙ join-hop xs ys k (p .1)))
 
-pub join-from : (xs ys : List Route) → From 0 ys → From 0 (join xs ys)
+join-from : (xs ys : List Route) → From 0 ys → From 0 (join xs ys)
 join-from [] ys f = f
 join-from (x ∷ xs) ys f = insert-from 0 x (join xs ys) (omega arith) (join-from xs ys f)
 
-pub join-good : (xs ys : List Route) → All Good xs → All Good ys → All Good (join xs ys)
+join-good : (xs ys : List Route) → All Good xs → All Good ys → All Good (join xs ys)
 join-good [] ys p q = q
 join-good (x ∷ xs) ys p q = all-insert Good x (join xs ys) (p .0) (join-good xs ys (p .1) q)
 
 -- of two lists that hold no prefix in common
-pub join-union : (xs ys : List Route) → From 0 ys → All Good xs → ((k : ℕ) → (hopAt xs k ≡ 0) ⊎ (hopAt ys k ≡ 0)) → Union xs ys (join xs ys)
+join-union : (xs ys : List Route) → From 0 ys → All Good xs → ((k : ℕ) → (hopAt xs k ≡ 0) ⊎ (hopAt ys k ≡ 0)) → Union xs ys (join xs ys)
 join-union xs ys f p d =
     record {
       sorted = join-from xs ys f;

@@ -60,7 +60,7 @@ module _ (W : ℕ) where
 
   -- ---- an accepted update names a proper prefix
 
-  pub done-proper : (A : ℕ) (rs : List Route) (u : Update) → isDone (answer W A rs u) ≡ true → proper W (prefix u) ≡ true
+  done-proper : (A : ℕ) (rs : List Route) (u : Update) → isDone (answer W A rs u) ≡ true → proper W (prefix u) ≡ true
   unfolding answer
   done-proper A rs (announce a l h) e =
       let p = passed 3 (tooLong W l) _ e in

@@ -55,7 +55,7 @@ module _ (L a k d : ℕ) (top : k < L) (deep : d ≤ 8) where
   pub value-lt : value L a k d < 2 ^ d
   value-lt = rw value-bits (mod-lt (a / 2 ^ (8 * L - (8 * k + d))) (pow-pos d))
 
-  pub prefix-split : a / 2 ^ (8 * L - (8 * k + d)) ≡ front L a k * 2 ^ d + value L a k d
+  prefix-split : a / 2 ^ (8 * L - (8 * k + d)) ≡ front L a k * 2 ^ d + value L a k d
   prefix-split =
       let s = 8 * L - (8 * k + d) in
       let e : s + d ≡ 8 * L - 8 * k = omega arith in

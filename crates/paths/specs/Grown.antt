@@ -69,7 +69,7 @@ module _ (L : ℕ) (ws : List ℕ) (q j b i : ℕ) (tip : Tip L ws q j b i) (dee
   hang : Hang (arrayCount ws) L (arraysOf ws) (arraysOf vs) b i f
   hang = gained-hang L ws b i f (tip .ok) gn
 
-  pub can-gain : Gains ws b i f
+  can-gain : Gains ws b i f
   can-gain = record {
     size = tip .ok .high;
     parent = tip .some;

@@ -13,7 +13,7 @@ ghost use Rattle.paths.specs.Shrunk.{Loose, Pruned};
 ghost use Rattle.paths.specs.Held.{hopFound};
 
 // Byte i of an address, the high one first.
-pub fn byte_of(address: u32, i: usize) -> usize
+fn byte_of(address: u32, i: usize) -> usize
     requires { ⌜ i < 4 ⌝ }
     ensures { λ r. ⌜ (r ≡ byteOf 4 address i) × (r < 256) ⌝ }
 {

@@ -36,7 +36,7 @@ refuses-size : (ws : List ℕ) (u : Update) → misfits (length ws) ≡ true →
 refuses-size ws u e = refuses ws u 1 (rw (seen-misfit 4 ws e))
 
 -- 3, 4, 5
-pub faulty-by : (W : ℕ) (u : Update) (r : Reply) → faulty W u r ≡ cond (eqb (faultOf W u) 0) r (refused (faultOf W u))
+faulty-by : (W : ℕ) (u : Update) (r : Reply) → faulty W u r ≡ cond (eqb (faultOf W u) 0) r (refused (faultOf W u))
 faulty-by W (announce a l h) r =
     bool (tooLong W l) (λ e. rw e) (λ e. rw e (bool (stray W a l) (λ f. rw f) (λ f. rw f (bool (badHop h) (λ g. rw g) (λ g. rw g)))))
 faulty-by W (withdraw a l) r =

@@ -84,7 +84,7 @@ module _ (ws : List ℕ) (a k d x : ℕ) (s : Seat ws a k d x) where
   pub seat-slot : slots (blockOf ws a) (2 ^ d + x) ≡ slotsOf ws a (2 ^ d + x)
   seat-slot = block-slot ws a (2 ^ d + x) slot-lt
 
-  pub seat-exposed : exposed (slots (blockOf ws a)) d (x * 2 ^ (8 - d)) (2 ^ (8 - d)) ≡ exposed (slotsOf ws a) d (x * 2 ^ (8 - d)) (2 ^ (8 - d))
+  seat-exposed : exposed (slots (blockOf ws a)) d (x * 2 ^ (8 - d)) (2 ^ (8 - d)) ≡ exposed (slotsOf ws a) d (x * 2 ^ (8 - d)) (2 ^ (8 - d))
   seat-exposed = exposed-ext (slots (blockOf ws a)) (slotsOf ws a) (block-slot ws a) d (x * 2 ^ (8 - d)) (2 ^ (8 - d)) fits
     where
       fits : x * 2 ^ (8 - d) + 2 ^ (8 - d) ≤ 256
@@ -93,7 +93,7 @@ module _ (ws : List ℕ) (a k d x : ℕ) (s : Seat ws a k d x) where
           let p : 2 ^ d * 2 ^ (8 - d) ≡ 256 = sym (pow-add 2 d (8 - d)) ∙ ap (λ (n : ℕ). 2 ^ n) e in
           omega (arith, mul-le-mul-right (2 ^ (8 - d)) (s .small))
 
-  pub seat-reslot : (m : List ℕ) (h : ℕ) → Reslotted (blockOf ws a) m (2 ^ d + x) h → Reslot ws (withBlock ws a m) a (2 ^ d + x) h
+  seat-reslot : (m : List ℕ) (h : ℕ) → Reslotted (blockOf ws a) m (2 ^ d + x) h → Reslot ws (withBlock ws a m) a (2 ^ d + x) h
   seat-reslot m h g = record {
     size = with-length ws a m (s .inside) whole;
     outside = with-other ws a m (s .inside) whole;

@@ -49,7 +49,7 @@ module _ {L : ℕ} {ws : List ℕ} {a l k d x j b : ℕ} (s : Sought L ws a l k 
     pub withdraw-seat : Seat ws b k d x
     withdraw-seat = seat-at L 0 ws b (front L a k) k d x (s .ok) place
 
-    pub withdraw-slot : slotsOf ws b (2 ^ d + x) ≡ hopFound ws b j k d x
+    withdraw-slot : slotsOf ws b (2 ^ d + x) ≡ hopFound ws b j k d x
     withdraw-slot = rw (eq-eqb j k arrived)
 
     pub withdraw-taken : 1 ≤ slotsOf ws b (2 ^ d + x)

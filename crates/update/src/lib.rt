@@ -69,7 +69,7 @@ fn clear(words: &mut [u32], a: usize, p: paths::Place) -> array::change::Taken
 }
 
 // A route announced to a table. A hop that is held already changes no word; another replaces the one held, in the array that is there.
-pub fn announce_in(words: &mut [u32], address: u32, length: u32, hop: u32) -> Updated
+fn announce_in(words: &mut [u32], address: u32, length: u32, hop: u32) -> Updated
     requires { ⌜ Table 4 (now words) × IsPrefix 4 address length × (1 ≤ hop) × (hop ≤ 65535) ⌝ }
     ensures { λ r. ⌜ Applies 4 (now (words .entry)) (now (words .exit)) (announced address length hop) r ⌝ }
 {
@@ -90,7 +90,7 @@ pub fn announce_in(words: &mut [u32], address: u32, length: u32, hop: u32) -> Up
 }
 
 // A route withdrawn from a table.
-pub fn withdraw_in(words: &mut [u32], address: u32, length: u32) -> Updated
+fn withdraw_in(words: &mut [u32], address: u32, length: u32) -> Updated
     requires { ⌜ Table 4 (now words) × IsPrefix 4 address length ⌝ }
     ensures { λ r. ⌜ Applies 4 (now (words .entry)) (now (words .exit)) (withdrawn address length) r ⌝ }
 {

@@ -146,7 +146,7 @@ own-apart m z rs h w e =
     flip false true q = refl
     flip false false q = refl
 
-pub entries-count : (m : ℕ) (rs : List Route) → m ≤ 32 → From 0 rs → Wfs 32 rs
+entries-count : (m : ℕ) (rs : List Route) → m ≤ 32 → From 0 rs → Wfs 32 rs
     → distinct (entries m rs) ≡ tally m rs + distinct (marks m rs)
 entries-count m rs h f w =
     distinct-mem (entries m rs) (own m rs ++ marks m rs) (λ z. entries-split m z rs h w)

@@ -21,7 +21,7 @@ use Rattle.way.specs.Marks.{picks, heldAt, isEntry, entries, bestAt}
 use Rattle.way.specs.Entries.{key-other}
 
 -- the first x bits of the first L
-pub head-head : (a x L : ℕ) → x ≤ L → L ≤ 32 → a / 2 ^ (32 - L) / 2 ^ (L - x) ≡ a / 2 ^ (32 - x)
+head-head : (a x L : ℕ) → x ≤ L → L ≤ 32 → a / 2 ^ (32 - L) / 2 ^ (L - x) ≡ a / 2 ^ (32 - x)
 head-head a x L h w = let e : (32 - L) + (L - x) ≡ 32 - x = omega arith in rw (← e) (shr-shr a (32 - L) (L - x))
 
 -- a held prefix of the address has its head among those picked

@@ -173,7 +173,7 @@ module _ (P : ℕ → Bool) (m : ℕ) (r : Route) (rs : List Route) (l : IsList 
   abbrev v : ℕ
   v = r .addr / 2 ^ (32 - m)
 
-  pub head-low : r .addr / 2 ^ (32 - m) < 4294967296
+  head-low : r .addr / 2 ^ (32 - m) < 4294967296
   head-low = omega (arith, shr-le (r .addr) (32 - m), l .routes .0 .wf .inside)
 
   rising : Rising v (picks P m rs)

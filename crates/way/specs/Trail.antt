@@ -13,7 +13,7 @@ use Rattle.logic.specs.Bools.{or-left, or-right}
 use Rattle.way.specs.Way.{Look, miss, hit, outside, after, search}
 
 -- after a look: what follows a miss, and what follows a hit
-abbrev pub onward : Look → List ℕ → List ℕ → List ℕ
+abbrev onward : Look → List ℕ → List ℕ → List ℕ
 onward miss xs ys = xs
 onward (hit b) xs ys = ys
 onward outside xs ys = []

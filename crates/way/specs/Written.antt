@@ -150,7 +150,7 @@ module _ (rs : List Route) (l : IsList 32 rs) where
       record-told (written rs) (length rs) i (rw (list-back [] rs (0 ∷ []) 0 refl (l .routes)) l) h
       (let e : 0 + i ≡ i = omega arith in rw e at (kinds-back [] rs (0 ∷ []) 0 i refl (l .routes) h))))
 
-  pub listed-written : need 32 rs ≤ 4096 → listedIn (written rs) ≡ listed rs
+  listed-written : need 32 rs ≤ 4096 → listedIn (written rs) ≡ listed rs
   unfolding listedIn
   listed-written h = rw (whole-written, back, le-leb (need 32 rs) 4096 h)
 
