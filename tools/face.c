@@ -1,0 +1,130 @@
+/* The C face for any processor. The proved functions of the kit's module take every slice and every answer by pointer, which
+ * is the same in each calling convention; this file turns that into the calls of toggleash.h, by the convention of the
+ * processor that it is compiled for. ./build compiles it together with the module, so that a call costs nothing more. */
+#include "toggleash.h"
+
+/* A slice as the module has it, on 32 bits too: where it starts, and from byte 8 on its length. */
+typedef struct {
+    union {
+        const void *start;
+        uint64_t place;
+    } at;
+    uint64_t length;
+} slice;
+
+_Static_assert(sizeof(slice) == 16 && offsetof(slice, length) == 8, "a slice is not laid out as in the module");
+_Static_assert(sizeof(uint32_t) == 4 && _Alignof(uint32_t) == 4, "a word is not 4 bytes");
+_Static_assert(sizeof(uint64_t) == 8 && _Alignof(uint64_t) == 8, "a count is not 8 bytes, or not aligned to them");
+
+/* The layout of an answer: its bytes, and the place of its last field, which has that type. */
+#define LAID_OUT(answer, bytes, last, type)                                                          \
+    _Static_assert(sizeof(toggleash_##answer) == (bytes) &&                                          \
+                       offsetof(toggleash_##answer, last) + sizeof(type) == (bytes),                 \
+                   "toggleash_" #answer " is not laid out as in the module")
+LAID_OUT(counts, 12, arrays, uint32_t);
+LAID_OUT(answer, 16, length, uint32_t);
+LAID_OUT(update, 12, cells, uint32_t);
+LAID_OUT(written, 16, bytes, uint64_t);
+LAID_OUT(ran, 40, refused, uint64_t);
+LAID_OUT(needed, 16, words, uint64_t);
+LAID_OUT(built, 24, markers, uint64_t);
+
+/* The proved functions, under the names that ./build gives them in the module. */
+uint32_t proved_clear(slice *words);
+void proved_check(toggleash_counts *r, slice *words);
+void proved_lookup(toggleash_answer *r, slice *words, uint32_t address);
+void proved_announce(toggleash_update *r, slice *words, uint32_t address, uint32_t length, uint32_t hop);
+void proved_withdraw(toggleash_update *r, slice *words, uint32_t address, uint32_t length);
+void proved_write_out(toggleash_written *r, slice *words, slice *buffer);
+void proved_run(toggleash_ran *r, slice *words, slice *feed, slice *reply);
+void proved_copy_need(toggleash_needed *r, slice *bytes);
+void proved_copy_build(toggleash_built *r, slice *bytes, slice *words);
+void proved_copy_lookup(toggleash_answer *r, slice *words, uint32_t address);
+
+#ifdef TOGGLEASH_VERSION
+/* The version is in the name. */
+#define JOINED_(start, end) start##end
+#define JOINED(start, end) JOINED_(start, end)
+uint32_t JOINED(proved_version_, TOGGLEASH_VERSION)(void);
+
+uint32_t JOINED(toggleash_version_, TOGGLEASH_VERSION)(void) {
+    return JOINED(proved_version_, TOGGLEASH_VERSION)();
+}
+#endif
+
+static inline slice of(const void *start, size_t length) {
+    slice s;
+    s.at.place = 0;
+    s.at.start = start;
+    s.length = length;
+    return s;
+}
+
+uint32_t toggleash_clear(uint32_t *words, size_t n) {
+    slice w = of(words, n);
+    return proved_clear(&w);
+}
+
+toggleash_counts toggleash_check(const uint32_t *words, size_t n) {
+    toggleash_counts r;
+    slice w = of(words, n);
+    proved_check(&r, &w);
+    return r;
+}
+
+toggleash_answer toggleash_lookup(const uint32_t *words, size_t n, uint32_t address) {
+    toggleash_answer r;
+    slice w = of(words, n);
+    proved_lookup(&r, &w, address);
+    return r;
+}
+
+toggleash_update toggleash_announce(uint32_t *words, size_t n, uint32_t address, uint32_t length, uint32_t hop) {
+    toggleash_update r;
+    slice w = of(words, n);
+    proved_announce(&r, &w, address, length, hop);
+    return r;
+}
+
+toggleash_update toggleash_withdraw(uint32_t *words, size_t n, uint32_t address, uint32_t length) {
+    toggleash_update r;
+    slice w = of(words, n);
+    proved_withdraw(&r, &w, address, length);
+    return r;
+}
+
+toggleash_written toggleash_write_out(const uint32_t *words, size_t n, uint8_t *buffer, size_t room) {
+    toggleash_written r;
+    slice w = of(words, n), b = of(buffer, room);
+    proved_write_out(&r, &w, &b);
+    return r;
+}
+
+toggleash_ran toggleash_run(uint32_t *words, size_t n, const uint8_t *feed, size_t feed_len, uint8_t *reply,
+                            size_t reply_len) {
+    toggleash_ran r;
+    slice w = of(words, n), f = of(feed, feed_len), p = of(reply, reply_len);
+    proved_run(&r, &w, &f, &p);
+    return r;
+}
+
+toggleash_needed toggleash_copy_need(const uint8_t *bytes, size_t bytes_len) {
+    toggleash_needed r;
+    slice b = of(bytes, bytes_len);
+    proved_copy_need(&r, &b);
+    return r;
+}
+
+toggleash_built toggleash_copy_build(const uint8_t *bytes, size_t bytes_len, uint32_t *words, size_t n) {
+    toggleash_built r;
+    slice b = of(bytes, bytes_len), w = of(words, n);
+    proved_copy_build(&r, &b, &w);
+    return r;
+}
+
+toggleash_answer toggleash_copy_lookup(const uint32_t *words, size_t n, uint32_t address) {
+    toggleash_answer r;
+    slice w = of(words, n);
+    proved_copy_lookup(&r, &w, address);
+    return r;
+}

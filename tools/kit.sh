@@ -1,0 +1,34 @@
+# shellcheck shell=sh disable=SC2154
+# For scripts to source, with `root` set to the repository's folder: the Rattle kit, proving, and a stop in one line.
+
+# Ends the script with one line on standard error.
+stop() {
+    echo "$(basename "$0"): $*" >&2
+    exit 1
+}
+
+# Sets `processor`, `kit`, the folder of the Rattle kit, and `toolchain`, the part of it that compiles on this processor.
+find_kit() {
+    processor=$(uname -m)
+    command -v rt > /dev/null || stop "no Rattle kit: rt is not on the PATH"
+    kit=$(rt doc) || stop "the Rattle kit is not whole"
+    kit=${kit%/docs/*}
+    toolchain=$kit/on/$processor/toolchain
+    [ -x "$toolchain/bin/clang" ] || stop "the Rattle kit in $kit has no compiler for this processor, $processor"
+}
+
+# Proves a crate and what it stands on, and says so where that takes longer than a moment. What rt says goes to a file.
+prove() { # CRATE FILE
+    (
+        sleep 5 > /dev/null 2>&1
+        ! kill -0 $$ 2> /dev/null || echo "$(basename "$0"): proving the crates that $1 stands on; the first time this takes minutes" >&2
+    ) &
+    timer=$!
+    proved=yes
+    (cd "$root" && rt check "$1") > "$2" 2>&1 < /dev/null || proved=no
+    kill "$timer" 2> /dev/null || true
+    wait "$timer" 2> /dev/null || true
+    [ "$proved" = yes ] && return
+    cat "$2" >&2
+    stop "$1 is not proved"
+}
