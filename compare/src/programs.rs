@@ -18,7 +18,7 @@ pub fn compare(random: &mut Random, case: usize, proved: &str, reference: &str) 
     let feed = program_feed(random, length);
     // A program must not take the first part of a pipe's bytes for all of them.
     let cut = random.chance(5).then(|| random.below(length + 1));
-    let (ours, theirs) = (output(proved, &feed, cut)?, output(reference, &feed, cut)?);
+    let (ours, theirs) = (output(linked(proved), &feed, cut)?, output(Command::new(reference), &feed, cut)?);
     if ours == theirs {
         return Ok(ours.iter().filter(|&&byte| byte == b'\n').count());
     }
@@ -30,8 +30,8 @@ pub fn compare(random: &mut Random, case: usize, proved: &str, reference: &str) 
     })
 }
 
-/// The program, under the emulator that TOGGLEASH_RUNNER names where there is one.
-fn command(program: &str) -> Command {
+/// The proved program, under the runner that TOGGLEASH_RUNNER names where it names one: the kit builds for one processor.
+fn linked(program: &str) -> Command {
     let Some(runner) = env::var_os("TOGGLEASH_RUNNER").filter(|runner| !runner.is_empty()) else {
         return Command::new(program);
     };
@@ -40,9 +40,10 @@ fn command(program: &str) -> Command {
     command
 }
 
-fn output(program: &str, feed: &[u8], cut: Option<usize>) -> Result<Vec<u8>, String> {
+fn output(mut command: Command, feed: &[u8], cut: Option<usize>) -> Result<Vec<u8>, String> {
+    let program = format!("{command:?}");
     let told = |error: std::io::Error| format!("{program}: {error}");
-    let mut child = command(program).stdin(Stdio::piped()).stdout(Stdio::piped()).spawn().map_err(told)?;
+    let mut child = command.stdin(Stdio::piped()).stdout(Stdio::piped()).spawn().map_err(told)?;
     let mut input = child.stdin.take().expect("it is piped");
     let (first, rest) = feed.split_at(cut.unwrap_or(feed.len()));
     let send = move || {
