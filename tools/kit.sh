@@ -20,7 +20,7 @@ find_kit() {
 # Proves a crate and what it stands on, and says so where that takes longer than a moment. What rt says goes to a file.
 prove() { # CRATE FILE
     (
-        sleep 5 > /dev/null 2>&1
+        sleep 10 > /dev/null 2>&1
         ! kill -0 $$ 2> /dev/null || echo "$(basename "$0"): proving the crates that $1 stands on; the first time this takes minutes" >&2
     ) &
     timer=$!
