@@ -163,6 +163,15 @@ fn report(answer: feed::Ran) -> Ran
 
 // ---- the calls
 
+// The version is in the name, so that a caller made for another one does not link (bindings/c/toggleash.h). It rises with any
+// change that such a caller would not notice: of a call, of its answer, or of what words are a table or a copy.
+#[no_mangle]
+pub extern "C" fn toggleash_version_1() -> u32
+    ensures { λ r. ⌜ r ≡ 1 ⌝ }
+{
+    1
+}
+
 #[no_mangle]
 pub extern "C" fn toggleash_clear(words: &mut [u32]) -> u32
     ensures { λ r. ⌜ Clears (now (words .entry)) (now (words .exit)) r ⌝ }
