@@ -3,13 +3,22 @@
 #include <stdio.h>
 #include "toggleash.h"
 
-static uint32_t words[TOGGLEASH_WORDS(7)];
+static uint32_t words[TOGGLEASH_WORDS(7)]; /* the router lends them; 7 arrays */
 
 int main(void) {
-    size_t n = TOGGLEASH_WORDS(7);
-    toggleash_clear(words, n);
-    toggleash_update done = toggleash_announce(words, n, 0x0A000000, 8, 1);
-    toggleash_answer found = toggleash_lookup(words, n, 0x0A010509);
-    printf("10.0.0.0/8 takes %u cell; 10.1.5.9 goes via %u, length %u\n", done.cells, found.hop, found.length);
-    return found.found ? 0 : 1;
+    toggleash_table table = TOGGLEASH_TABLE(words);
+    uint32_t refusal = toggleash_table_clear(table);
+    if (!refusal) {
+        toggleash_update done = toggleash_table_announce(table, 0x0A000000, 8, 1);
+        printf("10.0.0.0/8 via %u takes %u cell\n", done.hop, done.cells);
+        refusal = done.refusal;
+    }
+    if (!refusal) {
+        toggleash_answer found = toggleash_table_find(table, 0x0A010509);
+        printf("10.1.5.9 goes via %u, length %u\n", found.hop, found.length);
+        refusal = found.refusal;
+    }
+    if (refusal)
+        fprintf(stderr, "refused %u: %s\n", refusal, toggleash_refusal_text(refusal));
+    return refusal != 0;
 }

@@ -1,6 +1,7 @@
-/* Calls every function from C and compares each field, so that the header and the archive are known to agree. Prints
- * what differs and returns 1 on any difference. */
+/* Calls every function from C, or from C++, and compares each field, so that the header and the archive are known to
+ * agree. Prints what differs and returns 1 on any difference. */
 #include <stdio.h>
+#include <stdlib.h>
 #include <string.h>
 #include "toggleash.h"
 
@@ -85,7 +86,9 @@ static void updates(void) {
 
 static void bytes(void) {
     static const uint8_t list[9] = {1, 0x0A, 1, 1, 0x80, 25, 0xFF, 0xFF, 0};
-    static const uint8_t feed[7] = {2, 0x0A, 1, 1, 0x80, 25, 0};
+    static const uint8_t feed[7] = {TOGGLEASH_KIND_WITHDRAW, 0x0A, 1, 1, 0x80, 25, TOGGLEASH_KIND_END};
+    static const uint8_t replied[6] = {TOGGLEASH_KIND_DONE, 0xFF, 0xFF, 0, 128, 0xEE};
+    static const uint64_t taken[4] = {7, TOGGLEASH_REPLY_MOST, 1, 0}, again[4] = {7, 2, 0, 1};
     uint8_t buffer[10], reply[6];
     memset(buffer, 0xEE, sizeof buffer);
     memset(reply, 0xEE, sizeof reply);
@@ -94,14 +97,13 @@ static void bytes(void) {
     written("write out", toggleash_write_out(words, ROOM, buffer, sizeof buffer), 0, 9);
     same("list", 0, (uint64_t)memcmp(buffer, list, sizeof list));
     same("rest kept", 0xEE, buffer[9]);
-    ran("run", toggleash_run(words, ROOM, feed, sizeof feed, reply, sizeof reply), 0, 0, (uint64_t[]){7, 5, 1, 0});
-    same("reply", 0, (uint64_t)memcmp(reply, (uint8_t[]){16, 0xFF, 0xFF, 0, 128, 0xEE}, sizeof reply));
-    ran("run again", toggleash_run(words, ROOM, feed, sizeof feed, reply, sizeof reply), 0, 0,
-        (uint64_t[]){7, 2, 0, 1});
+    ran("run", toggleash_run(words, ROOM, feed, sizeof feed, reply, sizeof reply), 0, TOGGLEASH_STOP_END, taken);
+    same("reply", 0, (uint64_t)memcmp(reply, replied, sizeof reply));
+    ran("run again", toggleash_run(words, ROOM, feed, sizeof feed, reply, sizeof reply), 0, TOGGLEASH_STOP_END, again);
 }
 
 static void nothing(void) {
-    static const uint64_t zeros[4];
+    static const uint64_t zeros[4] = {0, 0, 0, 0};
     ran("run, null feed", toggleash_run(words, ROOM, NULL, 0, NULL, 0), 0, 1, zeros);
     written("write out, null", toggleash_write_out(words, ROOM, NULL, 0), 9, 0);
     same("clear, null", 1, toggleash_clear(NULL, 0));
@@ -122,6 +124,10 @@ static void nothing(void) {
 static const uint8_t sample[25] = {1, 10, 0, 0, 0, 8,  0,    1,    1, 10, 1, 0, 0, 20, 0, 3,
                                    1, 10, 1, 4, 0, 22, 0xFF, 0xFF, 0};
 #define NEED 1056
+
+/* The default route alone. */
+static const uint8_t alone[TOGGLEASH_WRITTEN_BYTES(1)] = {TOGGLEASH_KIND_ANNOUNCE, 0, 0, 0, 0, 0, 0, 7,
+                                                          TOGGLEASH_KIND_END};
 
 static uint32_t copy[NEED + 2];
 
@@ -146,7 +152,7 @@ static void copies(void) {
     answer("copy lookup, next box out", toggleash_copy_lookup(copy, NEED + 2, 0x0A010809), 0, 1, 3, 20);
     answer("copy lookup, by the marker", toggleash_copy_lookup(copy, NEED, 0x0A011000), 0, 1, 1, 8);
     answer("copy lookup, none", toggleash_copy_lookup(copy, NEED, 0x0B000000), 0, 0, 0, 0);
-    built("build, default", toggleash_copy_build((uint8_t[]){1, 0, 0, 0, 0, 0, 0, 7, 0}, 9, copy, 1032), 0, 1, 0);
+    built("build, default", toggleash_copy_build(alone, sizeof alone, copy, 1032), 0, 1, 0);
     answer("copy lookup, default", toggleash_copy_lookup(copy, 1032, 0xFFFFFFFF), 0, 1, 7, 0);
     built("build, empty list", toggleash_copy_build(sample + 24, 1, copy, 1024), 0, 0, 0);
     answer("copy lookup, empty list", toggleash_copy_lookup(copy, 1024, 0x0A010509), 0, 0, 0, 0);
@@ -174,12 +180,72 @@ static void no_copies(void) {
     answer("copy lookup, default with a length", toggleash_copy_lookup(copy, 1024, 1), 2, 0, 0, 0);
 }
 
+/* Each call on a table does what the archive's does on its words. */
+static void tables(void) {
+    static const uint64_t taken[4] = {9, 5, 1, 0};
+    toggleash_table table = TOGGLEASH_TABLE(words);
+    uint8_t list[TOGGLEASH_WRITTEN_BYTES(2)], reply[TOGGLEASH_REPLY_MOST];
+    same("words of a table", ROOM, table.n);
+    same("clear table", 0, toggleash_table_clear(table));
+    ran("run table", toggleash_table_run(table, alone, sizeof alone, reply, sizeof reply), 0, TOGGLEASH_STOP_END, taken);
+    update("announce table", toggleash_table_announce(table, 0x0A000000, 8, TOGGLEASH_MOST_HOP), 0, 65535, 1);
+    update("announce table, stray bit", toggleash_table_announce(table, 0x0A000001, 8, 1), TOGGLEASH_STRAY_BIT, 0, 0);
+    counts("check table", toggleash_table_check(table), 0, 2, 1);
+    answer("find in table", toggleash_table_find(table, 0x0A010509), 0, 1, 65535, 8);
+    written("write table", toggleash_table_write(table, list, sizeof list), 0, sizeof list);
+    written("write table, short", toggleash_table_write(table, list, sizeof list - 1), TOGGLEASH_BUFFER_SHORT, 0);
+    update("withdraw table", toggleash_table_withdraw(table, 0x0A000000, 8), 0, 65535, 1);
+    update("withdraw table, not held", toggleash_table_withdraw(table, 0x0A000000, 8), TOGGLEASH_NOT_HELD, 0, 0);
+    toggleash_needed need = toggleash_copy_need(list, sizeof list);
+    needed("need of two", need, 0, TOGGLEASH_COPY_LEAST_WORDS + 16);
+    built("make copy", toggleash_copy_make(TOGGLEASH_COPY(copy), list, sizeof list), 0, 2, 0);
+    answer("find in copy", toggleash_copy_find(TOGGLEASH_COPY(copy), 0x0A010509), 0, 1, 65535, 8);
+    toggleash_copy in_part = toggleash_copy_at(copy, need);
+    same("words of a copy", need.words, in_part.n);
+    answer("find in copy of the need", toggleash_copy_find(in_part, 0xFFFFFFFF), 0, 1, 7, 0);
+    in_part.n--;
+    built("make copy, a word short", toggleash_copy_make(in_part, list, sizeof list), TOGGLEASH_BUFFER_SHORT, 0, 0);
+}
+
+/* Lent memory whose size is not in a type: by arrays, or by the need. */
+static void sizes(void) {
+    toggleash_table whole = toggleash_table_at(words, 4);
+    same("words of 4 arrays", ROOM, whole.n);
+    same("clear 4 arrays", 0, toggleash_table_clear(whole));
+    same("no array", TOGGLEASH_WORD_COUNT, toggleash_table_clear(toggleash_table_at(words, 0)));
+    same("bytes for arrays", TOGGLEASH_WORD_COUNT, toggleash_table_clear(toggleash_table_at(words, sizeof words)));
+    same("most arrays", TOGGLEASH_MOST_WORDS, toggleash_table_at(words, TOGGLEASH_MOST_ARRAYS).n);
+    same("an array too many", 0, toggleash_table_at(words, TOGGLEASH_MOST_ARRAYS + 1).n);
+    same("least words", TOGGLEASH_LEAST_WORDS, TOGGLEASH_WORDS(1));
+    uint32_t(*lent)[TOGGLEASH_WORDS(1)] = (uint32_t(*)[TOGGLEASH_WORDS(1)])malloc(sizeof *lent);
+    if (lent == NULL)
+        abort();
+    toggleash_table one = TOGGLEASH_TABLE(*lent);
+    same("clear a whole array", 0, toggleash_table_clear(one));
+    update("one array", toggleash_table_announce(one, 0x0A000000, 9, 1), TOGGLEASH_NO_ROOM, 0, 0);
+    free(lent);
+}
+
+static void texts(void) {
+    same("version", TOGGLEASH_VERSION, toggleash_version_1());
+    for (uint32_t i = 0; i <= 10; i++) {
+        int none = strcmp(toggleash_refusal_text(i), toggleash_refusal_text(6)) == 0;
+        same("text of a refusal", i == 6 || i == 10, (uint64_t)none);
+        none = strcmp(toggleash_stop_text(i), toggleash_stop_text(5)) == 0;
+        same("text of a stop", i > 4, (uint64_t)none);
+    }
+    same("text of no room", 0, (uint64_t)strcmp(toggleash_refusal_text(8), "the table has no room for the route"));
+}
+
 int main(void) {
     updates();
     bytes();
     nothing();
     copies();
     no_copies();
+    tables();
+    sizes();
+    texts();
     printf("%u fields compared, %u differ\n", compared, differing);
     return differing != 0;
 }

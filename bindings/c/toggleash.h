@@ -1,37 +1,38 @@
 /* Toggleash: an IPv4 route table in 32-bit words that the caller lends. Every call checks its input and either answers
- * or refuses by a number; a refused call has changed nothing lent. Link with libtoggleash.a.
+ * or refuses by a number; a refused call has changed nothing lent. Link with libtoggleash.a. C11 or C++11 and later.
  *
- * Words. A table of A arrays, A from 1 to 4,096, takes n = 1,024 * (A + 1) words; n counts words, not bytes. The words
- * are the whole state: there is nothing to open or close, and they can be copied or moved. Start with toggleash_clear.
+ *     static uint32_t words[TOGGLEASH_WORDS(7)];
+ *     toggleash_table table = TOGGLEASH_TABLE(words);
  *
- * Copies. A line card that only looks up can have a copy of a route list, in words of its own that are no table: build
- * it from the bytes that toggleash_write_out wrote, in as many words as toggleash_copy_need tells or more, and read it
- * with toggleash_copy_lookup. Any number of words may be lent to these calls: none of them refuses by 1.
+ *     if (toggleash_table_clear(table)) ..
  *
- * Addresses, hops. An address is a number, a.b.c.d being a * 2^24 + b * 2^16 + c * 2^8 + d. A hop is from 1 to 65,535.
+ * Words. A table of A arrays, A from 1 to 4,096, takes 1,024 * (A + 1) words of 32 bits: TOGGLEASH_WORDS(A). The words
+ * are the whole state: there is nothing to open or close, and they can be moved, or copied to where they go on as a
+ * table of their own. They are in the byte order of the machine: to hand routes to another machine write them out,
+ * which gives bytes that are the same everywhere. Start with toggleash_table_clear.
  *
- * Pointers. Each pointer must lead to as many elements as the length beside it says, for as long as the call lasts;
- * words must be aligned as uint32_t is. With length 0 a pointer is never followed and may be null. With any other
- * length it must not be null: that, and a length larger than what is lent, no call can notice, but for a number of
- * words that is refused by 1, where no word is read. The parts lent to one call must not overlap. What is lent through
- * a pointer to const is not changed.
+ * Tables and copies. A line card that only looks up can have a copy of a route list, in words of its own that are no
+ * table: make it from the bytes that were written out, in as many words as toggleash_copy_need tells or more. The
+ * structs toggleash_table and toggleash_copy say where the words are and how many, so that one kind cannot be handed in
+ * for the other, nor a size in bytes for a number of words.
  *
- * Threads. Calls on the same words may go on at once only where all of them take const words.
+ * Addresses, hops. An address is a number, a.b.c.d being a * 2^24 + b * 2^16 + c * 2^8 + d. A hop is from 1 to 65,535,
+ * and what it stands for is the caller's matter.
  *
- * Refusals. `refusal` is 0 where the call answered. Else it is one of these numbers, and all other fields are 0:
+ * Feeds. What the bytes of a feed, of its replies and of a written list are: docs/FEED.md.
  *
- *   1  n is not a multiple of 1,024 from 2,048 to 4,195,328
- *   2  the words are not a table; from lookup: the walk met a value that no table holds; from a copy's need and build:
- *      the bytes are not one whole written-out list of a table, of any room; from a copy's lookup: the words are fewer
- *      than 1,024, or the walk met a number outside its range
- *   3  length is over 32
- *   4  a bit of the address after the first `length` is set
- *   5  hop is 0 or over 65,535
- *   7  the prefix is not held
- *   8  the prefix is not held, and the list with the route added needs more arrays than the words have
- *   9  the buffer is too short for the written list; from a copy's build: the words are fewer than the copy needs
+ * Pointers. Each pointer must lead to as many elements as the length beside it says, for as long as the call lasts.
+ * Words must be aligned as uint32_t is, also where they are a part of other memory: where a processor cannot read a word
+ * at every address, as most MIPS cannot, each such read is a trap. With length 0 a pointer is never followed and may be
+ * null. With any other length it must not be null: that, and a length larger than what is lent, no call can notice, but
+ * for a number of words that is refused by 1, where no word is read. The parts lent to one call must not overlap. What
+ * is lent through a pointer to const is not changed.
  *
- * There is no 6. Where several apply, the first in this order is given: 1, 3, 4, 5, 2, 7, 8 or 9.
+ * Threads. Calls on the same words may go on at once only where none of them changes words: check, find and write do
+ * not, clear, announce, withdraw, run and make do. bindings/c/swap.c looks up beside updates, with two tables.
+ *
+ * Time. A single announcement or withdrawal tests the whole table first, which takes milliseconds at 4,096 arrays. A run
+ * tests it once: hand many updates over as one feed, and each takes some tens of nanoseconds. docs/MEASURED.md.
  */
 #ifndef TOGGLEASH_H
 #define TOGGLEASH_H
@@ -43,8 +44,101 @@
 extern "C" {
 #endif
 
+/* ---- Numbers */
+
+/* Refusals: the field `refusal` is 0 where the call answered. Else it is one of these, and all other fields are 0.
+ * Where several apply, the first in this order is given: 1, 3, 4, 5, 2, 7, 8 or 9. There is no 6. */
+enum {
+    TOGGLEASH_WORD_COUNT = 1,   /* the number of words is not a multiple of 1,024 from 2,048 to 4,195,328 */
+    TOGGLEASH_NOT_A_TABLE = 2,  /* the words are not a table. A lookup does not test that; it gives 2 where its walk
+                                   meets a hop whose length is over 32, a link to an array that the words do not have,
+                                   or a link at the last of the four levels (docs/LAYOUT.md).
+                                   From toggleash_copy_need and making a copy: the bytes are not one whole written-out
+                                   list of a table, of any room. From a lookup in a copy: the words are fewer than
+                                   1,024, or its walk meets a best match, the place of a hash table or the mark of an
+                                   entry that no copy has (docs/COPY.md) */
+    TOGGLEASH_LENGTH_OVER_32 = 3,
+    TOGGLEASH_STRAY_BIT = 4,    /* a bit of the address after the first `length` is set */
+    TOGGLEASH_HOP_OUT_OF_RANGE = 5, /* the hop is 0 or over 65,535 */
+    TOGGLEASH_NOT_HELD = 7,     /* no route of this prefix is there to withdraw */
+    TOGGLEASH_NO_ROOM = 8,      /* the prefix is not held, and the routes with it need more arrays than the words have */
+    TOGGLEASH_BUFFER_SHORT = 9  /* the buffer is too short for the written list; from making a copy: the words are fewer
+                                   than it needs */
+};
+
+/* Why a run stopped. */
+enum {
+    TOGGLEASH_STOP_END = 0,     /* an end record */
+    TOGGLEASH_STOP_NO_BYTE = 1, /* no byte of the feed left */
+    TOGGLEASH_STOP_KIND = 2,    /* a kind that is not 0 to 3 */
+    TOGGLEASH_STOP_BODY = 3,    /* a record whose body is short */
+    TOGGLEASH_STOP_REPLY = 4    /* fewer than TOGGLEASH_REPLY_MOST reply bytes free */
+};
+
+/* The first byte of a record, and of a reply. */
+enum {
+    TOGGLEASH_KIND_END = 0,
+    TOGGLEASH_KIND_ANNOUNCE = 1, /* address 4 bytes, length 1, hop 2 */
+    TOGGLEASH_KIND_WITHDRAW = 2, /* address 4, length 1 */
+    TOGGLEASH_KIND_LOOKUP = 3,   /* address 4 */
+    TOGGLEASH_KIND_DONE = 16,    /* hop 2, cells 2 */
+    TOGGLEASH_KIND_FOUND = 17,   /* hop 2, length 1 */
+    TOGGLEASH_KIND_NONE = 18,
+    TOGGLEASH_KIND_REFUSED = 19  /* refusal 1 */
+};
+
+/* Limits. */
+enum {
+    TOGGLEASH_MOST_ARRAYS = 4096,
+    TOGGLEASH_LEAST_WORDS = 2048,
+    TOGGLEASH_MOST_WORDS = 4195328,
+    TOGGLEASH_COPY_LEAST_WORDS = 1024, /* a copy of no route */
+    TOGGLEASH_MOST_LENGTH = 32,
+    TOGGLEASH_MOST_HOP = 65535,
+    TOGGLEASH_MOST_CELLS = 256,
+    TOGGLEASH_RECORD_MOST = 8,         /* bytes of the longest record of a feed */
+    TOGGLEASH_REPLY_MOST = 5           /* bytes of the longest reply: so many a record are always enough */
+};
+
 /* The words of a table of so many arrays. */
 #define TOGGLEASH_WORDS(arrays) ((size_t)1024 * ((size_t)(arrays) + 1))
+
+/* The bytes of a written-out list of so many routes. */
+#define TOGGLEASH_WRITTEN_BYTES(routes) ((size_t)8 * (size_t)(routes) + 1)
+
+/* ---- The version
+ *
+ * It rises with any change that a caller would not notice else, and the archive has it as the name of a function. Each
+ * file that includes this header keeps a pointer to that function, four or eight bytes: so a program whose header and
+ * archive are of two versions does not link, `undefined reference to toggleash_version_..`. */
+#define TOGGLEASH_VERSION 1
+uint32_t toggleash_version_1(void); /* returns 1 */
+
+#if defined(__GNUC__)
+#if defined(__has_attribute)
+#if __has_attribute(retain) && defined(__ELF__)
+#define TOGGLEASH_KEPT_ __attribute__((used, retain)) /* by the linker too, where it drops what is not used */
+#endif
+#endif
+#ifndef TOGGLEASH_KEPT_
+#define TOGGLEASH_KEPT_ __attribute__((used))
+#endif
+#pragma GCC diagnostic push
+#pragma GCC diagnostic ignored "-Wattributes" /* a compiler may know the word and not its assembler */
+static uint32_t (*const toggleash_version_linked_)(void) TOGGLEASH_KEPT_ = toggleash_version_1;
+#pragma GCC diagnostic pop
+#endif
+
+/* An answer that is thrown away is a refusal not seen. */
+#if defined(__GNUC__)
+#define TOGGLEASH_ANSWER __attribute__((warn_unused_result))
+#elif defined(__cplusplus) && __cplusplus >= 201703L || defined(__STDC_VERSION__) && __STDC_VERSION__ >= 202311L
+#define TOGGLEASH_ANSWER [[nodiscard]]
+#else
+#define TOGGLEASH_ANSWER
+#endif
+
+/* ---- Answers */
 
 /* What the check counts. */
 typedef struct {
@@ -78,7 +172,7 @@ typedef struct {
 /* What a run did. */
 typedef struct {
     uint32_t refusal;  /* 0, 1 or 2 */
-    uint32_t stop;     /* 0 end, 1 no byte left, 2 kind not 0 to 3, 3 body short, 4 fewer than 5 reply bytes free */
+    uint32_t stop;     /* TOGGLEASH_STOP_END .. TOGGLEASH_STOP_REPLY */
     uint64_t consumed; /* feed bytes taken; a record that stops the run is not, the end is */
     uint64_t written;  /* reply bytes written */
     uint64_t accepted; /* updates accepted */
@@ -91,52 +185,192 @@ typedef struct {
     uint64_t words;   /* 8 * (routes + markers) + 1,024 */
 } toggleash_needed;
 
-/* What a build counts. */
+/* What making a copy counts. */
 typedef struct {
     uint32_t refusal; /* 0, 2 or 9 */
     uint64_t routes;  /* routes of the list, the default route included */
     uint64_t markers; /* distinct entries beside the routes, which lead a search to longer ones */
 } toggleash_built;
 
+/* ---- The calls of the archive, with words as a pointer and their number
+ *
+ * For other languages, and for words that are const. In C and C++ the calls on structs below are safer: here nothing
+ * sees that n is a number of words and not of bytes, nor that the words are meant as a table and not as a copy. */
+
 /* Makes the words the table of no route, whatever they hold. Returns 0, or 1. */
-uint32_t toggleash_clear(uint32_t *words, size_t n);
+TOGGLEASH_ANSWER uint32_t toggleash_clear(uint32_t *words, size_t n);
 
 /* Tests whether the words are a table and counts. Refuses by 1 or 2. */
-toggleash_counts toggleash_check(const uint32_t *words, size_t n);
+TOGGLEASH_ANSWER toggleash_counts toggleash_check(const uint32_t *words, size_t n);
 
 /* Finds the longest match. Refuses by 1. Does not test the table: on words that are none it reads inside them and gives
  * what its walk gives, or 2. */
-toggleash_answer toggleash_lookup(const uint32_t *words, size_t n, uint32_t address);
+TOGGLEASH_ANSWER toggleash_answer toggleash_lookup(const uint32_t *words, size_t n, uint32_t address);
 
 /* Adds a route, or gives a held prefix this hop, for which there is always room. Refuses by 1, 3, 4, 5, 2 or 8. Any length
  * and hop may be given. */
-toggleash_update toggleash_announce(uint32_t *words, size_t n, uint32_t address, uint32_t length, uint32_t hop);
+TOGGLEASH_ANSWER toggleash_update toggleash_announce(uint32_t *words, size_t n, uint32_t address, uint32_t length,
+                                                     uint32_t hop);
 
 /* Removes a route. Refuses by 1, 3, 4, 2 or 7. Any length may be given. */
-toggleash_update toggleash_withdraw(uint32_t *words, size_t n, uint32_t address, uint32_t length);
+TOGGLEASH_ANSWER toggleash_update toggleash_withdraw(uint32_t *words, size_t n, uint32_t address, uint32_t length);
 
 /* Writes the routes as a feed of announcements and an end to the front of the buffer; the rest stays. Refuses by 1, 2
- * or 9. 8 * routes + 1 bytes, by toggleash_check, are enough and no fewer. A buffer of 0 bytes is always refused. */
-toggleash_written toggleash_write_out(const uint32_t *words, size_t n, uint8_t *buffer, size_t room);
+ * or 9. TOGGLEASH_WRITTEN_BYTES(routes), by the check, are enough and no fewer. A buffer of 0 bytes is always refused. */
+TOGGLEASH_ANSWER toggleash_written toggleash_write_out(const uint32_t *words, size_t n, uint8_t *buffer, size_t room);
 
 /* Takes the records of a feed in order and writes a reply to each but the end; reply bytes past `written` stay. Refuses
  * by 1 or 2, before any record. A refused record is replied to and the run goes on. Feed and reply may have 0 bytes. */
-toggleash_ran toggleash_run(uint32_t *words, size_t n, const uint8_t *feed, size_t feed_len, uint8_t *reply,
-                            size_t reply_len);
+TOGGLEASH_ANSWER toggleash_ran toggleash_run(uint32_t *words, size_t n, const uint8_t *feed, size_t feed_len,
+                                             uint8_t *reply, size_t reply_len);
 
 /* Counts the words that a copy of a written-out list needs. Refuses by 2 exactly where the bytes, all of them, are not
  * what toggleash_write_out writes for some table: records of routes in order, the end, nothing after it. 0 bytes, which
  * may be null, are no list; the empty list is one byte 0. */
-toggleash_needed toggleash_copy_need(const uint8_t *bytes, size_t bytes_len);
+TOGGLEASH_ANSWER toggleash_needed toggleash_copy_need(const uint8_t *bytes, size_t bytes_len);
 
 /* Makes the words a copy of the list, whatever they hold; words past those needed stay. Refuses by 2 as
- * toggleash_copy_need does, then by 9; a refused build has changed no word. The bytes are not needed afterwards. */
-toggleash_built toggleash_copy_build(const uint8_t *bytes, size_t bytes_len, uint32_t *words, size_t n);
+ * toggleash_copy_need does, then by 9; a refused build has changed no word. The bytes are not needed afterwards. Any
+ * number of words may be lent: neither this call nor the next refuses by 1. */
+TOGGLEASH_ANSWER toggleash_built toggleash_copy_build(const uint8_t *bytes, size_t bytes_len, uint32_t *words, size_t n);
 
 /* Finds the longest match in a copy. n may be any number from the need on, whatever stands in the words past it. Does
  * not test the copy: on words that are none it reads inside them and gives what its walk gives (docs/COPY.md), or 2.
  * With fewer than 1,024 words, null and 0 too, it always gives 2. */
-toggleash_answer toggleash_copy_lookup(const uint32_t *words, size_t n, uint32_t address);
+TOGGLEASH_ANSWER toggleash_answer toggleash_copy_lookup(const uint32_t *words, size_t n, uint32_t address);
+
+/* ---- Tables and copies */
+
+/* Words that are a table, or are to become one by toggleash_table_clear, and their number. */
+typedef struct {
+    uint32_t *words;
+    size_t n;
+} toggleash_table;
+
+/* Words that are a copy of a route list, or are to become one by toggleash_copy_make, and their number. */
+typedef struct {
+    uint32_t *words;
+    size_t n;
+} toggleash_copy;
+
+/* TOGGLEASH_TABLE(array) and TOGGLEASH_COPY(array) make one of an array of uint32_t. Anything else does not compile: a
+ * pointer, an array of other elements, and for a table an array of a number of words that no table has. Where p points
+ * to a whole array, `uint32_t (*p)[TOGGLEASH_WORDS(7)]`, it is TOGGLEASH_TABLE(*p). */
+#define TOGGLEASH_FITS_(n) ((n) % 1024 == 0 && (n) >= TOGGLEASH_LEAST_WORDS && (n) <= TOGGLEASH_MOST_WORDS)
+
+#ifdef __cplusplus
+extern "C++" {
+template <size_t n> constexpr toggleash_table toggleash_table_of_(uint32_t (&words)[n]) {
+    static_assert(TOGGLEASH_FITS_(n), "a table has TOGGLEASH_WORDS(arrays) words");
+    return toggleash_table{words, n};
+}
+template <size_t n> constexpr toggleash_copy toggleash_copy_of_(uint32_t (&words)[n]) {
+    return toggleash_copy{words, n};
+}
+}
+#define TOGGLEASH_TABLE(array) (toggleash_table_of_(array))
+#define TOGGLEASH_COPY(array) (toggleash_copy_of_(array))
+#else
+/* The address of an array is a pointer to an array of so many elements, that of a pointer is not; the length of the type
+ * is one off, and so the type another, where the array is not `right`. */
+#define TOGGLEASH_LENGTH_(array) (sizeof(array) / sizeof((array)[0]))
+#define TOGGLEASH_ARRAY_(array, right)                                                                                   \
+    _Generic(&(array), uint32_t(*)[TOGGLEASH_LENGTH_(array) + !(right)]: TOGGLEASH_LENGTH_(array))
+#define TOGGLEASH_TABLE(array)                                                                                           \
+    ((toggleash_table){(array), TOGGLEASH_ARRAY_(array, TOGGLEASH_FITS_(TOGGLEASH_LENGTH_(array)))})
+#define TOGGLEASH_COPY(array) ((toggleash_copy){(array), TOGGLEASH_ARRAY_(array, 1)})
+#endif
+
+/* A table in lent memory whose size is known at run time only: TOGGLEASH_WORDS(arrays) words. The number is one of
+ * arrays, so that a size in bytes, which is over 4,096 for every table, is refused by 1 in each call. */
+static inline toggleash_table toggleash_table_at(uint32_t *words, uint32_t arrays) {
+    toggleash_table table;
+    table.words = words;
+    table.n = arrays <= TOGGLEASH_MOST_ARRAYS ? TOGGLEASH_WORDS(arrays) : 0;
+    return table;
+}
+
+/* A copy in lent memory of as many words as toggleash_copy_need told. */
+static inline toggleash_copy toggleash_copy_at(uint32_t *words, toggleash_needed need) {
+    toggleash_copy copy;
+    copy.words = words;
+    copy.n = (size_t)need.words;
+    return copy;
+}
+
+/* ---- The calls on tables and copies: as those of the archive. `find` is its lookup, `write` its write_out, `make` its
+ * build. */
+
+TOGGLEASH_ANSWER static inline uint32_t toggleash_table_clear(toggleash_table table) {
+    return toggleash_clear(table.words, table.n);
+}
+
+TOGGLEASH_ANSWER static inline toggleash_counts toggleash_table_check(toggleash_table table) {
+    return toggleash_check(table.words, table.n);
+}
+
+TOGGLEASH_ANSWER static inline toggleash_answer toggleash_table_find(toggleash_table table, uint32_t address) {
+    return toggleash_lookup(table.words, table.n, address);
+}
+
+TOGGLEASH_ANSWER static inline toggleash_update toggleash_table_announce(toggleash_table table, uint32_t address,
+                                                                         uint32_t length, uint32_t hop) {
+    return toggleash_announce(table.words, table.n, address, length, hop);
+}
+
+TOGGLEASH_ANSWER static inline toggleash_update toggleash_table_withdraw(toggleash_table table, uint32_t address,
+                                                                         uint32_t length) {
+    return toggleash_withdraw(table.words, table.n, address, length);
+}
+
+TOGGLEASH_ANSWER static inline toggleash_written toggleash_table_write(toggleash_table table, uint8_t *buffer,
+                                                                       size_t room) {
+    return toggleash_write_out(table.words, table.n, buffer, room);
+}
+
+TOGGLEASH_ANSWER static inline toggleash_ran toggleash_table_run(toggleash_table table, const uint8_t *feed,
+                                                                 size_t feed_len, uint8_t *reply, size_t reply_len) {
+    return toggleash_run(table.words, table.n, feed, feed_len, reply, reply_len);
+}
+
+TOGGLEASH_ANSWER static inline toggleash_built toggleash_copy_make(toggleash_copy copy, const uint8_t *bytes,
+                                                                   size_t bytes_len) {
+    return toggleash_copy_build(bytes, bytes_len, copy.words, copy.n);
+}
+
+TOGGLEASH_ANSWER static inline toggleash_answer toggleash_copy_find(toggleash_copy copy, uint32_t address) {
+    return toggleash_copy_lookup(copy.words, copy.n, address);
+}
+
+/* ---- In words */
+
+/* What a refusal says, for a log. Never null. */
+static inline const char *toggleash_refusal_text(uint32_t refusal) {
+    switch (refusal) {
+    case 0: return "answered";
+    case TOGGLEASH_WORD_COUNT: return "the number of words is not a multiple of 1,024 from 2,048 to 4,195,328";
+    case TOGGLEASH_NOT_A_TABLE: return "the words are not a table or not a copy, or the bytes not a list";
+    case TOGGLEASH_LENGTH_OVER_32: return "the length is over 32";
+    case TOGGLEASH_STRAY_BIT: return "a bit after the length is set";
+    case TOGGLEASH_HOP_OUT_OF_RANGE: return "the hop is 0 or over 65,535";
+    case TOGGLEASH_NOT_HELD: return "the prefix is not held";
+    case TOGGLEASH_NO_ROOM: return "the table has no room for the route";
+    case TOGGLEASH_BUFFER_SHORT: return "the buffer is too short for the written list, or the words for the copy";
+    default: return "no refusal has this number";
+    }
+}
+
+/* What a stop says. Never null. */
+static inline const char *toggleash_stop_text(uint32_t stop) {
+    switch (stop) {
+    case TOGGLEASH_STOP_END: return "end";
+    case TOGGLEASH_STOP_NO_BYTE: return "no byte left";
+    case TOGGLEASH_STOP_KIND: return "the next record's kind is not 0 to 3";
+    case TOGGLEASH_STOP_BODY: return "the next record's body is short";
+    case TOGGLEASH_STOP_REPLY: return "fewer than 5 reply bytes are free";
+    default: return "no stop has this number";
+    }
+}
 
 #ifdef __cplusplus
 }

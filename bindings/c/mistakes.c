@@ -1,0 +1,45 @@
+/* With MISTAKE 0 this compiles, in C11 and C++17; with each other number it must not (must-not-compile, the script). */
+#include "toggleash.h"
+
+static uint32_t words[TOGGLEASH_WORDS(1)], odd[TOGGLEASH_WORDS(1) + 1], card[1040];
+static uint8_t bytes[TOGGLEASH_WORDS(1)], list[1];
+
+uint32_t lent(uint32_t parameter[TOGGLEASH_WORDS(1)], const uint32_t *constant);
+
+uint32_t lent(uint32_t parameter[TOGGLEASH_WORDS(1)], const uint32_t *constant) {
+    toggleash_table table = TOGGLEASH_TABLE(words);
+    toggleash_copy copy = TOGGLEASH_COPY(card);
+    uint32_t *pointer = parameter;
+    uint32_t refusal = toggleash_table_clear(table) + toggleash_copy_make(copy, list, sizeof list).refusal;
+    (void)pointer, (void)constant, (void)odd, (void)bytes;
+#if MISTAKE == 0
+    return refusal;
+#elif MISTAKE == 1 /* a copy is no table */
+    return refusal + toggleash_table_find(copy, 1).hop;
+#elif MISTAKE == 2 /* a table is no copy */
+    return refusal + toggleash_copy_find(table, 1).hop;
+#elif MISTAKE == 3
+    return refusal + toggleash_copy_make(table, list, sizeof list).refusal;
+#elif MISTAKE == 4 /* a number of bytes for one of words */
+    return refusal + toggleash_table_clear(words, sizeof words);
+#elif MISTAKE == 5
+    return refusal + toggleash_copy_make(toggleash_copy_at(card, sizeof card), list, sizeof list).refusal;
+#elif MISTAKE == 6 /* words without their number */
+    return refusal + toggleash_table_clear(words);
+#elif MISTAKE == 7 /* a pointer has no number of words */
+    return refusal + toggleash_table_clear(TOGGLEASH_TABLE(pointer));
+#elif MISTAKE == 8
+    return refusal + toggleash_table_clear(TOGGLEASH_TABLE(parameter));
+#elif MISTAKE == 9
+    return refusal + toggleash_copy_find(TOGGLEASH_COPY(pointer), 1).hop;
+#elif MISTAKE == 10 /* no table has so many words */
+    return refusal + toggleash_table_clear(TOGGLEASH_TABLE(odd));
+#elif MISTAKE == 11 /* other elements */
+    return refusal + toggleash_table_clear(TOGGLEASH_TABLE(bytes));
+#elif MISTAKE == 12 /* words that cannot be changed */
+    return refusal + toggleash_table_clear(TOGGLEASH_TABLE(*(const uint32_t(*)[TOGGLEASH_WORDS(1)])constant));
+#elif MISTAKE == 13 /* a refusal that nobody sees */
+    toggleash_table_announce(table, 0, 0, 1);
+    return refusal;
+#endif
+}
