@@ -1,5 +1,5 @@
-/* A caller in C. From the repository:
- *   cc -Ibindings/c bindings/c/example.c target/staticlib/libtoggleash.a -o target/example && target/example */
+/* A caller in C. After ./build, from the repository:
+ *   cc -Ibindings/c bindings/c/example.c target/native/$(uname -m)/libtoggleash.a -o target/example && target/example */
 #include <stdio.h>
 #include "toggleash.h"
 

@@ -1,8 +1,8 @@
 /* Lookups beside updates: two tables and a swap. Readers look up in the one table while the writer changes the other; then
  * the writer swaps them, waits until no reader is left in the old one, and brings that up to date too. A reader is never
- * kept waiting, and never sees half a feed. From the repository:
+ * kept waiting, and never sees half a feed. After ./build, from the repository:
  *
- *   cc -Ibindings/c bindings/c/swap.c target/staticlib/libtoggleash.a -pthread -o target/swap && target/swap
+ *   cc -Ibindings/c bindings/c/swap.c target/native/$(uname -m)/libtoggleash.a -pthread -o target/swap && target/swap
  *
  * C11 atomics, in sequential order (what atomic_load and atomic_store do by default): a reader says where it is and then
  * looks at `current` again, the writer changes `current` and then looks where the readers are. In any one order of these

@@ -114,7 +114,7 @@ enum {
 #define TOGGLEASH_VERSION 1
 uint32_t toggleash_version_1(void); /* returns 1 */
 
-#if defined(__GNUC__)
+#if defined(__GNUC__) && !defined(TOGGLEASH_ARCHIVE) /* which the archive's own files define */
 #if defined(__has_attribute)
 #if __has_attribute(retain) && defined(__ELF__)
 #define TOGGLEASH_KEPT_ __attribute__((used, retain)) /* by the linker too, where it drops what is not used */

@@ -1,7 +1,7 @@
 //! What the calls answer, and why they refuse.
 
-use std::error::Error;
-use std::fmt;
+use core::error::Error;
+use core::fmt;
 
 /// Why a call refused. A refused call has changed nothing that was lent to it.
 ///
@@ -11,11 +11,12 @@ use std::fmt;
 pub enum Refusal {
     /// 1: the number of words is not a multiple of 1,024 from 2,048 to 4,195,328.
     WordCount = 1,
-    /// 2: the words are not a table; from [`lookup`](crate::lookup): its walk met a value that no table holds.
+    /// 2: the words are not a table. [`lookup`](crate::lookup) does not test that; it gives 2 where its walk meets a hop
+    /// whose length is over 32, a link to an array that the words do not have, or a link at the last of the four levels.
     ///
     /// From [`copy::need`](crate::copy::need) and [`copy::build`](crate::copy::build): the bytes are not one whole
     /// written-out list of a table, of any room. From [`copy::lookup`](crate::copy::lookup): the words are fewer than
-    /// 1,024, or its walk met a number outside its range.
+    /// 1,024, or its walk meets a best match, the place of a hash table or the mark of an entry that no copy has.
     NotATable = 2,
     /// 3: the length is over 32.
     LengthOver32 = 3,
@@ -130,9 +131,23 @@ impl Stop {
         self as u8
     }
 
-    pub(crate) fn from_number(number: u32) -> Option<Stop> {
+    /// The stop of this number.
+    pub fn from_number(number: u32) -> Option<Stop> {
         let all = [Stop::End, Stop::NoByteLeft, Stop::UnknownKind, Stop::BodyShort, Stop::ReplyFull];
         all.into_iter().find(|stop| u32::from(stop.number()) == number)
+    }
+}
+
+impl fmt::Display for Stop {
+    fn fmt(&self, f: &mut fmt::Formatter<'_>) -> fmt::Result {
+        let reason = match self {
+            Stop::End => "end",
+            Stop::NoByteLeft => "no byte left",
+            Stop::UnknownKind => "the next record's kind is not 0 to 3",
+            Stop::BodyShort => "the next record's body is short",
+            Stop::ReplyFull => "fewer than 5 reply bytes are free",
+        };
+        write!(f, "stopped {}: {reason}", self.number())
     }
 }
 

@@ -5,28 +5,26 @@
 //! answers every address as the table does that the list came from.
 //!
 //! ```
-//! use std::net::Ipv4Addr;
-//! use toggleash::{announce, clear, copy, lookup, write_out, Match, Refusal};
+//! use toggleash::{copy, words_for, ListCopy, Match, Table};
 //!
-//! # fn main() -> Result<(), Refusal> {
-//! let mut table = vec![0; toggleash::words_for(7).unwrap()];
-//! clear(&mut table)?;
-//! announce(&mut table, Ipv4Addr::new(10, 0, 0, 0), 8, 1)?;
-//! announce(&mut table, Ipv4Addr::new(10, 1, 4, 0), 22, 2)?;
+//! # fn main() -> Result<(), Box<dyn std::error::Error>> {
+//! let mut table = Table::new(vec![0; words_for(7).unwrap()])?;
+//! table.announce("10.0.0.0/8".parse()?, 1)?;
+//! table.announce("10.1.4.0/22".parse()?, 2)?;
 //!
-//! let mut buffer = [0; 100];
-//! let list = write_out(&table, &mut buffer)?;
-//! let mut words = vec![0; copy::need(list)?];
-//! copy::build(list, &mut words)?;
+//! let mut buffer = [0; toggleash::written_bytes(2)];
+//! let list = table.write_out(&mut buffer)?;
+//! let card = ListCopy::build(list, vec![0; copy::need(list)?])?;
 //!
-//! let address = Ipv4Addr::new(10, 1, 5, 9);
-//! assert_eq!(copy::lookup(&words, address), Ok(Some(Match { hop: 2, length: 22 })));
-//! assert_eq!(copy::lookup(&words, address), lookup(&table, address));
+//! let address = [10, 1, 5, 9].into();
+//! assert_eq!(card.lookup(address), Ok(Some(Match { hop: 2, length: 22 })));
+//! assert_eq!(card.lookup(address), table.lookup(address));
 //! # Ok(())
 //! # }
 //! ```
 
-use std::net::Ipv4Addr;
+use core::fmt;
+use core::net::Ipv4Addr;
 
 use crate::{accepted, count, ffi, matched, Match, Refusal};
 
@@ -87,7 +85,58 @@ pub fn build(bytes: &[u8], words: &mut [u32]) -> Result<Built, Refusal> {
 /// The copy is not tested: on words that are none the call reads inside them and gives what its walk gives.
 ///
 /// # Errors
-/// [`Refusal::NotATable`] where the words are fewer than 1,024 or the walk meets a number outside its range.
+/// [`Refusal::NotATable`] where the words are fewer than 1,024, or the walk meets a best match, the place of a hash table
+/// or the mark of an entry that no copy has.
 pub fn lookup(words: &[u32], address: Ipv4Addr) -> Result<Option<Match>, Refusal> {
     matched(unsafe { ffi::toggleash_copy_lookup(words.as_ptr(), words.len(), address.into()) })
+}
+
+/// Words that are a copy of a route list.
+///
+/// `W` is what the words are kept in: `Vec<u32>`, `Box<[u32]>`, an array, `&mut [u32]`, `&[u32]`.
+#[derive(Clone)]
+pub struct ListCopy<W> {
+    words: W,
+}
+
+impl<W: AsRef<[u32]> + AsMut<[u32]>> ListCopy<W> {
+    /// Makes the words a copy of a written-out list, whatever they hold, see [`build`].
+    ///
+    /// # Errors
+    /// [`Refusal::NotATable`] for bytes that are no list, then [`Refusal::BufferShort`] for fewer words than [`need`] tells.
+    pub fn build(list: &[u8], mut words: W) -> Result<ListCopy<W>, Refusal> {
+        build(list, words.as_mut())?;
+        Ok(ListCopy { words })
+    }
+}
+
+impl<W: AsRef<[u32]>> ListCopy<W> {
+    /// The copy that these words are, as they came from a build. They are not tested: no call does that for a copy.
+    pub fn from_words(words: W) -> ListCopy<W> {
+        ListCopy { words }
+    }
+
+    /// Its words.
+    pub fn words(&self) -> &[u32] {
+        self.words.as_ref()
+    }
+
+    /// What its words are kept in.
+    pub fn into_words(self) -> W {
+        self.words
+    }
+
+    /// The longest match of an address, or none.
+    ///
+    /// # Errors
+    /// [`Refusal::NotATable`] only where the words are no copy, see [`lookup`].
+    pub fn lookup(&self, address: Ipv4Addr) -> Result<Option<Match>, Refusal> {
+        lookup(self.words(), address)
+    }
+}
+
+impl<W: AsRef<[u32]>> fmt::Debug for ListCopy<W> {
+    fn fmt(&self, f: &mut fmt::Formatter<'_>) -> fmt::Result {
+        write!(f, "ListCopy of {} words", self.words().len())
+    }
 }

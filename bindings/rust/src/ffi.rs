@@ -60,7 +60,12 @@ pub struct Built {
     pub markers: u64,
 }
 
+/// Kept in each program, so that an archive of another version does not link.
+#[used]
+static VERSION: unsafe extern "C" fn() -> u32 = toggleash_version_1;
+
 extern "C" {
+    pub fn toggleash_version_1() -> u32;
     pub fn toggleash_clear(words: *mut u32, n: usize) -> u32;
     pub fn toggleash_check(words: *const u32, n: usize) -> Counts;
     pub fn toggleash_lookup(words: *const u32, n: usize, address: u32) -> Answer;

@@ -1,43 +1,45 @@
-//! Safe calls to Toggleash, a proved IPv4 route table in 32-bit words that the caller lends.
+//! Safe calls to Toggleash, a proved IPv4 route table in 32-bit words that the caller lends. `no_std`, no dependencies.
 //!
-//! The words are the whole state. A table of A arrays, A from 1 to 4,096, takes 1,024 × (A + 1) of them:
-//! [`words_for`] tells. Each call takes the words as a slice, checks them and its other input for itself, and answers
+//! The words are the whole state, in the machine's byte order. A table of A arrays, A from 1 to 4,096, takes
+//! 1,024 × (A + 1) of them: [`words_for`] tells. Each call checks the words and its other input for itself, and answers
 //! or gives a [`Refusal`]; a refused call has changed nothing.
 //!
 //! ```
-//! use std::net::Ipv4Addr;
-//! use toggleash::{announce, clear, lookup, withdraw, words_for, Match, Refusal};
+//! use toggleash::{words_for, Match, Table};
 //!
-//! # fn main() -> Result<(), Refusal> {
-//! let mut words = vec![0; words_for(7).unwrap()];
-//! clear(&mut words)?;
-//!
-//! announce(&mut words, Ipv4Addr::new(10, 0, 0, 0), 8, 1)?;
-//! announce(&mut words, Ipv4Addr::new(10, 1, 4, 0), 22, 2)?;
-//! let address = Ipv4Addr::new(10, 1, 5, 9);
-//! assert_eq!(lookup(&words, address)?, Some(Match { hop: 2, length: 22 }));
-//!
-//! // Withdraw one box and its addresses belong to the next box out.
-//! withdraw(&mut words, Ipv4Addr::new(10, 1, 4, 0), 22)?;
-//! assert_eq!(lookup(&words, address)?, Some(Match { hop: 1, length: 8 }));
+//! # fn main() -> Result<(), Box<dyn std::error::Error>> {
+//! let mut table = Table::new(vec![0; words_for(7).unwrap()])?;
+//! table.announce("10.0.0.0/8".parse()?, 1)?;
+//! table.announce("10.1.4.0/22".parse()?, 2)?;
+//! assert_eq!(table.lookup([10, 1, 5, 9].into())?, Some(Match { hop: 2, length: 22 }));
 //! # Ok(())
 //! # }
 //! ```
 //!
-//! A line card that only looks up can have a read-only [`copy`] of a table's routes, in words of its own.
+//! [`Table`] keeps words that are a table, [`ListCopy`] those of a read-only copy of its routes for a line card that only
+//! looks up. [`Record`] and [`Reply`] are the records of a feed and the replies to it. The calls that take slices of words,
+//! here and in [`copy`], are the same ones without these types: any words can be handed to them.
 //!
 //! The archive libtoggleash.a is looked for in `target/staticlib` of the repository, or in the folder that the
 //! environment variable `TOGGLEASH_LIB_DIR` names while this crate is built.
 
+#![no_std]
 #![warn(missing_docs)]
 
-use std::net::Ipv4Addr;
+use core::net::Ipv4Addr;
 
 mod answers;
 pub mod copy;
+mod feed;
 pub mod ffi;
+mod prefix;
+mod table;
 
 pub use answers::{Counts, Match, Ran, Refusal, Stop, Update};
+pub use copy::ListCopy;
+pub use feed::{records, replies, Record, Records, Replies, Reply};
+pub use prefix::{Prefix, PrefixError};
+pub use table::Table;
 
 /// The most arrays that a table can have.
 pub const MOST_ARRAYS: usize = 4_096;
@@ -51,6 +53,16 @@ pub const MOST_ARRAYS: usize = 4_096;
 /// ```
 pub fn words_for(arrays: usize) -> Option<usize> {
     (1..=MOST_ARRAYS).contains(&arrays).then(|| 1_024 * (arrays + 1))
+}
+
+/// The number of bytes in a written-out list of so many routes.
+///
+/// ```
+/// assert_eq!(toggleash::written_bytes(0), 1);
+/// assert_eq!(toggleash::written_bytes(3), 25);
+/// ```
+pub const fn written_bytes(routes: usize) -> usize {
+    8 * routes + 1
 }
 
 // SAFETY of all calls below and in `copy`: a slice's pointer is aligned and leads to as many elements as its length
@@ -90,7 +102,8 @@ pub fn check(words: &[u32]) -> Result<Counts, Refusal> {
 /// The table is not tested: on words that are none the call reads inside them and gives what its walk gives.
 ///
 /// # Errors
-/// [`Refusal::WordCount`]; [`Refusal::NotATable`] where the walk meets a value that no table holds.
+/// [`Refusal::WordCount`]; [`Refusal::NotATable`] where the walk meets a hop whose length is over 32, a link to an array
+/// that the words do not have, or a link at the last of the four levels.
 pub fn lookup(words: &[u32], address: Ipv4Addr) -> Result<Option<Match>, Refusal> {
     matched(unsafe { ffi::toggleash_lookup(words.as_ptr(), words.len(), address.into()) })
 }

@@ -1,0 +1,263 @@
+//! The bytes of feeds and of replies: docs/FEED.md in the repository says what they are.
+
+use core::net::Ipv4Addr;
+
+use crate::{Prefix, Refusal, Stop};
+
+/// A record of a feed.
+///
+/// Any address, length and hop can be sent; those that no route has are replied to by a [`Refusal`].
+///
+/// ```
+/// use toggleash::{Prefix, Record, Stop};
+///
+/// let announce = Record::announce(Prefix::DEFAULT, 258);
+/// let feed: Vec<u8> = announce.bytes().chain(Record::End.bytes()).collect();
+/// assert_eq!(feed, [1, 0, 0, 0, 0, 0, 1, 2, 0]);
+/// assert_eq!(Record::decode(&feed), Ok((announce, &feed[8..])));
+/// assert_eq!(Record::decode(&feed[..7]), Err(Stop::BodyShort));
+/// ```
+#[derive(Clone, Copy, Debug, PartialEq, Eq, Hash)]
+pub enum Record {
+    /// Kind 0: the end.
+    End,
+    /// Kind 1: add a route, or give a held prefix this hop.
+    Announce {
+        /// The prefix's address.
+        address: Ipv4Addr,
+        /// The prefix's length.
+        length: u8,
+        /// The route's hop.
+        hop: u16,
+    },
+    /// Kind 2: remove a route.
+    Withdraw {
+        /// The prefix's address.
+        address: Ipv4Addr,
+        /// The prefix's length.
+        length: u8,
+    },
+    /// Kind 3: find the longest match of an address.
+    Lookup {
+        /// The address.
+        address: Ipv4Addr,
+    },
+}
+
+impl Record {
+    /// The bytes of the longest record.
+    pub const MOST: usize = 8;
+
+    /// An announcement of a route.
+    pub fn announce(prefix: Prefix, hop: u16) -> Record {
+        Record::Announce { address: prefix.address(), length: prefix.length(), hop }
+    }
+
+    /// A withdrawal of a route.
+    pub fn withdraw(prefix: Prefix) -> Record {
+        Record::Withdraw { address: prefix.address(), length: prefix.length() }
+    }
+
+    /// The record's bytes: its kind and its body, the high byte of a number first.
+    pub fn bytes(self) -> impl ExactSizeIterator<Item = u8> + Clone {
+        let body = |kind, address: Ipv4Addr, length, hop: u16| {
+            let ([a, b, c, d], [high, low]) = (address.octets(), hop.to_be_bytes());
+            [kind, a, b, c, d, length, high, low]
+        };
+        match self {
+            Record::End => front([0; 8], 1),
+            Record::Announce { address, length, hop } => front(body(1, address, length, hop), 8),
+            Record::Withdraw { address, length } => front(body(2, address, length, 0), 6),
+            Record::Lookup { address } => front(body(3, address, 0, 0), 5),
+        }
+    }
+
+    /// The first record of a feed, and the bytes after it.
+    ///
+    /// # Errors
+    /// The stop of a run that comes here, but for its reply bytes: [`Stop::NoByteLeft`], [`Stop::UnknownKind`] or
+    /// [`Stop::BodyShort`].
+    pub fn decode(feed: &[u8]) -> Result<(Record, &[u8]), Stop> {
+        let (kind, rest) = feed.split_first().ok_or(Stop::NoByteLeft)?;
+        let short = |_| Stop::BodyShort;
+        match kind {
+            0 => Ok((Record::End, rest)),
+            1 => take(rest).map_err(short).map(|([a, b, c, d, length, high, low], rest)| {
+                let (address, hop) = (Ipv4Addr::new(a, b, c, d), u16::from_be_bytes([high, low]));
+                (Record::Announce { address, length, hop }, rest)
+            }),
+            2 => take(rest).map_err(short).map(|([a, b, c, d, length], rest)| {
+                (Record::Withdraw { address: Ipv4Addr::new(a, b, c, d), length }, rest)
+            }),
+            3 => take(rest)
+                .map_err(short)
+                .map(|(address, rest): ([u8; 4], _)| (Record::Lookup { address: address.into() }, rest)),
+            _ => Err(Stop::UnknownKind),
+        }
+    }
+}
+
+/// The records of a feed up to its stop, an end not given.
+///
+/// ```
+/// use toggleash::{records, Prefix, Record, Stop};
+///
+/// let mut records = records(&[1, 10, 0, 0, 0, 8, 0, 1, 0, 99]);
+/// assert_eq!(records.next(), Some(Record::announce("10.0.0.0/8".parse().unwrap(), 1)));
+/// assert_eq!(records.next(), None);
+/// assert_eq!(records.stop(), Some(Stop::End));
+/// ```
+pub fn records(feed: &[u8]) -> Records<'_> {
+    Records { rest: feed, stop: None }
+}
+
+/// What [`records`] gives.
+#[derive(Clone, Debug)]
+pub struct Records<'a> {
+    rest: &'a [u8],
+    stop: Option<Stop>,
+}
+
+impl Records<'_> {
+    /// Why the records ended; none while there may be more.
+    pub fn stop(&self) -> Option<Stop> {
+        self.stop
+    }
+}
+
+impl Iterator for Records<'_> {
+    type Item = Record;
+
+    fn next(&mut self) -> Option<Record> {
+        if self.stop.is_some() {
+            return None;
+        }
+        match Record::decode(self.rest) {
+            Ok((Record::End, _)) => self.stop = Some(Stop::End),
+            Ok((record, rest)) => {
+                self.rest = rest;
+                return Some(record);
+            }
+            Err(stop) => self.stop = Some(stop),
+        }
+        None
+    }
+}
+
+/// A reply of a run to one record.
+///
+/// ```
+/// use toggleash::{Refusal, Reply};
+///
+/// let bytes = [17, 0, 2, 22, 19, 7];
+/// let (reply, rest) = Reply::decode(&bytes).unwrap();
+/// assert_eq!(reply, Reply::Found { hop: 2, length: 22 });
+/// assert_eq!(Reply::decode(rest), Some((Reply::Refused(Refusal::NotHeld), &[][..])));
+/// assert!(reply.bytes().eq([17, 0, 2, 22]));
+/// ```
+#[derive(Clone, Copy, Debug, PartialEq, Eq, Hash)]
+pub enum Reply {
+    /// Kind 16: an update was accepted.
+    Done {
+        /// The hop announced, or the one that the withdrawn route had.
+        hop: u16,
+        /// The cells of the route's array that it covers and no longer route of that array does; 0 where an
+        /// announcement finds its prefix held with the same hop.
+        cells: u16,
+    },
+    /// Kind 17: a route matches.
+    Found {
+        /// The hop of the longest match.
+        hop: u16,
+        /// Its length.
+        length: u8,
+    },
+    /// Kind 18: no route matches.
+    None,
+    /// Kind 19: the record was refused.
+    Refused(Refusal),
+}
+
+impl Reply {
+    /// The bytes of the longest reply: so many for each record are always enough.
+    pub const MOST: usize = 5;
+
+    /// The reply's bytes: its kind and its body, the high byte of a number first.
+    pub fn bytes(self) -> impl ExactSizeIterator<Item = u8> + Clone {
+        match self {
+            Reply::Done { hop, cells } => {
+                let ([high, low], [more, less]) = (hop.to_be_bytes(), cells.to_be_bytes());
+                front([16, high, low, more, less], 5)
+            }
+            Reply::Found { hop, length } => {
+                let [high, low] = hop.to_be_bytes();
+                front([17, high, low, length, 0], 4)
+            }
+            Reply::None => front([18, 0, 0, 0, 0], 1),
+            Reply::Refused(refusal) => front([19, refusal.number(), 0, 0, 0], 2),
+        }
+    }
+
+    /// The first reply of these bytes, and those after it; none where they do not begin with a whole one.
+    pub fn decode(bytes: &[u8]) -> Option<(Reply, &[u8])> {
+        let (kind, rest) = bytes.split_first()?;
+        match kind {
+            16 => take(rest).ok().map(|([high, low, more, less], rest)| {
+                let (hop, cells) = (u16::from_be_bytes([high, low]), u16::from_be_bytes([more, less]));
+                (Reply::Done { hop, cells }, rest)
+            }),
+            17 => take(rest).ok().map(|([high, low, length], rest)| {
+                (Reply::Found { hop: u16::from_be_bytes([high, low]), length }, rest)
+            }),
+            18 => Some((Reply::None, rest)),
+            19 => {
+                let ([number], rest) = take(rest).ok()?;
+                Some((Reply::Refused(Refusal::from_number(number.into())?), rest))
+            }
+            _ => None,
+        }
+    }
+}
+
+/// The replies that a run wrote: those of the bytes before [`Ran::written`](crate::Ran::written), up to what is no reply.
+///
+/// ```
+/// use toggleash::{replies, Reply};
+///
+/// assert!(replies(&[18, 16, 0, 1, 0, 4]).eq([Reply::None, Reply::Done { hop: 1, cells: 4 }]));
+/// ```
+pub fn replies(bytes: &[u8]) -> Replies<'_> {
+    Replies { rest: bytes }
+}
+
+/// What [`replies`] gives.
+#[derive(Clone, Debug)]
+pub struct Replies<'a> {
+    rest: &'a [u8],
+}
+
+impl<'a> Replies<'a> {
+    /// The bytes not read yet: none after the last reply of a run.
+    pub fn rest(&self) -> &'a [u8] {
+        self.rest
+    }
+}
+
+impl Iterator for Replies<'_> {
+    type Item = Reply;
+
+    fn next(&mut self) -> Option<Reply> {
+        let (reply, rest) = Reply::decode(self.rest)?;
+        self.rest = rest;
+        Some(reply)
+    }
+}
+
+fn front<const N: usize>(bytes: [u8; N], count: usize) -> core::iter::Take<core::array::IntoIter<u8, N>> {
+    bytes.into_iter().take(count)
+}
+
+/// The first bytes and the rest, or all of them where they are too few.
+fn take<const N: usize>(bytes: &[u8]) -> Result<([u8; N], &[u8]), &[u8]> {
+    bytes.split_first_chunk().map(|(first, rest)| (*first, rest)).ok_or(bytes)
+}

@@ -1,0 +1,121 @@
+//! Feeds and replies as bytes, and the worked feed of docs/FEED.md, read from that page.
+
+use toggleash::{records, replies, words_for, written_bytes, Prefix, Ran, Record, Refusal, Reply, Stop, Table};
+
+const PAGE: &str = include_str!("../../../docs/FEED.md");
+
+fn bytes(hex: &str) -> Vec<u8> {
+    let digits: String = hex.chars().filter(|digit| !digit.is_whitespace() && *digit != '`').collect();
+    (0..digits.len()).step_by(2).map(|at| u8::from_str_radix(&digits[at..at + 2], 16).unwrap()).collect()
+}
+
+/// The section's rows of record, reply and line.
+fn rows() -> Vec<[&'static str; 3]> {
+    let section = PAGE.split("## A worked feed").nth(1).unwrap().split("## ").next().unwrap();
+    let row = |line: &'static str| -> [&str; 3] {
+        let fields: Vec<_> = line.trim_matches('|').split('|').map(str::trim).collect();
+        fields.try_into().unwrap()
+    };
+    section.lines().filter(|line| line.starts_with("| `")).map(row).collect()
+}
+
+fn line(record: Record, reply: Reply) -> String {
+    let sent = match record {
+        Record::Announce { address, length, .. } => format!("announce {address}/{length}"),
+        Record::Withdraw { address, length } => format!("withdraw {address}/{length}"),
+        Record::Lookup { address } => format!("lookup {address}"),
+        Record::End => unreachable!("an end has no reply"),
+    };
+    match reply {
+        Reply::Done { hop, cells } => format!("{sent} via {hop} cells {cells}"),
+        Reply::Found { hop, length } => format!("{sent} via {hop} length {length}"),
+        Reply::None => format!("{sent} none"),
+        Reply::Refused(refusal) => format!("{sent} refused {}", refusal.number()),
+    }
+}
+
+#[test]
+fn the_worked_feed() {
+    let rows = rows();
+    let feed: Vec<u8> = rows.iter().flat_map(|row| bytes(row[0])).collect();
+    let expected: Vec<u8> = rows.iter().flat_map(|row| bytes(row[1])).collect();
+    assert_eq!(feed, include_bytes!("../../../crates/router/stdin"));
+    assert_eq!((feed.len(), expected.len()), (52, 31));
+
+    let mut table = Table::new(vec![0; words_for(7).unwrap()]).unwrap();
+    let mut reply = [0xEE; 64];
+    let ran = table.run(&feed, &mut reply).unwrap();
+    assert_eq!(ran, Ran { stop: Stop::End, consumed: 52, written: 31, accepted: 4, refused: 1 });
+    assert_eq!(reply[..31], expected);
+    assert_eq!(reply[31..], [0xEE; 33]);
+
+    let lines: Vec<_> = records(&feed).zip(replies(&expected)).map(|(record, reply)| line(record, reply)).collect();
+    let shown: Vec<_> = rows.iter().map(|row| row[2].trim_matches('`')).filter(|line| !line.is_empty()).collect();
+    assert_eq!(lines, shown);
+    assert!(include_str!("../../../crates/router/stdout").starts_with(&lines.join("\n")));
+
+    let left = PAGE.split("table gives\n").nth(1).unwrap();
+    let left: String = left.lines().skip(1).take_while(|line| line.starts_with("    ")).collect();
+    let mut buffer = [0; written_bytes(2)];
+    assert_eq!(table.write_out(&mut buffer).unwrap(), bytes(&left));
+}
+
+#[test]
+fn every_record_is_read_as_it_was_written() {
+    let address = [10, 1, 4, 255].into();
+    let all = [
+        Record::End,
+        Record::Announce { address, length: 255, hop: 0 },
+        Record::Announce { address, length: 0, hop: 65_535 },
+        Record::Withdraw { address, length: 33 },
+        Record::Lookup { address },
+    ];
+    for record in all {
+        let bytes: Vec<u8> = record.bytes().chain([9]).collect();
+        assert_eq!(record.bytes().len(), bytes.len() - 1);
+        assert!(record.bytes().len() <= Record::MOST);
+        assert_eq!(Record::decode(&bytes), Ok((record, &[9][..])));
+        for cut in 1..bytes.len() - 1 {
+            assert_eq!(Record::decode(&bytes[..cut]), Err(Stop::BodyShort), "{record:?}");
+        }
+    }
+    assert_eq!(Record::decode(&[]), Err(Stop::NoByteLeft));
+    (4..=255).for_each(|kind| assert_eq!(Record::decode(&[kind, 0, 0, 0, 0, 0, 0, 0]), Err(Stop::UnknownKind)));
+}
+
+#[test]
+fn every_reply_is_read_as_it_was_written() {
+    let all = [
+        Reply::Done { hop: 65_535, cells: 256 },
+        Reply::Found { hop: 258, length: 32 },
+        Reply::None,
+        Reply::Refused(Refusal::NoRoom),
+    ];
+    for reply in all {
+        let bytes: Vec<u8> = reply.bytes().chain([9]).collect();
+        assert_eq!(reply.bytes().len(), bytes.len() - 1);
+        assert!(reply.bytes().len() <= Reply::MOST);
+        assert_eq!(Reply::decode(&bytes), Some((reply, &[9][..])));
+        (0..bytes.len() - 1).for_each(|cut| assert_eq!(Reply::decode(&bytes[..cut]), None, "{reply:?}"));
+    }
+    assert_eq!((Reply::decode(&[19, 6]), Reply::decode(&[19, 0]), Reply::decode(&[20])), (None, None, None));
+}
+
+#[test]
+fn records_end_as_a_run_does() {
+    let route = Record::announce(Prefix::DEFAULT, 1);
+    for (tail, stop) in
+        [(&[][..], Stop::NoByteLeft), (&[0, 3], Stop::End), (&[4], Stop::UnknownKind), (&[3, 1], Stop::BodyShort)]
+    {
+        let feed: Vec<u8> = route.bytes().chain(tail.iter().copied()).collect();
+        let mut left = records(&feed);
+        assert_eq!(left.stop(), None);
+        assert!(left.by_ref().eq([route]));
+        assert_eq!((left.stop(), left.next()), (Some(stop), None));
+        let mut table = Table::new(vec![0; 2_048]).unwrap();
+        assert_eq!(table.run(&feed, &mut [0; 9]).unwrap().stop, stop);
+        assert_eq!(Stop::from_number(stop.number().into()), Some(stop));
+        assert!(stop.to_string().starts_with(&format!("stopped {}: ", stop.number())));
+    }
+    assert_eq!(Stop::from_number(5), None);
+}

@@ -1,0 +1,92 @@
+//! Tables, copies and prefixes as values.
+
+use std::net::Ipv4Addr;
+
+use toggleash::{copy, words_for, ListCopy, Match, Prefix, PrefixError, Refusal, Table};
+
+fn prefix(text: &str) -> Prefix {
+    text.parse().unwrap()
+}
+
+#[test]
+fn prefixes_in_text() {
+    for text in ["0.0.0.0/0", "128.0.0.0/1", "10.1.4.0/22", "255.255.255.255/32"] {
+        assert_eq!(prefix(text).to_string(), text);
+    }
+    let no_form = [
+        "",
+        "/",
+        "10.0.0.0",
+        "10.0.0.0/",
+        "10.0/8",
+        "10.0.0.0/+8",
+        "10.0.0.0/08",
+        "10.0.0.0/8 ",
+        "010.0.0.0/8",
+        "10.0.0.0/8/8",
+    ];
+    for text in no_form {
+        assert_eq!(text.parse::<Prefix>(), Err(PrefixError::Form), "{text}");
+    }
+    for text in ["0.0.0.0/33", "0.0.0.1/256", "0.0.0.0/99999999999999999999"] {
+        assert_eq!(text.parse::<Prefix>(), Err(PrefixError::Refused(Refusal::LengthOver32)), "{text}");
+    }
+    for text in ["0.0.0.1/0", "10.0.0.1/31", "10.1.4.0/21"] {
+        assert_eq!(text.parse::<Prefix>(), Err(PrefixError::Refused(Refusal::StrayBit)), "{text}");
+    }
+}
+
+#[test]
+fn what_a_prefix_matches() {
+    let (first, last) = (Ipv4Addr::new(10, 1, 4, 0), Ipv4Addr::new(10, 1, 7, 255));
+    assert!(prefix("10.1.4.0/22").matches(first) && prefix("10.1.4.0/22").matches(last));
+    assert!(!prefix("10.1.4.0/22").matches(Ipv4Addr::new(10, 1, 8, 0)));
+    assert!(Prefix::DEFAULT.matches(Ipv4Addr::BROADCAST));
+    assert!(prefix("255.255.255.255/32").matches(Ipv4Addr::BROADCAST));
+    let mut order = [prefix("10.1.4.0/23"), prefix("11.0.0.0/8"), prefix("10.1.4.0/22"), Prefix::DEFAULT];
+    order.sort();
+    assert_eq!(order.map(|prefix| prefix.to_string()), ["0.0.0.0/0", "10.1.4.0/22", "10.1.4.0/23", "11.0.0.0/8"]);
+}
+
+#[test]
+fn tables_own_or_borrow_their_words() {
+    let mut words = [0; 2_048];
+    let mut table = Table::new(&mut words[..]).unwrap();
+    table.announce(Prefix::DEFAULT, 7).unwrap();
+    assert_eq!(table.announce(Prefix::DEFAULT, 0), Err(Refusal::HopOutOfRange));
+    assert_eq!(table.announce(prefix("10.0.0.0/9"), 1), Err(Refusal::NoRoom));
+    assert_eq!(table.withdraw(prefix("10.0.0.0/8")), Err(Refusal::NotHeld));
+    assert_eq!(table.write_out(&mut [0; 8]), Err(Refusal::BufferShort));
+
+    let reader = Table::from_words(&words[..]).unwrap();
+    assert_eq!(reader.lookup(Ipv4Addr::BROADCAST), Ok(Some(Match { hop: 7, length: 0 })));
+    assert_eq!(reader.check().unwrap().routes, 1);
+    let mut owner = Table::from_words(words.to_vec()).unwrap();
+    assert_eq!(owner.withdraw(Prefix::DEFAULT).unwrap().hop, 7);
+    assert_eq!(reader.words(), words);
+    assert_ne!(owner.into_words(), words);
+    assert_eq!(format!("{reader:?}"), "Table of 2048 words");
+
+    assert_eq!(Table::new(vec![0; 2_047]).unwrap_err(), Refusal::WordCount);
+    assert_eq!(Table::from_words(vec![7; 2_048]).unwrap_err(), Refusal::NotATable);
+}
+
+#[test]
+fn copies_of_a_list() {
+    let mut table = Table::new(vec![0; words_for(7).unwrap()]).unwrap();
+    for (text, hop) in [("0.0.0.0/0", 9), ("10.0.0.0/8", 1), ("10.1.4.0/22", 2)] {
+        table.announce(prefix(text), hop).unwrap();
+    }
+    let mut buffer = [0; toggleash::written_bytes(3)];
+    let list = table.write_out(&mut buffer).unwrap();
+    let need = copy::need(list).unwrap();
+    let card = ListCopy::build(list, vec![0; need]).unwrap();
+    for address in [[10, 1, 5, 9], [10, 1, 8, 0], [11, 0, 0, 1]] {
+        assert_eq!(card.lookup(address.into()), table.lookup(address.into()));
+    }
+    let sent = ListCopy::from_words(card.words());
+    assert_eq!(sent.lookup([10, 1, 5, 9].into()), Ok(Some(Match { hop: 2, length: 22 })));
+    assert_eq!(ListCopy::build(list, vec![0; need - 1]).unwrap_err(), Refusal::BufferShort);
+    assert_eq!(ListCopy::build(&list[..8], vec![0; need]).unwrap_err(), Refusal::NotATable);
+    assert_eq!(ListCopy::from_words([0; 3]).lookup([1; 4].into()), Err(Refusal::NotATable));
+}
