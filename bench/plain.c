@@ -1,5 +1,5 @@
 /* Lookup over the library's layout as a C programmer would write it, to measure the library against: once trusting the
- * words, once with the refusals that document 01 asks for. What is found is kept as bests are, length * 65536 + hop, or
+ * words, once with the refusals of docs/LAYOUT.md. What is found is kept as bests are, length * 65536 + hop, or
  * 0 for none. A link counts from the root, the array of number 1, to the one that it leads to. */
 #include <stddef.h>
 #include <stdint.h>

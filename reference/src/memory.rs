@@ -1,4 +1,4 @@
-//! The lent words as a caller sees them, a size and perhaps a route list, with the calls of document 01 on them.
+//! The lent words as a caller sees them, a size and perhaps a route list, with the calls on them.
 
 use crate::address::Address;
 use crate::list::{Prefix, Route, RouteList};

@@ -1,4 +1,4 @@
-//! The program of document 01: a feed in, lines out.
+//! The program: a feed in, lines out, as docs/FEED.md says.
 
 use std::fmt::Write;
 use std::net::Ipv4Addr;

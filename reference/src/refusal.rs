@@ -1,4 +1,4 @@
-//! The refusals of document 01 with their numbers.
+//! The refusals with their numbers.
 
 /// Why a call refused.
 #[derive(Clone, Copy, Debug, PartialEq, Eq)]
@@ -23,7 +23,7 @@ pub enum Refusal {
 }
 
 impl Refusal {
-    /// The number that document 01 gives it.
+    /// Its number in replies and answers.
     pub fn number(self) -> u8 {
         self as u8
     }

@@ -1,4 +1,4 @@
-//! The small cases of document 01, the 52-byte example, and the stops and refusals of the run.
+//! The small cases of the rules, the worked feed of docs/FEED.md, and the stops and refusals of the run.
 
 use reference::feed::Stop;
 use reference::{program, Counts, Memory, Refusal, Update};

@@ -2,7 +2,9 @@
 
 use std::net::Ipv4Addr;
 
-use toggleash::{copy, words_for, ListCopy, Match, Prefix, PrefixError, Refusal, Table};
+use toggleash::{
+    copy, replies, words_for, Counts, ListCopy, Match, Prefix, PrefixError, Record, Refusal, Reply, Table,
+};
 
 fn prefix(text: &str) -> Prefix {
     text.parse().unwrap()
@@ -89,4 +91,24 @@ fn copies_of_a_list() {
     assert_eq!(ListCopy::build(list, vec![0; need - 1]).unwrap_err(), Refusal::BufferShort);
     assert_eq!(ListCopy::build(&list[..8], vec![0; need]).unwrap_err(), Refusal::NotATable);
     assert_eq!(ListCopy::from_words([0; 3]).lookup([1; 4].into()), Err(Refusal::NotATable));
+}
+
+/// What README says of 1,919 routes anywhere, and of 3,839 that are no longer than 24 bits.
+#[test]
+fn what_fits() {
+    let mut words = vec![0; words_for(4_096).unwrap()];
+    for (routes, tail, length, arrays) in [(1_919_u16, [1, 1], 32, 4_095), (3_839, [0, 0], 24, 4_096)] {
+        let mut table = Table::new(&mut words[..]).unwrap();
+        let record = |i: u16| {
+            let [high, low] = i.to_be_bytes();
+            Record::Announce { address: [low, high, tail[0], tail[1]].into(), length, hop: 1 }
+        };
+        let feed: Vec<u8> = (0..=routes).flat_map(|i| record(i).bytes()).collect();
+        let mut reply = vec![0; feed.len()];
+        let ran = table.run(&feed, &mut reply).unwrap();
+        assert_eq!((ran.accepted, ran.refused), (routes.into(), 1));
+        let last = replies(&reply[..ran.written]).last();
+        assert_eq!(last, Some(Reply::Refused(Refusal::NoRoom)));
+        assert_eq!(table.check(), Ok(Counts { routes: routes.into(), arrays }));
+    }
 }
