@@ -11,6 +11,15 @@ use crate::{announce, check, clear, lookup, run, withdraw, write_out, Counts, Ma
 /// table can only be had of words that are cleared or tested, and a [`ListCopy`](crate::ListCopy) is another type: words of
 /// the one cannot be handed in for the other's.
 ///
+/// ```compile_fail
+/// # use toggleash::{copy, ListCopy, Table};
+/// let card = ListCopy::build(&[0], vec![0; 1_024]).unwrap();
+/// fn count(table: &Table<Vec<u32>>) -> u32 {
+///     table.check().unwrap().routes
+/// }
+/// count(&card);
+/// ```
+///
 /// Each call still checks for itself: a single update tests the whole table, which takes milliseconds at 4,096 arrays.
 /// Many updates go faster as one [`run`](Table::run).
 ///
