@@ -1,6 +1,7 @@
 /* The C face for any processor. The proved functions of the kit's module take every slice and every answer by pointer, which
  * is the same in each calling convention; this file turns that into the calls of toggleash.h, by the convention of the
  * processor that it is compiled for. ./build compiles it together with the module, so that a call costs nothing more. */
+#define TOGGLEASH_ARCHIVE
 #include "toggleash.h"
 
 /* A slice as the module has it, on 32 bits too: where it starts, and from byte 8 on its length. */
@@ -41,7 +42,6 @@ void proved_copy_need(toggleash_needed *r, slice *bytes);
 void proved_copy_build(toggleash_built *r, slice *bytes, slice *words);
 void proved_copy_lookup(toggleash_answer *r, slice *words, uint32_t address);
 
-#ifdef TOGGLEASH_VERSION
 /* The version is in the name. */
 #define JOINED_(start, end) start##end
 #define JOINED(start, end) JOINED_(start, end)
@@ -50,7 +50,6 @@ uint32_t JOINED(proved_version_, TOGGLEASH_VERSION)(void);
 uint32_t JOINED(toggleash_version_, TOGGLEASH_VERSION)(void) {
     return JOINED(proved_version_, TOGGLEASH_VERSION)();
 }
-#endif
 
 static inline slice of(const void *start, size_t length) {
     slice s;

@@ -1,4 +1,4 @@
-//! A plain implementation of document 01 and of document 02's item 1, written from the documents alone, to compare the
+//! A plain implementation of the rules that docs/FEED.md and docs/COPY.md give, written from the rules alone, to compare the
 //! proved one with.
 //!
 //! Routes are a plain sorted list, over any [`Address`]; feeds, words and copies are of IPv4. Nothing here knows the words

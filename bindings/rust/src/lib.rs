@@ -20,7 +20,7 @@
 //! looks up. [`Record`] and [`Reply`] are the records of a feed and the replies to it. The calls that take slices of words,
 //! here and in [`copy`], are the same ones without these types: any words can be handed to them.
 //!
-//! The archive libtoggleash.a is looked for in `target/staticlib` of the repository, or in the folder that the
+//! The archive libtoggleash.a is looked for where `./build` of the repository writes it, or in the folder that the
 //! environment variable `TOGGLEASH_LIB_DIR` names while this crate is built.
 
 #![no_std]

@@ -44,8 +44,9 @@ one-le : (b : Bool) → one b ≤ 1
 one-le true = omega arith
 one-le false = omega arith
 
-module _ (p : Progress) (ws feed b : List ℕ) (t : Takes p ws feed b) (n : ℕ) (vs : List ℕ) (r : Reply) (q : ℕ) (c : List ℕ) (x y : ℕ)
-    (en : n ≡ size (getD feed (p .at) 0)) (asked : Asked ws (here feed (p .at)) (told r) vs) (w : Wrote b (p .out) (replyBytes (told r)) q c)
+module _ (p : Progress) (ws feed b : List ℕ) (t : Takes p ws feed b) (n : ℕ) (vs : List ℕ) (r : Reply) (q : ℕ) (c : List ℕ)
+    (x y : ℕ) (en : n ≡ size (getD feed (p .at) 0)) (asked : Asked ws (here feed (p .at)) (told r) vs)
+    (w : Wrote b (p .out) (replyBytes (told r)) q c)
     (ex : x ≡ one (isDone (told r))) (ey : y ≡ one (isRefused (told r))) where
   abbrev A : ℕ
   A = roomIn (seen 4 ws)
@@ -71,7 +72,10 @@ module _ (p : Progress) (ws feed b : List ℕ) (t : Takes p ws feed b) (n : ℕ)
           refused = ref i;
         };
         list = answer .list ∙ ap (table A) (sym (ap listIn (answer .list)));
-        rest = ap₂ (λ (m : ℕ) (l : List ℕ). drop m l) (w .place) (w .list) ∙ drop-sets b (p .out) (replyBytes (told r)) fits ∙ ap (λ (m : ℕ). drop m b) (sym (w .place));
+        rest =
+            ap₂ (λ (m : ℕ) (l : List ℕ). drop m l) (w .place) (w .list)
+            ∙ drop-sets b (p .out) (replyBytes (told r)) fits
+            ∙ ap (λ (m : ℕ). drop m b) (sym (w .place));
         placed = record {
           at = omega (arith, t .clear .body);
           out = omega (arith, fits, w .place, ap length (w .list) ∙ length-sets b (p .out) (replyBytes (told r)));
@@ -86,13 +90,22 @@ module _ (p : Progress) (ws feed b : List ℕ) (t : Takes p ws feed b) (n : ℕ)
       said = answer .answer
 
       reps : take q c ≡ take (p .out) b ++ replyBytes (reply 32 A rs (here feed (p .at)))
-      reps = ap₂ (λ (m : ℕ) (l : List ℕ). take m l) (w .place) (w .list) ∙ take-sets b (p .out) (replyBytes (told r)) fits ∙ ap (λ z. take (p .out) b ++ replyBytes z) said
+      reps =
+          ap₂ (λ (m : ℕ) (l : List ℕ). take m l) (w .place) (w .list)
+          ∙ take-sets b (p .out) (replyBytes (told r)) fits
+          ∙ ap (λ z. take (p .out) b ++ replyBytes z) said
 
       acc : p .accepted + x ≡ tally (isDone (reply 32 A rs (here feed (p .at)))) (p .accepted)
-      acc = ap (λ (m : ℕ). p .accepted + m) ex ∙ one-tally (isDone (told r)) (p .accepted) ∙ ap (λ z. tally (isDone z) (p .accepted)) said
+      acc =
+          ap (λ (m : ℕ). p .accepted + m) ex
+          ∙ one-tally (isDone (told r)) (p .accepted)
+          ∙ ap (λ z. tally (isDone z) (p .accepted)) said
 
       ref : p .refused + y ≡ tally (isRefused (reply 32 A rs (here feed (p .at)))) (p .refused)
-      ref = ap (λ (m : ℕ). p .refused + m) ey ∙ one-tally (isRefused (told r)) (p .refused) ∙ ap (λ z. tally (isRefused z) (p .refused)) said
+      ref =
+          ap (λ (m : ℕ). p .refused + m) ey
+          ∙ one-tally (isRefused (told r)) (p .refused)
+          ∙ ap (λ z. tally (isRefused z) (p .refused)) said
 
 -- ---- the loop
 
@@ -105,7 +118,8 @@ Ahead A feed room s ws us =
     Series ws (recordsFrom (length feed) A feed room s) (replies 32 A (s .list) (recordsFrom (length feed) A feed room s)) us
 
 ahead-more : (A : ℕ) (feed : List ℕ) (room : ℕ) (s : State) {ws vs us : List ℕ} → halts feed room (s .consumed) (length (s .replies)) ≡ 5
-    → Asked ws (ahead feed s) (reply 32 A (s .list) (ahead feed s)) vs → Ahead A feed room (taken A feed s) vs us → Ahead A feed room s ws us
+    → Asked ws (ahead feed s) (reply 32 A (s .list) (ahead feed s)) vs → Ahead A feed room (taken A feed s) vs us
+    → Ahead A feed room s ws us
 ahead-more A feed room s e a x = rw (records-on A feed room s e) (more a x)
 
 -- a run from ws₀ and b₀ has come to p, with the words ws and the reply bytes b, and `stop` is what the next tests find
@@ -168,7 +182,8 @@ module _ (ws₀ feed b₀ ws b : List ℕ) (p : Progress) (stop : ℕ) (g : Goin
         list = t .list ∙ ap (λ (n : ℕ). table n (listIn (seen 4 vs))) same-room;
         left =
             ap (λ (s : State). runs (length feed) A feed (length b₀) s) (t .state ∙ ap (λ (n : ℕ). taken n feed (stateOf p ws b)) same-room)
-            ∙ runs-enough (length feed) (length feed - 1) A feed (length b₀) (taken A feed (stateOf p ws b)) (omega arith) (omega (arith, size-pos (getD feed (p .at) 0)))
+            ∙ runs-enough (length feed) (length feed - 1) A feed (length b₀) (taken A feed (stateOf p ws b)) (omega arith)
+            (omega (arith, size-pos (getD feed (p .at) 0)))
             ∙ sym (runs-on (length feed - 1) A feed (length b₀) (stateOf p ws b) (halted-at ∙ e))
             ∙ ap (λ (n : ℕ). runs n A feed (length b₀) (stateOf p ws b)) m
             ∙ g .left;
@@ -178,7 +193,8 @@ module _ (ws₀ feed b₀ ws b : List ℕ) (p : Progress) (stop : ℕ) (g : Goin
         halted = h;
         series = λ us x. g .series us
             (ahead-more A feed (length b₀) (stateOf p ws b) (halted-at ∙ e) (rw same-room at (t .asked))
-            (subst (λ (s : State). Ahead A feed (length b₀) s vs us) (t .state ∙ ap (λ (n : ℕ). taken n feed (stateOf p ws b)) same-room) x));
+            (subst (λ (s : State). Ahead A feed (length b₀) s vs us)
+            (t .state ∙ ap (λ (n : ℕ). taken n feed (stateOf p ws b)) same-room) x));
       }
     where
       A : ℕ
@@ -190,7 +206,8 @@ module _ (ws₀ feed b₀ ws b : List ℕ) (p : Progress) (stop : ℕ) (g : Goin
       dropped : drop (q .out) b ≡ drop (q .out) b₀
       dropped =
           let o : p .out + (q .out - p .out) ≡ q .out = omega (arith, t .past) in
-          rw (← o) (sym (drop-drop (q .out - p .out) (p .out) b) ∙ ap (drop (q .out - p .out)) (g .rest) ∙ drop-drop (q .out - p .out) (p .out) b₀)
+          let d : ℕ = q .out - p .out in
+          rw (← o) (sym (drop-drop d (p .out) b) ∙ ap (drop d) (g .rest) ∙ drop-drop d (p .out) b₀)
 
   -- ---- the end
 
@@ -203,7 +220,9 @@ module _ (ws₀ feed b₀ ws b : List ℕ) (p : Progress) (stop : ℕ) (g : Goin
   kept : b ≡ take (p .out) b ++ drop (length (take (p .out) b)) b₀
   kept = rw (out-length p feed b (g .placed), ← (g .rest)) (sym (take-append-drop (p .out) b))
 
-  report : (z : Bool) → Ended (record { stop = stop; end = cond z (finish (stateOf p ws b)) (stateOf p ws b) }) (roomIn (seen 4 ws₀)) b₀ ws b (record { stop = stop; consumed = p .at + one z; written = p .out; accepted = p .accepted; refused = p .refused })
+  report : (z : Bool) → Ended (record { stop = stop; end = cond z (finish (stateOf p ws b)) (stateOf p ws b) })
+      (roomIn (seen 4 ws₀)) b₀ ws b
+      (record { stop = stop; consumed = p .at + one z; written = p .out; accepted = p .accepted; refused = p .refused })
   report true = record {
     report = λ i. record { stop = stop; consumed = p .at + 1; written = sym (out-length p feed b (g .placed)) i; accepted = p .accepted; refused = p .refused };
     list = g .list;
@@ -218,9 +237,11 @@ module _ (ws₀ feed b₀ ws b : List ℕ) (p : Progress) (stop : ℕ) (g : Goin
   -- no record is left
   all-asked : stop ≢ 5 → Ahead (roomIn (seen 4 ws₀)) feed (length b₀) (fresh (listIn (seen 4 ws₀))) ws₀ ws
   all-asked n =
-      g .series ws (rw (records-stop (roomIn (seen 4 ws₀)) feed (length b₀) (stateOf p ws b) (length feed) (λ e. n (sym halted-at ∙ e))) nothing)
+      g .series ws
+      (rw (records-stop (roomIn (seen 4 ws₀)) feed (length b₀) (stateOf p ws b) (length feed) (λ e. n (sym halted-at ∙ e))) nothing)
 
-  runs-as : (s : Seen) → seen 4 ws₀ ≡ s → IsTable s → (r : Report) → Ended (run (roomIn s) (listIn s) feed (length b₀)) (roomIn s) b₀ ws b r
+  runs-as : (s : Seen) → seen 4 ws₀ ≡ s → IsTable s → (r : Report)
+      → Ended (run (roomIn s) (listIn s) feed (length b₀)) (roomIn s) b₀ ws b r
       → Ahead (roomIn s) feed (length b₀) (fresh (listIn s)) ws₀ ws → Runs ws₀ feed b₀ ws b (Stopped r)
   runs-as misfit e t r x a = absurd t
   runs-as foreign e t r x a = absurd t
@@ -243,8 +264,10 @@ module _ (ws : List ℕ) (n : ℕ) (first : n ≡ refusalOf ws 0) where
   pub run-refused : (feed b : List ℕ) → n ≢ 0 → Runs ws feed b ws b (Refused n)
   run-refused feed b z =
       seen-cases 4 ws (omega arith) (omega arith)
-      (λ m e. (let q : n ≡ 1 = first ∙ sym (refusal-size ws 0 m) in record { answer = rw (e, q); list = rw e; replies = rw e; kept = λ _ _. refl; series = rw e nothing }))
-      (λ m t e. (let q : n ≡ 2 = first ∙ sym (refusal-foreign ws 0 m refl t) in record { answer = rw (e, q); list = rw e; replies = rw e; kept = λ _ _. refl; series = rw e nothing }))
+      (λ m e. (let q : n ≡ 1 = first ∙ sym (refusal-size ws 0 m) in
+      record { answer = rw (e, q); list = rw e; replies = rw e; kept = λ _ _. refl; series = rw e nothing }))
+      (λ m t e. (let q : n ≡ 2 = first ∙ sym (refusal-foreign ws 0 m refl t) in
+      record { answer = rw (e, q); list = rw e; replies = rw e; kept = λ _ _. refl; series = rw e nothing }))
       (λ m t _ _. absurd (z (first ∙ sym (refusal-none ws 0 m refl t))))
 
   pub run-started : n ≡ 0 → IsTable (seen 4 ws)

@@ -35,7 +35,8 @@ counted (refused m) n e = refl
 
 pub series-kept : {ws vs : List ℕ} {xs : List Record} {ys : List Reply} → Series ws xs ys vs → count isDone ys ≡ 0 → vs ≡ ws
 series-kept nothing e = refl
-series-kept (more {y = y} {ys = ys} a s) e = series-kept s (omega arith) ∙ asked-kept a (counted y (count isDone ys) (omega arith))
+series-kept (more {y = y} {ys = ys} a s) e =
+    series-kept s (omega arith) ∙ asked-kept a (counted y (count isDone ys) (omega arith))
 
 -- ---- a run
 
@@ -44,7 +45,8 @@ abbrev pub acceptedBy : Ran → ℕ
 acceptedBy (Stopped r) = r .accepted
 acceptedBy (Refused n) = 0
 
-accepted-count : (s : Seen) (feed b : List ℕ) (r : Ran) → told r ≡ reported (runOn s feed b) → acceptedBy r ≡ count isDone (answersOn s feed b)
+accepted-count : (s : Seen) (feed b : List ℕ) (r : Ran) → told r ≡ reported (runOn s feed b)
+    → acceptedBy r ≡ count isDone (answersOn s feed b)
 accepted-count misfit feed b (Stopped r) e = let z : _≡_ {A = ℕ} 0 1 = cc in absurd (omega arith)
 accepted-count foreign feed b (Stopped r) e = let z : _≡_ {A = ℕ} 0 1 = cc in absurd (omega arith)
 accepted-count (table A rs) feed b (Stopped r) e =

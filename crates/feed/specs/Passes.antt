@@ -1,5 +1,5 @@
--- Within a run the later test always passes: the words that each record finds pass the test of the whole table, so testing at the start
--- is enough. Assumes nothing.
+-- Within a run the later test always passes: the words that each record finds pass the test of the whole table, so testing at
+-- the start is enough. Assumes nothing.
 --
 --     ws ── x₁ ──▶ . ── x₂ ──▶ . ── x₃ ──▶ vs        the test at ws is the run's; it would pass at each dot, and at vs
 use mathlib.Core.Path.{_≡_, refl}

@@ -1,5 +1,5 @@
--- Calls one after the other on lent words, each known by its promise alone: on a table they are answered as its list answers them.
--- A lookup leaves every word, an update those that its own promise says. Assumes nothing.
+-- Calls one after the other on lent words, each known by its promise alone: on a table they are answered as its list answers
+-- them. A lookup leaves every word, an update those that its own promise says. Assumes nothing.
 --
 --     words    ws ──▶ . ──▶ . ──▶ vs         seen as table A rs first, and as table A of what the records leave last
 --     calls       x₁    x₂    x₃             announce, withdraw or lookup
@@ -20,19 +20,22 @@ use Rattle.matches.specs.declared.Match.{Match}
 -- the call of a record on the words ws was answered y and left vs, as its contract allows
 pub data Asked (ws : List ℕ) : Record → Reply → List ℕ → Type 0 where
   updated : {u : Update} {vs : List ℕ} (r : Updated) → update.Updates ws vs u r → Asked ws (update u) (update.told r) vs
-  looked : {a : ℕ} (r : Match) → matches.told r ≡ lookupOn 32 (seen 4 ws) (walk 4 ws a) a → Asked ws (lookup a) (matches.told r) ws
+  looked : {a : ℕ} (r : Match) → matches.told r ≡ lookupOn 32 (seen 4 ws) (walk 4 ws a) a
+      → Asked ws (lookup a) (matches.told r) ws
 
 -- and so were several, in order
 pub data Series : List ℕ → List Record → List Reply → List ℕ → Type 0 where
   nothing : {ws : List ℕ} → Series ws [] [] ws
-  more : {ws vs us : List ℕ} {x : Record} {xs : List Record} {y : Reply} {ys : List Reply} → Asked ws x y vs → Series vs xs ys us → Series ws (x ∷ xs) (y ∷ ys) us
+  more : {ws vs us : List ℕ} {x : Record} {xs : List Record} {y : Reply} {ys : List Reply}
+      → Asked ws x y vs → Series vs xs ys us → Series ws (x ∷ xs) (y ∷ ys) us
 
 module _ (A : ℕ) where
   pub record Answered (rs : List Route) (x : Record) (y : Reply) (vs : List ℕ) : Type 0 where
     pub answer : y ≡ reply 32 A rs x
     pub list : seen 4 vs ≡ table A (next 32 A rs x)
 
-  pub answered : (rs : List Route) {ws vs : List ℕ} {x : Record} {y : Reply} → seen 4 ws ≡ table A rs → Asked ws x y vs → Answered rs x y vs
+  pub answered : (rs : List Route) {ws vs : List ℕ} {x : Record} {y : Reply} → seen 4 ws ≡ table A rs → Asked ws x y vs
+      → Answered rs x y vs
   answered rs t (updated r p) = record { answer = rw t at (p .answer); list = rw t at (p .list) }
   answered rs t (looked r p) = record { answer = rw t at p; list = t }
 
@@ -40,7 +43,8 @@ module _ (A : ℕ) where
     pub answers : ys ≡ replies 32 A rs xs
     pub list : seen 4 vs ≡ table A (leaves 32 A rs xs)
 
-  pub all-answered : (rs : List Route) {ws vs : List ℕ} {xs : List Record} {ys : List Reply} → seen 4 ws ≡ table A rs → Series ws xs ys vs → AllAnswered rs xs ys vs
+  pub all-answered : (rs : List Route) {ws vs : List ℕ} {xs : List Record} {ys : List Reply} → seen 4 ws ≡ table A rs
+      → Series ws xs ys vs → AllAnswered rs xs ys vs
   all-answered rs t nothing = record { answers = refl; list = t }
   all-answered rs t (more {x = x} a s) =
       let h = answered rs t a in

@@ -30,7 +30,8 @@ module _ (A : ℕ) (feed : List ℕ) (room : ℕ) (s : State) where
   records-stop (suc n) h = rw (ne-eqb _ 5 h)
 
 -- more than the bytes left is as good as the bytes left
-pub records-enough : (n m A : ℕ) (feed : List ℕ) (room : ℕ) (s : State) → length feed ≤ s .consumed + n → length feed ≤ s .consumed + m
+pub records-enough : (n m A : ℕ) (feed : List ℕ) (room : ℕ) (s : State)
+    → length feed ≤ s .consumed + n → length feed ≤ s .consumed + m
     → recordsFrom n A feed room s ≡ recordsFrom m A feed room s
 unfolding recordsFrom
 records-enough zero zero A feed room s h k = refl
@@ -50,7 +51,9 @@ records-on A feed room s e =
     let p = size-pos (getD feed (s .consumed) 0) in
     let l : length feed ≡ suc (length feed - 1) = omega (arith, c .body) in
     ap (λ (n : ℕ). recordsFrom n A feed room s) l
-    ∙ rw e (ap (λ (xs : List Record). ahead feed s ∷ xs) (records-enough (length feed - 1) (length feed) A feed room (taken A feed s) (omega arith) (omega arith)))
+    ∙ rw e
+    (ap (λ (xs : List Record). ahead feed s ∷ xs)
+    (records-enough (length feed - 1) (length feed) A feed room (taken A feed s) (omega arith) (omega arith)))
 
 -- ---- what a run comes to, by its records
 
@@ -67,9 +70,15 @@ tally-more false m n k e = omega arith
 
 came-none : (A : ℕ) (s : State) → Came A s [] s
 came-none A s =
-    record { list = refl; written = sym (append-nil (s .replies)); accepted = sym (add-zero (s .accepted)); refused = sym (add-zero (s .refused)) }
+    record {
+      list = refl;
+      written = sym (append-nil (s .replies));
+      accepted = sym (add-zero (s .accepted));
+      refused = sym (add-zero (s .refused));
+    }
 
-came-more : (A : ℕ) (feed : List ℕ) (s : State) (xs : List Record) (t : State) → Came A (taken A feed s) xs t → Came A s (ahead feed s ∷ xs) t
+came-more : (A : ℕ) (feed : List ℕ) (s : State) (xs : List Record) (t : State) → Came A (taken A feed s) xs t
+    → Came A s (ahead feed s ∷ xs) t
 came-more A feed s xs t c =
     let y = reply 32 A (s .list) (ahead feed s) in
     let ys = replies 32 A (next 32 A (s .list) (ahead feed s)) xs in
@@ -81,16 +90,21 @@ came-more A feed s xs t c =
     }
 
 finished : (A : ℕ) (s : State) (b : Bool) → Came A s [] (cond b (finish s) s)
-finished A s true = record { list = came-none A s .list; written = came-none A s .written; accepted = came-none A s .accepted; refused = came-none A s .refused }
+finished A s true =
+    let c = came-none A s in
+    record { list = c .list; written = c .written; accepted = c .accepted; refused = c .refused }
 finished A s false = came-none A s
 
-runs-came : (n A : ℕ) (feed : List ℕ) (room : ℕ) (s : State) → Came A s (recordsFrom n A feed room s) (runs n A feed room s .end)
+runs-came : (n A : ℕ) (feed : List ℕ) (room : ℕ) (s : State)
+    → Came A s (recordsFrom n A feed room s) (runs n A feed room s .end)
 unfolding runs recordsFrom
 runs-came zero A feed room s = came-none A s
 runs-came (suc n) A feed room s =
+    let t = taken A feed s in
     same (halts feed room (s .consumed) (length (s .replies))) 5
-    (λ _ e. rw e (came-more A feed s (recordsFrom n A feed room (taken A feed s)) (runs n A feed room (taken A feed s) .end) (runs-came n A feed room (taken A feed s))))
+    (λ _ e. rw e (came-more A feed s (recordsFrom n A feed room t) (runs n A feed room t .end) (runs-came n A feed room t)))
     (λ _ e. rw e (finished A s (eqb (halts feed room (s .consumed) (length (s .replies))) 0)))
 
-pub run-came : (A : ℕ) (rs : List Route) (feed : List ℕ) (room : ℕ) → Came A (fresh rs) (recordsOf A rs feed room) (run A rs feed room .end)
+pub run-came : (A : ℕ) (rs : List Route) (feed : List ℕ) (room : ℕ)
+    → Came A (fresh rs) (recordsOf A rs feed room) (run A rs feed room .end)
 run-came A rs feed room = runs-came (length feed) A feed room (fresh rs)

@@ -1,5 +1,5 @@
--- The test of the whole table that an update makes first: where it passes before an update, it passes after it, so a later one need not
--- be made. Assumes nothing.
+-- The test of the whole table that an update makes first: where it passes before an update, it passes after it, so a later one
+-- need not be made. Assumes nothing.
 use mathlib.Core.Path.{_≡_, refl, sym, _∙_}
 use mathlib.Core.List.{List}
 use Prim.Native.Nat.{ℕ}
