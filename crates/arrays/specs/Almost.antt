@@ -21,7 +21,8 @@ pub record Almost (L e : ℕ) (ws : List ℕ) : Type 0 where
   pub shape : Shape (arrayCount ws) L (arraysOf ws)
   pub filled : Filled (arrayCount ws) (arraysOf ws) e
   pub blank : (a : ℕ) → 1 ≤ a → a ≤ arrayCount ws → getD ws (1024 * a) 0 ≡ 0 → (k : ℕ) → k < 768 → getD ws (1024 * a + k) 0 ≡ 0
-  pub right : (a : ℕ) → 1 ≤ a → a ≤ arrayCount ws → 1 ≤ getD ws (1024 * a) 0 → Right (lev (arraysOf ws) a) (slotsOf ws a) (bestsOf ws a)
+  pub right : (a : ℕ) → 1 ≤ a → a ≤ arrayCount ws → 1 ≤ getD ws (1024 * a) 0
+      → Right (lev (arraysOf ws) a) (slotsOf ws a) (bestsOf ws a)
   pub header : Header ws
   pub rest : (k : ℕ) → 513 ≤ k → k < 1024 → getD ws k 0 ≡ 0
 

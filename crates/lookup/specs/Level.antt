@@ -24,7 +24,8 @@ best-inside W f base d s hops h b w =
 -- ---- the lengths of one array
 
 -- one length more
-hit-deeper : (h base d : ℕ) (m : Match) (b : ℕ) → h < 65536 → orShorter h (base + d) (deeper base m b) ≡ deeper base m (cond (eqb h 0) b (d * 65536 + h))
+hit-deeper : (h base d : ℕ) (m : Match) (b : ℕ) → h < 65536
+    → orShorter h (base + d) (deeper base m b) ≡ deeper base m (cond (eqb h 0) b (d * 65536 + h))
 hit-deeper zero base d m b w = refl
 hit-deeper (suc h) base d m b w =
     let p : (d * 65536 + suc h) % 65536 ≡ suc h = omega arith in

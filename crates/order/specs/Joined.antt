@@ -86,14 +86,16 @@ module _ (W : ℕ) (w : W < 256) (A : ℕ) (N : List Route) (roomy : need W N �
         }
 
   -- the whole of an interleaving
-  beside-heard : {xs ys zs : List Update} (v : Weave xs ys zs) (js ss : List Route) → Each (Owned true) xs → Each (Owned false) ys → Beside js ss
+  beside-heard : {xs ys zs : List Update} (v : Weave xs ys zs) (js ss : List Route) → Each (Owned true) xs → Each (Owned false) ys
+      → Beside js ss
       → plains (heard v (replies W A js (records zs))) ≡ plains (replies W A ss (records xs))
   beside-heard nothing js ss o p b = refl
   beside-heard (left x v) js ss o p b =
       ap₂ _∷_ (alike x js ss (o .0) b) (beside-heard v (after W A js x) (after W A ss x) (o .1) p (beside-own x js ss (o .0) b))
   beside-heard (right y v) js ss o p b = beside-heard v (after W A js y) ss o (p .1) (beside-other y js ss (p .0) b)
 
-  beside-leaves : {xs ys zs : List Update} (v : Weave xs ys zs) (js ss : List Route) → Each (Owned true) xs → Each (Owned false) ys → Beside js ss
+  beside-leaves : {xs ys zs : List Update} (v : Weave xs ys zs) (js ss : List Route) → Each (Owned true) xs
+      → Each (Owned false) ys → Beside js ss
       → Beside (leaves W A js (records zs)) (leaves W A ss (records xs))
   beside-leaves nothing js ss o p b = b
   beside-leaves (left x v) js ss o p b = beside-leaves v (after W A js x) (after W A ss x) (o .1) p (beside-own x js ss (o .0) b)
@@ -117,7 +119,8 @@ join-good [] ys p q = q
 join-good (x ∷ xs) ys p q = all-insert Good x (join xs ys) (p .0) (join-good xs ys (p .1) q)
 
 -- of two lists that hold no prefix in common
-join-union : (xs ys : List Route) → From 0 ys → All Good xs → ((k : ℕ) → (hopAt xs k ≡ 0) ⊎ (hopAt ys k ≡ 0)) → Union xs ys (join xs ys)
+join-union : (xs ys : List Route) → From 0 ys → All Good xs → ((k : ℕ) → (hopAt xs k ≡ 0) ⊎ (hopAt ys k ≡ 0))
+    → Union xs ys (join xs ys)
 join-union xs ys f p d =
     record {
       sorted = join-from xs ys f;

@@ -39,7 +39,8 @@ module _ (L a l k d x : ℕ) (s : Stands L a l k d x) (p : IsPrefix L a l) (insi
   pub stands-route : (h : ℕ) → routeOf (8 * L - (8 * k + d)) (front L a k * 2 ^ d + x) (8 * k + d) h ≡ route a l h
   stands-route h = ap₂ (λ (y z : ℕ). route y z h) whole (sym (s .whole))
 
-  stands-held : (t : Arrays) → 8 * L < 256 → list.held (routes (8 * L) (held t)) a l ≡ held t (front L a k * 2 ^ d + x) (8 * k + d)
+  stands-held : (t : Arrays) → 8 * L < 256
+      → list.held (routes (8 * L) (held t)) a l ≡ held t (front L a k * 2 ^ d + x) (8 * k + d)
   stands-held t w =
       let b : front L a k * 2 ^ d + x < 2 ^ (8 * k + d) = omega (arith, pow-add 2 (8 * k) d, mul-le-mul-right (2 ^ d) stands-head, stands-small) in
       ap₂ (λ (y z : ℕ). list.hopAt (routes (8 * L) (held t)) (y * 256 + z)) (sym whole) (s .whole)

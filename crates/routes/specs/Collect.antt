@@ -1,5 +1,5 @@
--- The list of all prefixes that are held, in the order of writing out, from what is held at each: f v l is the hop of the first l bits
--- v, and 0 where that prefix is not held. Assumes nothing.
+-- The list of all prefixes that are held, in the order of writing out, from what is held at each: f v l is the hop of the first
+-- l bits v, and 0 where that prefix is not held. Assumes nothing.
 --
 --     a prefix, then all inside its lower half, then all inside its upper half
 use mathlib.Core.List.{List, [], _∷_, _++_}

@@ -84,7 +84,8 @@ module _ (ws : List ℕ) (a k d x : ℕ) (s : Seat ws a k d x) where
   pub seat-slot : slots (blockOf ws a) (2 ^ d + x) ≡ slotsOf ws a (2 ^ d + x)
   seat-slot = block-slot ws a (2 ^ d + x) slot-lt
 
-  seat-exposed : exposed (slots (blockOf ws a)) d (x * 2 ^ (8 - d)) (2 ^ (8 - d)) ≡ exposed (slotsOf ws a) d (x * 2 ^ (8 - d)) (2 ^ (8 - d))
+  seat-exposed : exposed (slots (blockOf ws a)) d (x * 2 ^ (8 - d)) (2 ^ (8 - d))
+      ≡ exposed (slotsOf ws a) d (x * 2 ^ (8 - d)) (2 ^ (8 - d))
   seat-exposed = exposed-ext (slots (blockOf ws a)) (slotsOf ws a) (block-slot ws a) d (x * 2 ^ (8 - d)) (2 ^ (8 - d)) fits
     where
       fits : x * 2 ^ (8 - d) + 2 ^ (8 - d) ≤ 256
