@@ -30,7 +30,7 @@ use Rattle.feed.specs.declared.Ran.the-variants.{Stopped}
 use Rattle.order.specs.Feeds.{records, Weave, flip, heard, plains, kept, keptBoth, Union, Meets, Closes, bytes, readBack}
 use Rattle.order.specs.Enough.{enough}
 use Rattle.order.specs.Joined.{demand-3-ipv4}
-use Rattle.order.specs.Calls.{Call, promise, Called, demand-3-called}
+use Rattle.calls.specs.Three.{Call, promise, Called, demand-3-called}
 use Rattle.calls.specs.Held.{stopped}
 use Rattle.feed.specs.Series.{Series, all-answered}
 

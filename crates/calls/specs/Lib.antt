@@ -1,6 +1,7 @@
 pub mod Held
 pub mod Rows
 pub mod Round
+pub mod Three
 pub mod Both
 pub mod Sharp
 pub mod Face

@@ -4,5 +4,4 @@ pub mod Steps
 pub mod Joined
 pub mod Enough
 pub mod Fed
-pub mod Calls
 pub mod Example
