@@ -25,7 +25,7 @@
  * Words must be aligned as uint32_t is, also where they are a part of other memory: where a processor cannot read a word
  * at every address, as most MIPS cannot, each such read is a trap. With length 0 a pointer is never followed and may be
  * null. With any other length it must not be null: that, and a length larger than what is lent, no call can notice, but
- * for a number of words that is refused by 1, where no word is read. The parts lent to one call must not overlap. What
+ * for a number of words that is refused with 1, where no word is read. The parts lent to one call must not overlap. What
  * is lent through a pointer to const is not changed.
  *
  * Threads. Calls on the same words may go on at once only where none of them changes words: check, find and write do
@@ -231,7 +231,7 @@ TOGGLEASH_ANSWER toggleash_needed toggleash_copy_need(const uint8_t *bytes, size
 
 /* Makes the words a copy of the list, whatever they hold; words past those needed stay. Refuses by 2 as
  * toggleash_copy_need does, then by 9; a refused build has changed no word. The bytes are not needed afterwards. Any
- * number of words may be lent: neither this call nor the next refuses by 1. */
+ * number of words may be lent: neither this call nor the next refuses with 1. */
 TOGGLEASH_ANSWER toggleash_built toggleash_copy_build(const uint8_t *bytes, size_t bytes_len, uint32_t *words, size_t n);
 
 /* Finds the longest match in a copy. n may be any number from the need on, whatever stands in the words past it. Does
@@ -282,7 +282,7 @@ template <size_t n> constexpr toggleash_copy toggleash_copy_of_(uint32_t (&words
 #endif
 
 /* A table in lent memory whose size is known at run time only: TOGGLEASH_WORDS(arrays) words. The number is one of
- * arrays, so that a size in bytes, which is over 4,096 for every table, is refused by 1 in each call. */
+ * arrays, so that a size in bytes, which is over 4,096 for every table, is refused with 1 in each call. */
 static inline toggleash_table toggleash_table_at(uint32_t *words, uint32_t arrays) {
     toggleash_table table;
     table.words = words;

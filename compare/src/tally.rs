@@ -56,7 +56,7 @@ impl Tally {
         refusals.remove(0);
         println!("refusals 1, 2, 3, 4, 5, 7, 8, 9 met {refusals:?} times, stops 0 to 4 {stops:?} times");
         let copies = [self.copies.bytes_refused, self.copies.words_refused, self.copies.lookups_refused];
-        println!("for copies, bytes refused by 2, words by 9 and lookups by 2 {copies:?} times");
+        println!("for copies, bytes refused with 2, words by 9 and lookups by 2 {copies:?} times");
         if !self.enough() && [&refusals[..], &stops, &copies].concat().contains(&0) {
             println!("difference: one of them was never met");
             self.differences += 1;
