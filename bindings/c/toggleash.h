@@ -1,5 +1,5 @@
 /* Toggleash: an IPv4 route table in 32-bit words that the caller lends. Every call checks its input and either answers
- * or refuses by a number; a refused call has changed nothing lent. Link with libtoggleash.a. C11 or C++11 and later.
+ * or refuses with a number; a refused call has changed nothing lent. Link with libtoggleash.a. C11 or C++11 and later.
  *
  *     static uint32_t words[TOGGLEASH_WORDS(7)];
  *     toggleash_table table = TOGGLEASH_TABLE(words);
@@ -200,37 +200,37 @@ typedef struct {
 /* Makes the words the table of no route, whatever they hold. Returns 0, or 1. */
 TOGGLEASH_ANSWER uint32_t toggleash_clear(uint32_t *words, size_t n);
 
-/* Tests whether the words are a table and counts. Refuses by 1 or 2. */
+/* Tests whether the words are a table and counts. Refuses with 1 or 2. */
 TOGGLEASH_ANSWER toggleash_counts toggleash_check(const uint32_t *words, size_t n);
 
-/* Finds the longest match. Refuses by 1. Does not test the table: on words that are none it reads inside them and gives
+/* Finds the longest match. Refuses with 1. Does not test the table: on words that are none it reads inside them and gives
  * what its walk gives, or 2. */
 TOGGLEASH_ANSWER toggleash_answer toggleash_lookup(const uint32_t *words, size_t n, uint32_t address);
 
-/* Adds a route, or gives a held prefix this hop, for which there is always room. Refuses by 1, 3, 4, 5, 2 or 8. Any length
+/* Adds a route, or gives a held prefix this hop, for which there is always room. Refuses with 1, 3, 4, 5, 2 or 8. Any length
  * and hop may be given. */
 TOGGLEASH_ANSWER toggleash_update toggleash_announce(uint32_t *words, size_t n, uint32_t address, uint32_t length,
                                                      uint32_t hop);
 
-/* Removes a route. Refuses by 1, 3, 4, 2 or 7. Any length may be given. */
+/* Removes a route. Refuses with 1, 3, 4, 2 or 7. Any length may be given. */
 TOGGLEASH_ANSWER toggleash_update toggleash_withdraw(uint32_t *words, size_t n, uint32_t address, uint32_t length);
 
-/* Writes the routes as a feed of announcements and an end to the front of the buffer; the rest stays. Refuses by 1, 2
+/* Writes the routes as a feed of announcements and an end to the front of the buffer; the rest stays. Refuses with 1, 2
  * or 9. TOGGLEASH_WRITTEN_BYTES(routes), by the check, are enough and no fewer. A buffer of 0 bytes is always refused. */
 TOGGLEASH_ANSWER toggleash_written toggleash_write_out(const uint32_t *words, size_t n, uint8_t *buffer, size_t room);
 
 /* Takes the records of a feed in order and writes a reply to each but the end; reply bytes past `written` stay. Refuses
- * by 1 or 2, before any record. A refused record is replied to and the run goes on. Feed and reply may have 0 bytes. */
+ * with 1 or 2, before any record. A refused record is replied to and the run goes on. Feed and reply may have 0 bytes. */
 TOGGLEASH_ANSWER toggleash_ran toggleash_run(uint32_t *words, size_t n, const uint8_t *feed, size_t feed_len,
                                              uint8_t *reply, size_t reply_len);
 
-/* Counts the words that a copy of a written-out list needs. Refuses by 2 exactly where the bytes, all of them, are not
+/* Counts the words that a copy of a written-out list needs. Refuses with 2 exactly where the bytes, all of them, are not
  * what toggleash_write_out writes for some table: records of routes in order, the end, nothing after it. 0 bytes, which
  * may be null, are no list; the empty list is one byte 0. */
 TOGGLEASH_ANSWER toggleash_needed toggleash_copy_need(const uint8_t *bytes, size_t bytes_len);
 
-/* Makes the words a copy of the list, whatever they hold; words past those needed stay. Refuses by 2 as
- * toggleash_copy_need does, then by 9; a refused build has changed no word. The bytes are not needed afterwards. Any
+/* Makes the words a copy of the list, whatever they hold; words past those needed stay. Refuses with 2 as
+ * toggleash_copy_need does, then with 9; a refused build has changed no word. The bytes are not needed afterwards. Any
  * number of words may be lent: neither this call nor the next refuses with 1. */
 TOGGLEASH_ANSWER toggleash_built toggleash_copy_build(const uint8_t *bytes, size_t bytes_len, uint32_t *words, size_t n);
 
