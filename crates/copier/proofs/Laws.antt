@@ -8,6 +8,7 @@ use native.Mathlib.Omega.{arith}
 use lib.ListN.{length, getD, set, length-set}
 use lib.Seq.{getD-set-same, getD-set-other}
 use Rattle.logic.specs.Cases.{same}
+use Rattle.logic.specs.Bools.{not-true, not-false}
 use Rattle.way.specs.Way.{miss, hit, outside}
 use Rattle.way.specs.Marks.{bestAt}
 use Rattle.way.specs.Listed.{routeAt, listOf}
@@ -129,14 +130,6 @@ module _ (bs ws : List ℕ) (i m v : ℕ) (b : Bests bs ws i m v) where
 
 -- ---- a record entered
 
-off : (b : Bool) → not b ≡ true → b ≡ false
-off true e = absurd (false≢true e)
-off false e = refl
-
-on : (b : Bool) → not b ≡ false → b ≡ true
-on true e = refl
-on false e = absurd (true≢false e)
-
 module _ (k : Bool) (bs ws : List ℕ) (i m o p : ℕ) (f : Filling k bs ws (i + 1) m o p) where
   pub head-word : routeAt bs i .addr / 2 ^ (32 - m) < 4294967296
   head-word = omega (arith, head-fits bs (f .list) i (omega (arith, f .upto)) m (f .most), pow-mono {i = m} {j = 32} (f .most))
@@ -144,7 +137,8 @@ module _ (k : Bool) (bs ws : List ℕ) (i m o p : ℕ) (f : Filling k bs ws (i +
   module _ (c : chosen k m (routeAt bs i .len) ≡ true) (x : ℕ) (xe : x ≡ routeAt bs i .addr / 2 ^ (32 - m)) (b : Bool)
       (e : b ≡ isMiss (find (placesOf ws o) m p x)) where
     pub enter-again : not b ≡ true → Filled k bs ws ws i m o p
-    enter-again n = record { filling = filling-again k bs ws i m o p f c x xe b e (off b n); kept = kept-none ws o (o + 4 * p) }
+    enter-again n =
+        record { filling = filling-again k bs ws i m o p f c x xe b e (not-true b n); kept = kept-none ws o (o + 4 * p) }
 
     pub enter-bests : not b ≡ false → Bests bs ws i m x
     enter-bests n = record {
@@ -155,12 +149,12 @@ module _ (k : Bool) (bs ws : List ℕ) (i m o p : ℕ) (f : Filling k bs ws (i +
       long = omega (arith, f .fits, f .low);
       built = built-on (listOf bs) ws o (length ws) m (omega (arith, f .fits)) (f .built);
       value = xe;
-      marker = filling-new k bs ws i m o p f c x xe b e (on b n);
+      marker = filling-new k bs ws i m o p f c x xe b e (not-false b n);
     }
 
     pub enter-room : not b ≡ false → (o + 4 * p ≤ length ws) × Room (placesOf ws o) p
-    enter-room n = (f .fits, filling-room k bs ws i m o p f c x xe b e (on b n))
+    enter-room n = (f .fits, filling-room k bs ws i m o p f c x xe b e (not-false b n))
 
     pub enter-put : not b ≡ false → (us : List ℕ) (y : ℕ) → y ≡ bestAt (listOf bs) m x → Put ws us o p x y
         → Filled k bs ws us i m o p
-    enter-put n us y q s = filling-put k bs ws i m o p f c x xe us b y e (on b n) q s
+    enter-put n us y q s = filling-put k bs ws i m o p f c x xe us b y e (not-false b n) q s

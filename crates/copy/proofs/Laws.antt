@@ -4,7 +4,6 @@ use mathlib.Core.Logic.{_≢_}
 use mathlib.Core.Bool.{Bool, true, false}
 use mathlib.Core.List.{List}
 use Prim.Native.Nat.{ℕ, zero, suc, _+_, _-_, _*_, _/_, _%_, _^_, _≤_, _<_}
-use native.Mathlib.Nat.{pow-succ'}
 use native.Mathlib.Omega.{arith}
 use lib.ListN.{length, getD}
 use lib.Dec.{ltb}
@@ -131,10 +130,6 @@ module _ (f : ℕ → Look) (m best : ℕ) where
   unfolding search
   turn-longer zero p b h q e = absurd (omega arith)
   turn-longer (suc n) p b h q e = let z : suc n - 1 ≡ n = omega arith in rw (e, q, z)
-
-pub half : (n : ℕ) → 1 ≤ n → 2 ^ n ≡ 2 * 2 ^ (n - 1)
-half zero h = absurd (omega arith)
-half (suc n) h = let e : suc n - 1 ≡ n = omega arith in rw e (omega (arith, pow-succ' 2 n))
 
 -- ---- the answer
 

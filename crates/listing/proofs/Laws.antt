@@ -16,6 +16,7 @@ use Rattle.routes.specs.Seen.{gives, refuses}
 use Rattle.logic.specs.Cases.{same, less}
 use Rattle.logic.specs.Every.{allB}
 use Rattle.logic.specs.Tells.{all-stop}
+use Rattle.logic.specs.Bools.{not-true, not-false}
 use Rattle.way.specs.Marks.{picks, markers, entries}
 use Rattle.way.specs.Count.{firstOr, heads-picks}
 use Rattle.way.specs.Entries.{tally, entriesTo, own-distinct, entries-all}
@@ -23,14 +24,6 @@ use Rattle.way.specs.Listed.{routeAt, routesFrom, listOf, routeB, recordB, whol
 use Rattle.way.specs.Records.{Bytes, whole-list, tail-step, tail-end, tail-list, count-skip, count-same, count-new, count-first}
 use Rattle.way.specs.Records.{distinct-length, records-length, list-short, wfs}
 use Rattle.listing.specs.Pick.{Whole, Counted}
-
-pub off : (b : Bool) → not b ≡ true → b ≡ false
-off true e = absurd (false≢true e)
-off false e = refl
-
-pub on : (b : Bool) → not b ≡ false → b ≡ true
-on true e = refl
-on false e = absurd (true≢false e)
 
 and-false : (b : Bool) → (b && false) ≡ false
 and-false true = refl
@@ -109,7 +102,7 @@ module _ (bs : List ℕ) where
   whole-unended e n = fails (unended e n)
 
   pub whole-broken : (i : ℕ) (r : Bool) → i < length bs / 8 → r ≡ recordB bs i → not r ≡ true → Whole bs false
-  whole-broken i r h e n = fails (broken i h (sym e ∙ off r n))
+  whole-broken i r h e n = fails (broken i h (sym e ∙ not-true r n))
 
   pub whole-right : Bytes bs → length bs % 8 ≡ 1 → getD bs (8 * (length bs / 8)) 0 ≡ 0 → (i : ℕ) → length bs / 8 ≤ i
       → i ≤ length bs / 8 → allB (recordB bs) i ≡ true → Whole bs true
@@ -216,12 +209,12 @@ module _ (bs : List ℕ) where
   fitting e h = rw (e, le-leb (need 32 (listOf bs)) 4096 h)
 
   pub need-broken : (r : Bool) → Whole bs r → not r ≡ true → refuses 2 ≡ needOn (listedIn bs)
-  need-broken r w e = ap needOn (sym (unwhole (sym (w .told) ∙ off r e)))
+  need-broken r w e = ap needOn (sym (unwhole (sym (w .told) ∙ not-true r e)))
 
   pub need-crowded : (r : Bool) (n : ℕ) → Whole bs r → not r ≡ false → n ≡ need 32 (listOf bs) → 4096 < n
       → refuses 2 ≡ needOn (listedIn bs)
-  need-crowded r n w e q h = ap needOn (sym (crowded (sym (w .told) ∙ on r e) (omega arith)))
+  need-crowded r n w e q h = ap needOn (sym (crowded (sym (w .told) ∙ not-false r e) (omega arith)))
 
   pub need-words : (r : Bool) (n t : ℕ) → Whole bs r → not r ≡ false → n ≡ need 32 (listOf bs) → n ≤ 4096
       → t ≡ length (listOf bs) + markers (listOf bs) → gives (8 * t + 1024) ≡ needOn (listedIn bs)
-  need-words r n t w e q h s = rw s (ap needOn (sym (fitting (sym (w .told) ∙ on r e) (omega arith))))
+  need-words r n t w e q h s = rw s (ap needOn (sym (fitting (sym (w .told) ∙ not-false r e) (omega arith))))

@@ -3,17 +3,12 @@ use mathlib.Core.Path.{_≡_}
 use mathlib.Core.Logic.{_≢_}
 use mathlib.Core.Bool.{true, false}
 use Prim.Native.Nat.{ℕ, zero, suc, _+_, _-_, _*_, _^_, _≤_, _<_}
-use native.Mathlib.Nat.{pow-succ'}
 use native.Mathlib.Omega.{arith}
 use lib.Dec.{eqb}
 use borrow.Author.Tests.{lt-ltb, le-ltb, eq-eqb, ne-eqb}
 use Rattle.routes.specs.Room.{mem}
 use Rattle.logic.specs.Cases.{same}
 use Rattle.way.specs.Way.{turns}
-
-pub half : (n : ℕ) → 1 ≤ n → 2 ^ n ≡ 2 * 2 ^ (n - 1)
-half zero h = absurd (omega arith)
-half (suc n) h = let e : suc n - 1 ≡ n = omega arith in rw e (omega (arith, pow-succ' 2 n))
 
 module _ (m l : ℕ) where
   pub way-here : (n at : ℕ) → at ≡ l → false ≡ mem m (turns n at l)

@@ -1,10 +1,11 @@
 -- The loop keeps that what is left of the search is the whole of it. Assumes nothing.
 use mathlib.Core.Path.{_≡_, refl, sym, ap, _∙_}
+use Rattle.numbers.specs.Powers.{half}
 use Rattle.copy.specs.Told.{seen}
 use Prim.Native.Nat.{_+_, _^_, _≤_}
 use lib.Pow.{pow-pos}
 use Rattle.way.specs.Way.{search as seek}
-use Rattle.copy.proofs.Laws.{looks, half, turn-shorter, turn-longer, any-outside}
+use Rattle.copy.proofs.Laws.{looks, turn-shorter, turn-longer, any-outside}
 use borrow.Author.Needs.{needs}
 use native.Mathlib.Omega.{arith}
 use Rattle.copy.proofs.search_from.Statement.{statement}

@@ -1,5 +1,6 @@
 -- Each return is one law of the tests. Assumes nothing.
-use Rattle.listing.proofs.Laws.{off, on, record-kind, record-route, record-bad, record-first, record-order}
+use Rattle.logic.specs.Bools.{not-true, not-false}
+use Rattle.listing.proofs.Laws.{record-kind, record-route, record-bad, record-first, record-order}
 use borrow.Author.Needs.{needs}
 use Rattle.listing.proofs.is_record.Statement.{statement}
 use Rattle.listing.proofs.is_record.Tie as tie
@@ -38,7 +39,7 @@ returns-2 c =
     let is-route = c .before .is-route in
     record-bad (a .bytes .now) (a .i) (is-route .result)
     (record-route (a .bytes .now) (a .i) (four-at .result) (bits .result) (hop .result) (is-route .result) (four-at .ensures) (bits .ensures .0)
-    (hop .ensures .0) (is-route .ensures)) (off (is-route .result) (c .if2 .taken)) (if1 .left)
+    (hop .ensures .0) (is-route .ensures)) (not-true (is-route .result) (c .if2 .taken)) (if1 .left)
 
 returns-3 : tie.Need-returns-3
 returns-3 c =
@@ -50,7 +51,7 @@ returns-3 c =
     let is-route = c .before .before .is-route in
     record-first (a .bytes .now) (a .i) (is-route .result)
     (record-route (a .bytes .now) (a .i) (four-at .result) (bits .result) (hop .result) (is-route .result) (four-at .ensures) (bits .ensures .0)
-    (hop .ensures .0) (is-route .ensures)) (on (is-route .result) (c .before .if2 .left)) (if1 .left) (c .if3 .taken)
+    (hop .ensures .0) (is-route .ensures)) (not-false (is-route .result) (c .before .if2 .left)) (if1 .left) (c .if3 .taken)
 
 sub-key-at : tie.Need-sub-key-at
 sub-key-at c = search needs
@@ -73,7 +74,7 @@ returns-4 c =
     let if3 = c .before .before .if3 in
     record-order (a .bytes .now) (a .i) (is-route .result) (c .before .key-at .result) (c .key-at2 .result)
     (record-route (a .bytes .now) (a .i) (four-at .result) (bits .result) (hop .result) (is-route .result) (four-at .ensures) (bits .ensures .0)
-    (hop .ensures .0) (is-route .ensures)) (on (is-route .result) (if2 .left)) (if1 .left) (if3 .left) (c .before .key-at .ensures) (c .key-at2 .ensures)
+    (hop .ensures .0) (is-route .ensures)) (not-false (is-route .result) (if2 .left)) (if1 .left) (if3 .left) (c .before .key-at .ensures) (c .key-at2 .ensures)
 
 pub is-record-spec : {M : Type 1} → statement M
 is-record-spec =

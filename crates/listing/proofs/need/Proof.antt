@@ -1,5 +1,6 @@
 -- Each return is one law of the answer. Assumes nothing.
-use Rattle.listing.proofs.Laws.{on, need-broken, need-crowded, need-words}
+use Rattle.logic.specs.Bools.{not-false}
+use Rattle.listing.proofs.Laws.{need-broken, need-crowded, need-words}
 use borrow.Author.Needs.{needs}
 use Rattle.listing.proofs.need.Statement.{statement}
 use Rattle.listing.proofs.need.Tie as tie
@@ -11,7 +12,7 @@ returns : tie.Need-returns
 returns c = need-broken (c .before .before .before .args .bytes .now) (c .before .whole .result) (c .before .whole .ensures) (c .if1 .taken)
 
 arrays-requires : tie.Need-arrays-requires
-arrays-requires c κs = c .before .whole .ensures .list (on (c .before .whole .result) (c .if1 .left))
+arrays-requires c κs = c .before .whole .ensures .list (not-false (c .before .whole .result) (c .if1 .left))
 
 returns-2 : tie.Need-returns-2
 returns-2 c =
@@ -21,7 +22,7 @@ returns-2 c =
     need-crowded (a .bytes .now) (whole .result) (c .before .arrays .result) (whole .ensures) (if1 .left) (c .before .arrays .ensures) (c .if2 .taken)
 
 total-requires : tie.Need-total-requires
-total-requires c κs = c .before .before .before .whole .ensures .list (on (c .before .before .before .whole .result) (c .before .before .if1 .left))
+total-requires c κs = c .before .before .before .whole .ensures .list (not-false (c .before .before .before .whole .result) (c .before .before .if1 .left))
 
 mul-t5 : tie.Need-mul-t5
 mul-t5 c = search needs

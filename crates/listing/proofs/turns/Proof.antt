@@ -1,9 +1,10 @@
 -- The loop keeps what is left of the way: whether it still turns longer at m. Assumes nothing.
 use mathlib.Core.Path.{_≡_, refl, _∙_}
 use Prim.Native.Nat.{_+_, _^_, _≤_}
+use Rattle.numbers.specs.Powers.{half}
 use Rattle.routes.specs.Room.{mem}
 use Rattle.way.specs.Way.{turns, turnsAt}
-use Rattle.listing.proofs.Path.{half, way-here, way-turn, way-down, way-up, way-end, way-last}
+use Rattle.listing.proofs.Path.{way-here, way-turn, way-down, way-up, way-end, way-last}
 use native.Mathlib.Omega.{arith}
 use Rattle.listing.proofs.turns.Statement.{statement}
 use Rattle.listing.proofs.turns.Tie as tie

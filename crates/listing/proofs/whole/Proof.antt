@@ -4,8 +4,9 @@ use mathlib.Core.Bool.{true}
 use Prim.Native.Nat.{_-_, _≤_}
 use Rattle.logic.specs.Every.{allB}
 use Rattle.logic.specs.Tells.{all-none, all-more}
+use Rattle.logic.specs.Bools.{not-false}
 use Rattle.way.specs.Listed.{recordB}
-use Rattle.listing.proofs.Laws.{on, whole-odd, whole-unended, whole-broken, whole-right}
+use Rattle.listing.proofs.Laws.{whole-odd, whole-unended, whole-broken, whole-right}
 use native.Mathlib.Omega.{arith}
 use Rattle.listing.proofs.whole.Statement.{statement}
 use Rattle.listing.proofs.whole.Tie as tie
@@ -52,7 +53,7 @@ loop-again c =
     let l = c .before .before .before .loop in (
       omega arith,
       all-more (recordB (a .bytes .now)) (l .i) (l .inv .1)
-          (sym (c .before .is-record .ensures) ∙ on (c .before .is-record .result) (c .if3 .left)),
+          (sym (c .before .is-record .ensures) ∙ not-false (c .before .is-record .result) (c .if3 .left)),
     )
 
 returns-4 : tie.Need-returns-4 Inv-loop μ-loop
