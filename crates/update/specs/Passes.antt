@@ -8,7 +8,8 @@ use Rattle.routes.specs.Route.{Route}
 use Rattle.routes.specs.Answers.{Update}
 use Rattle.routes.specs.Seen.{table}
 use Rattle.arrays.specs.Table.{seen}
-use Rattle.arrays.specs.View.{seen-table, table-of, table-true, table-fits, fits-no-misfit}
+use Rattle.arrays.specs.Decides.{table-tells}
+use Rattle.arrays.specs.View.{seen-table, table-of, table-fits, fits-no-misfit}
 use Rattle.update.specs.declared.Updated.{Updated}
 use Rattle.update.specs.Update.{refusalOf, Updates}
 use Rattle.update.specs.Refuse.{refusal-none, passed}
@@ -20,7 +21,8 @@ Passes ws = refusalOf ws 0 ≡ 0
 pub seen-passes : (ws : List ℕ) (A : ℕ) (rs : List Route) → seen 4 ws ≡ table A rs → Passes ws
 seen-passes ws A rs e =
     let t = table-of 4 ws (omega arith) (omega arith) A rs e .table in
-    sym (refusal-none ws 0 (fits-no-misfit _ (table-fits 4 ws t)) refl (table-true 4 ws t))
+    let f = table-fits 4 ws t in
+    sym (refusal-none ws 0 (fits-no-misfit _ f) refl (table-tells 4 ws (omega arith) (omega arith) f .from t))
 
 pub update-passes : (ws vs : List ℕ) (u : Update) (r : Updated) → Updates ws vs u r → Passes ws → Passes vs
 update-passes ws vs u r p e =
