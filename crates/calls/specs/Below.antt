@@ -6,36 +6,25 @@
 --          │
 --         run         its promise holds of an answer r, and r tells n
 use mathlib.Core.Path.{_≡_, refl, sym, ap, _∙_}
-use mathlib.Core.Bool.{Bool, true, false, false≢true}
+use mathlib.Core.Bool.{true, false≢true}
 use mathlib.Core.List.{List, _++_}
-use Prim.Native.Nat.{ℕ, zero, suc, _+_, _-_, _*_, _≤_}
+use Prim.Native.Nat.{ℕ}
 use native.Mathlib.Omega.{arith}
-use lib.Dec.{ltb, eqb}
 use lib.ListN.{length, drop}
-use Rattle.routes.specs.Route.{Route, route, tooLong, stray, badHop, held}
-use Rattle.routes.specs.Match.{Match as Best, longest}
-use Rattle.routes.specs.Match as best
-use Rattle.routes.specs.Cells.{cells}
-use Rattle.routes.specs.Answers.{Update, announce, withdraw, Reply, done, found, none, refused}
-use Rattle.routes.specs.Answers.{refuse, faulty, lacking, reloaded, verdict, answer, isRefused, matched}
+use Rattle.routes.specs.Answers.{Update, Reply, done, found, none, refused}
+use Rattle.routes.specs.Answers.{answer, isRefused}
 use Rattle.routes.specs.Runs.{Ran as Outcome}
-use Rattle.routes.specs.Seen.{Seen, misfit, foreign, table, Answer, gives, refuses, Counts}
+use Rattle.routes.specs.Seen.{Answer, gives, refuses, Counts}
 use Rattle.routes.specs.Seen.{answerOn, lookupOn, clearOn, checkOn, countOn, frontOn, runOn}
-use Rattle.logic.specs.Cases.{bool}
 use Rattle.arrays.specs.Table.{seen}
-use Rattle.arrays.specs.Words.{arraysOf, arrayCount, bestsOf}
 use Rattle.audit.specs.Told as audit
 use Rattle.audit.specs.declared.Cleared.{Cleared}
 use Rattle.audit.specs.declared.Cleared.the-variants as cleared
 use Rattle.audit.specs.declared.Checked.{Checked}
 use Rattle.audit.specs.declared.Checked.the-variants as checked
-use Rattle.matches.specs.Told as matches
-use Rattle.matches.specs.declared.Match.{Match}
-use Rattle.matches.specs.declared.Match.the-variants as match
-use Rattle.lookup.specs.Walk.{byteAt, outside, deeper, walkFrom, walk}
+use Rattle.replies.specs.Said.{saidReply, replyOf, said-back}
+use Rattle.lookup.specs.Walk.{walk}
 use Rattle.update.specs.Update as update
-use Rattle.update.specs.declared.Updated.{Updated as Made}
-use Rattle.update.specs.declared.Updated.the-variants as made
 use Rattle.writing.specs.Told.{toldCount, Fills, front-length, front-none}
 use Rattle.writing.specs.declared.Counted.{Counted as Size}
 use Rattle.writing.specs.declared.Counted.the-variants as size
@@ -91,110 +80,21 @@ check-below ws r p =
 
 -- ---- toggleash_lookup
 
--- no lookup is answered by `done`, and none refused by the number 0
-abbrev pub OfLookup : Reply → Type 0
-OfLookup (done h c) = ⊥
-OfLookup (found h l) = Unit {0}
-OfLookup none = Unit {0}
-OfLookup (refused n) = 1 ≤ n
-
-best-looks : (m : Best) → OfLookup (matched m)
-best-looks best.none = tt
-best-looks (best.found h l) = tt
-
-refuse-looks : (n : ℕ) (b : Bool) (y : Reply) → 1 ≤ n → OfLookup y → OfLookup (refuse n b y)
-refuse-looks n true y h p = h
-refuse-looks n false y h p = p
-
-walk-looks : (W : ℕ) (ws : List ℕ) (x n a : ℕ) (m : Best) → OfLookup (walkFrom W ws x n a m)
-unfolding walkFrom
-walk-looks W ws x zero a m = omega arith
-walk-looks W ws x (suc n) a m =
-    let base : ℕ = W - 8 * suc n in
-    let b : ℕ = bestsOf ws a (byteAt x n) in
-    let c : ℕ = arraysOf ws .link a (byteAt x n) in
-    refuse-looks 2 (outside W base b) _ (omega arith)
-    (bool (eqb c 0)
-    (λ e. rw e (best-looks (deeper base m b)))
-    (λ e. rw e (refuse-looks 2 (ltb (arrayCount ws) c) _ (omega arith) (walk-looks W ws x n c (deeper base m b)))))
-
-pub lookup-looks : (ws : List ℕ) (a : ℕ) → OfLookup (lookupOn 32 (seen 4 ws) (walk 4 ws a) a)
-lookup-looks ws a = go (seen 4 ws)
-  where
-    go : (s : Seen) → OfLookup (lookupOn 32 s (walk 4 ws a) a)
-    go misfit = omega arith
-    go foreign = walk-looks 32 ws a 4 1 best.none
-    go (table A rs) = best-looks (longest 32 a rs)
-
-abbrev asMatch : Reply → Match
-asMatch (done h c) = match.Nothing
-asMatch (found h l) = match.Found h l
-asMatch none = match.Nothing
-asMatch (refused n) = match.Refused n
-
-match-back : (y : Reply) → OfLookup y → matches.told (asMatch y) ≡ y
-match-back (done h c) p = absurd p
-match-back (found h l) p = refl
-match-back none p = refl
-match-back (refused n) p = refl
-
 pub lookup-below : (ws : List ℕ) (a : ℕ) (r : Found) → r ≡ looked (lookupOn 32 (seen 4 ws) (walk 4 ws a) a)
-    → Below (λ m. looked (matches.told m)) (λ m. matches.told m ≡ lookupOn 32 (seen 4 ws) (walk 4 ws a) a) r
+    → Below (λ m. looked (saidReply m)) (λ m. saidReply m ≡ lookupOn 32 (seen 4 ws) (walk 4 ws a) a) r
 lookup-below ws a r p =
     let y : Reply = lookupOn 32 (seen 4 ws) (walk 4 ws a) a in
-    let e = match-back y (lookup-looks ws a) in
-    record { answer = asMatch y; told = p ∙ ap looked (sym e); promise = e }
+    record { answer = replyOf y; told = p ∙ ap looked (sym (said-back y)); promise = said-back y }
 
 -- ---- toggleash_announce, toggleash_withdraw
 
--- no update is answered by `found` or `none`, and none refused by the number 0
-abbrev pub OfUpdate : Reply → Type 0
-OfUpdate (done h c) = Unit {0}
-OfUpdate (found h l) = ⊥
-OfUpdate none = ⊥
-OfUpdate (refused n) = 1 ≤ n
-
-refuse-made : (n : ℕ) (b : Bool) (y : Reply) → 1 ≤ n → OfUpdate y → OfUpdate (refuse n b y)
-refuse-made n true y h p = h
-refuse-made n false y h p = p
-
-faulty-made : (W : ℕ) (u : Update) (y : Reply) → OfUpdate y → OfUpdate (faulty W u y)
-faulty-made W (announce a l h) y p =
-    refuse-made 3 (tooLong W l) _ (omega arith)
-    (refuse-made 4 (stray W a l) _ (omega arith) (refuse-made 5 (badHop h) y (omega arith) p))
-faulty-made W (withdraw a l) y p =
-    refuse-made 3 (tooLong W l) _ (omega arith) (refuse-made 4 (stray W a l) y (omega arith) p)
-
-verdict-made : (W A : ℕ) (rs : List Route) (u : Update) → OfUpdate (verdict W A rs u)
-verdict-made W A rs (announce a l h) = refuse-made 8 (lacking W A rs a l h) (done h (reloaded W rs a l h)) (omega arith) tt
-verdict-made W A rs (withdraw a l) =
-    refuse-made 7 (eqb (held rs a l) 0) (done (held rs a l) (cells W (route a l 0) rs)) (omega arith) tt
-
-pub answer-made : (s : Seen) (u : Update) → OfUpdate (answerOn 32 s u)
-unfolding answer
-answer-made misfit u = omega arith
-answer-made foreign u = faulty-made 32 u (refused 2) (omega arith)
-answer-made (table A rs) u = faulty-made 32 u (verdict 32 A rs u) (verdict-made 32 A rs u)
-
-abbrev asMade : Reply → Made
-asMade (done h c) = made.Done h c
-asMade (found h l) = made.Refused 0
-asMade none = made.Refused 0
-asMade (refused n) = made.Refused n
-
-made-back : (y : Reply) → OfUpdate y → update.told (asMade y) ≡ y
-made-back (done h c) p = refl
-made-back (found h l) p = absurd p
-made-back none p = absurd p
-made-back (refused n) p = refl
-
 pub update-below : (ws vs : List ℕ) (u : Update) (r : Updated) → Updates ws vs u r
-    → Below (λ m. updated (update.told m)) (update.Updates ws vs u) r
+    → Below (λ m. updated (saidReply m)) (update.Updates ws vs u) r
 update-below ws vs u r p =
     let y : Reply = answerOn 32 (seen 4 ws) u in
-    let e = made-back y (answer-made (seen 4 ws) u) in
+    let e = said-back y in
     record {
-      answer = asMade y;
+      answer = replyOf y;
       told = p .answer ∙ ap updated (sym e);
       promise = record {
         answer = e;

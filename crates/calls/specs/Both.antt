@@ -20,9 +20,9 @@ use Rattle.routes.specs.Seen.{Answer, table, gives, lookupOn, checkOn, frontOn}
 use Rattle.arrays.specs.Table.{seen}
 use Rattle.audit.specs.Told.{toldCheck}
 use Rattle.audit.specs.declared.Checked.{Checked}
-use Rattle.matches.specs.Told as matches
+use Rattle.replies.specs.Said.{saidReply}
+use Rattle.replies.specs.declared.Reply as code
 use Rattle.lookup.specs.Walk.{walk}
-use Rattle.matches.specs.declared.Match.{Match}
 use Rattle.feed.specs.Runs.{Runs, reportOf}
 use Rattle.feed.specs.declared.Report.{Report}
 use Rattle.feed.specs.declared.Ran.{Ran}
@@ -39,7 +39,8 @@ use Rattle.feed.specs.Series.{Series, all-answered}
 -- lookup answers by it, the check counts it, and writing out gives it
 pub record Holds (A : ℕ) (rs : List Route) (ws : List ℕ) : Type 0 where
   pub list : seen 4 ws ≡ table A rs
-  pub lookups : (a : ℕ) (r : Match) → matches.told r ≡ lookupOn 32 (seen 4 ws) (walk 4 ws a) a → matches.told r ≡ matched (longest 32 a rs)
+  pub lookups : (a : ℕ) (r : code.Reply) → saidReply r ≡ lookupOn 32 (seen 4 ws) (walk 4 ws a) a
+      → saidReply r ≡ matched (longest 32 a rs)
   pub checks : (r : Checked) → toldCheck r ≡ checkOn 32 (seen 4 ws) → toldCheck r ≡ gives (record { routes = length rs; arrays = need 32 rs })
   pub fronts : (b front : List ℕ) → 8 * length rs + 1 ≤ length b → front ≡ frontOn (seen 4 ws) (length b) → front ≡ written rs
 

@@ -19,8 +19,7 @@ use Rattle.audit.specs.Told as audit
 use Rattle.audit.specs.declared.Cleared.{Cleared as Answer}
 use Rattle.audit.specs.declared.Cleared.the-variants as answer
 use Rattle.lookup.specs.Walk.{walk}
-use Rattle.matches.specs.Told as matches
-use Rattle.update.specs.Update as below
+use Rattle.replies.specs.Said.{saidReply}
 use Rattle.toggleash.specs.Face.{refusal, Clears, Updates}
 use Rattle.toggleash.specs.Face as face
 use Rattle.toggleash.specs.declared.Found.{Found}
@@ -28,7 +27,7 @@ use Rattle.toggleash.specs.declared.Updated.{Updated}
 use Rattle.calls.specs.Held.{cleared-done}
 use Rattle.feed.specs.Series as rattle
 use Rattle.calls.specs.Below.{clear-below, lookup-below, update-below}
-use Rattle.calls.specs.Below.{OfLookup, lookup-looks, OfUpdate, answer-made}
+use Rattle.calls.specs.Sorts.{OfLookup, lookup-looks, OfUpdate, answer-made}
 
 -- ---- numbers read as replies
 
@@ -101,12 +100,12 @@ cleared {A} {words} c = cleared-done A (c .lent) words (c .size) (clear-done c)
 pub asked-below : {ws vs : List ℕ} {x : Record} {y : Reply} → Asked ws x y vs → rattle.Asked ws x y vs
 asked-below {ws} {vs} (updated {u} r p) =
     let b = update-below ws vs u r p in
-    let e : saidUpdate r ≡ below.told (b .answer) =
+    let e : saidUpdate r ≡ saidReply (b .answer) =
     ap saidUpdate (p .answer) ∙ update-read _ (answer-made (seen 4 ws) u) ∙ sym (b .promise .answer) in
     rw e (rattle.updated (b .answer) (b .promise))
 asked-below {ws} (looked {a} r p) =
     let b = lookup-below ws a r p in
-    let e : saidLookup r ≡ matches.told (b .answer) = ap saidLookup p ∙ lookup-read _ (lookup-looks ws a) ∙ sym (b .promise) in
+    let e : saidLookup r ≡ saidReply (b .answer) = ap saidLookup p ∙ lookup-read _ (lookup-looks ws a) ∙ sym (b .promise) in
     rw e (rattle.looked (b .answer) (b .promise))
 
 pub series-below : {ws vs : List ℕ} {xs : List Record} {ys : List Reply} → Series ws xs ys vs → rattle.Series ws xs ys vs

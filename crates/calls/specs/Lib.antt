@@ -7,6 +7,7 @@ pub mod Sharp
 pub mod Face
 pub mod Copy
 pub mod Below
+pub mod Sorts
 pub mod Exported
 pub mod ExportedRound
 pub mod ExportedBoth

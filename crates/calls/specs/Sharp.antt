@@ -16,13 +16,11 @@ use Rattle.audit.specs.Told.{toldCheck, Clears}
 use Rattle.audit.specs.Sharp as audit
 use Rattle.audit.specs.declared.Cleared.{Cleared}
 use Rattle.audit.specs.declared.Checked.{Checked}
-use Rattle.lookup.specs.Told as lookup
-use Rattle.matches.specs.Told as matches
+use Rattle.replies.specs.Said.{saidReply, reply-one}
+use Rattle.replies.specs.declared.Reply as code
 use Rattle.lookup.specs.Walk.{walk}
-use Rattle.matches.specs.declared.Match.{Match}
-use Rattle.update.specs.Update.{told, Updates, Applies}
+use Rattle.update.specs.Update.{Updates, Applies}
 use Rattle.update.specs.Sharp as update
-use Rattle.update.specs.declared.Updated.{Updated}
 use Rattle.writing.specs.Told as writing
 use Rattle.writing.specs.declared.Counted.{Counted}
 use Rattle.feed.specs.Runs.{Runs}
@@ -40,18 +38,21 @@ check-agrees ws r r′ p q = audit.check-sharp (checkOn 32 (seen 4 ws)) r r′ p
 
 -- ---- lookup: on a table by its list, on other words by the layout's walk over them
 
-pub lookup-agrees : (ws : List ℕ) (a : ℕ) (r r′ : Match) → matches.told r ≡ lookupOn 32 (seen 4 ws) (walk 4 ws a) a → matches.told r′ ≡ lookupOn 32 (seen 4 ws) (walk 4 ws a) a → r ≡ r′
-lookup-agrees ws a r r′ p q = lookup.lookup-one ws a r r′ p q
+pub lookup-agrees : (ws : List ℕ) (a : ℕ) (r r′ : code.Reply) → saidReply r ≡ lookupOn 32 (seen 4 ws) (walk 4 ws a) a
+    → saidReply r′ ≡ lookupOn 32 (seen 4 ws) (walk 4 ws a) a → r ≡ r′
+lookup-agrees ws a r r′ p q = reply-one r r′ (p ∙ sym q)
 
 -- ---- announce, withdraw
 
-pub update-agrees : (ws : List ℕ) (u : Update) (vs vs′ : List ℕ) (r r′ : Updated) → Updates ws vs u r → Updates ws vs′ u r′ → update.Agree vs vs′ r r′
+pub update-agrees : (ws : List ℕ) (u : Update) (vs vs′ : List ℕ) (r r′ : code.Reply) → Updates ws vs u r → Updates ws vs′ u r′
+    → update.Agree vs vs′ r r′
 update-agrees ws u vs vs′ r r′ p q = update.sharp ws vs vs′ u r r′ p q
 
 -- the work after the check, on a table
-pub work-agrees : (ws : List ℕ) (u : Update) (vs vs′ : List ℕ) (r r′ : Updated) → Applies 4 ws vs u r → Applies 4 ws vs′ u r′ → update.Agree vs vs′ r r′
+pub work-agrees : (ws : List ℕ) (u : Update) (vs vs′ : List ℕ) (r r′ : code.Reply) → Applies 4 ws vs u r → Applies 4 ws vs′ u r′
+    → update.Agree vs vs′ r r′
 work-agrees ws u vs vs′ r r′ p q =
-    let e : r ≡ r′ = update.one-answer r r′ (p .answer ∙ sym (q .answer)) in
+    let e : r ≡ r′ = reply-one r r′ (p .answer ∙ sym (q .answer)) in
     let n : length vs ≡ length vs′ = p .size ∙ sym (q .size) in
     let l : listOf 4 vs ≡ listOf 4 vs′ = p .list ∙ rw e (sym (q .list)) in
     record {

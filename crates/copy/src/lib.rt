@@ -1,5 +1,5 @@
 // A copy of a route list in lent words, looked up by lengths: a hash table for each length, and the search's way among them.
-use matches::Match;
+use replies::Match;
 ghost use mathlib.Core.Path.{_≡_};
 ghost use Prim.Native.Nat.{_+_, _*_, _-_, _/_, _^_, _<_, _≤_};
 ghost use lib.ListN.{length};
@@ -12,7 +12,7 @@ ghost use Rattle.copy.specs.Layout.{wide as wideAt, badBest, ranged as r
 ghost use Rattle.copy.specs.Layout.{place as placeOf, find, look, answered, walk};
 ghost use Rattle.copy.specs.Copy.{Copy};
 ghost use Rattle.copy.specs.Told.{seen};
-ghost use Rattle.matches.specs.Told.{told};
+ghost use Rattle.replies.specs.Said.{saidMatch};
 
 // What a look at one length gives: no entry; an entry's best match; a number outside its range.
 pub enum Look {
@@ -181,7 +181,7 @@ fn search_from(words: &[u32], address: u32, default: u32) -> Look
 }
 
 fn answer(found: Look) -> Match
-    ensures { λ r. ⌜ told r ≡ answered (seen found) ⌝ }
+    ensures { λ r. ⌜ saidMatch r ≡ answered (seen found) ⌝ }
 {
     match found {
         Look::Miss => Match::Nothing,
@@ -197,9 +197,9 @@ fn answer(found: Look) -> Match
 
 // The longest match of an address: on any words what the layout's walk gives, and on a copy of a list that of the list.
 pub fn lookup(words: &[u32], address: u32) -> Match
-    ensures { λ r. ⌜ told r ≡ walk (now (words .entry)) address ⌝ }
+    ensures { λ r. ⌜ saidMatch r ≡ walk (now (words .entry)) address ⌝ }
     ensures of_a_copy { λ r. ⌜ ((rs : List Route) → IsList 32 rs → Copy rs (now (words .entry))
-        → told r ≡ matched (longest 32 address rs)) ⌝ }
+        → saidMatch r ≡ matched (longest 32 address rs)) ⌝ }
 {
     if words.len() < 1024 {
         return Match::Refused(2);

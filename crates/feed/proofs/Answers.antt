@@ -7,7 +7,7 @@ use native.Mathlib.Omega.{arith}
 use lib.ListN.{length, getD}
 use lib.Dec.{eqb}
 use borrow.Author.Tests.{ne-eqb}
-use Rattle.routes.specs.Answers.{Update, announce, withdraw, update}
+use Rattle.routes.specs.Answers.{announce, withdraw}
 use Rattle.routes.specs.Bytes.{twoAt, fourAt}
 use Rattle.routes.specs.Runs.{size}
 use Rattle.routes.specs.Seen.{Seen, misfit, foreign, table, lookupOn}
@@ -15,14 +15,12 @@ use Rattle.laws.specs.Turns.{size-pos}
 use Rattle.arrays.specs.Table.{seen}
 use Rattle.arrays.specs.Almost.{Table}
 use Rattle.arrays.specs.View.{seen-cases}
-use Rattle.update.specs.Update.{Updates, told as toldUpdate}
-use Rattle.update.specs.declared.Updated.{Updated}
-use Rattle.matches.specs.Told.{told as toldMatch}
-use Rattle.matches.specs.declared.Match.{Match}
+use Rattle.replies.specs.Said.{saidReply}
+use Rattle.replies.specs.declared.Reply.{Reply}
+use Rattle.update.specs.Update.{Updates}
 use Rattle.lookup.specs.Walk.{walk}
 use Rattle.feed.specs.Series.{Asked, updated, looked}
-use Rattle.feed.specs.Turns.{IsTable, roomIn, listIn, told, announceAt, withdrawAt, lookupAt, here, Asks, one}
-use Rattle.feed.specs.declared.Reply.{Reply}
+use Rattle.feed.specs.Turns.{IsTable, roomIn, listIn, announceAt, withdrawAt, lookupAt, here, Asks, one}
 
 -- ---- words that are a table
 
@@ -36,23 +34,20 @@ pub is-table : (ws : List ℕ) → IsTable (seen 4 ws) → Table 4 ws
 is-table ws t =
     seen-cases 4 ws (omega arith) (omega arith) (λ _ e. absurd (rw e at t)) (λ _ _ e. absurd (rw e at t)) (λ _ _ k _. k)
 
--- ---- the calls: each answer is its promise's, told as a reply
+-- ---- the calls: each answer is its promise's
 
 module _ (ws vs : List ℕ) (r : Reply) (feed : List ℕ) (i : ℕ) where
-  asked-update : (u : Update) (x : Updated) → Updates ws vs u x → told r ≡ toldUpdate x → Asked ws (update u) (told r) vs
-  asked-update u x p q = rw q (updated x p)
+  pub asked-announce : (a l h : ℕ) → a ≡ fourAt feed (i + 1) → l ≡ getD feed (i + 5) 0 → h ≡ twoAt feed (i + 6)
+      → Updates ws vs (announce a l h) r → Asked ws (announceAt feed i) (saidReply r) vs
+  asked-announce a l h ea el eh p = rw (← ea, ← el, ← eh) (updated r p)
 
-  pub asked-announce : (a l h : ℕ) (x : Updated) → a ≡ fourAt feed (i + 1) → l ≡ getD feed (i + 5) 0 → h ≡ twoAt feed (i + 6)
-      → Updates ws vs (announce a l h) x → told r ≡ toldUpdate x → Asked ws (announceAt feed i) (told r) vs
-  asked-announce a l h x ea el eh p q = rw (← ea, ← el, ← eh) (asked-update (announce a l h) x p q)
+  pub asked-withdraw : (a l : ℕ) → a ≡ fourAt feed (i + 1) → l ≡ getD feed (i + 5) 0
+      → Updates ws vs (withdraw a l) r → Asked ws (withdrawAt feed i) (saidReply r) vs
+  asked-withdraw a l ea el p = rw (← ea, ← el) (updated r p)
 
-  pub asked-withdraw : (a l : ℕ) (x : Updated) → a ≡ fourAt feed (i + 1) → l ≡ getD feed (i + 5) 0
-      → Updates ws vs (withdraw a l) x → told r ≡ toldUpdate x → Asked ws (withdrawAt feed i) (told r) vs
-  asked-withdraw a l x ea el p q = rw (← ea, ← el) (asked-update (withdraw a l) x p q)
-
-pub asked-lookup : (ws : List ℕ) (r : Reply) (feed : List ℕ) (i a : ℕ) (x : Match) → a ≡ fourAt feed (i + 1)
-    → toldMatch x ≡ lookupOn 32 (seen 4 ws) (walk 4 ws a) a → told r ≡ toldMatch x → Asked ws (lookupAt feed i) (told r) ws
-asked-lookup ws r feed i a x e p q = rw (← e, q) (looked x p)
+pub asked-lookup : (ws : List ℕ) (r : Reply) (feed : List ℕ) (i a : ℕ) → a ≡ fourAt feed (i + 1)
+    → saidReply r ≡ lookupOn 32 (seen 4 ws) (walk 4 ws a) a → Asked ws (lookupAt feed i) (saidReply r) ws
+asked-lookup ws r feed i a e p = rw (← e) (looked r p)
 
 -- ---- by the kind
 

@@ -13,7 +13,7 @@ use lib.ListN.{length, getD, take, drop, take-append-drop}
 use lib.Seq.{length-sets, length-take-le, drop-drop}
 use lib.Dec.{eqb}
 use Rattle.routes.specs.Route.{Route}
-use Rattle.routes.specs.Answers.{reply, replies, isDone, isRefused}
+use Rattle.routes.specs.Answers.{Reply, reply, replies, isDone, isRefused}
 use Rattle.routes.specs.Bytes.{replyBytes}
 use Rattle.routes.specs.Runs.{State, Ran as Outcome, size, tally, finish, halts, taken, runs, fresh, run, recordsFrom}
 use Rattle.routes.specs.Seen.{Seen, misfit, foreign, table, gives}
@@ -26,8 +26,7 @@ use Rattle.update.specs.Update.{refusalOf}
 use Rattle.update.specs.Refuse.{refusal-size, refusal-foreign, refusal-none, passed}
 use Rattle.feed.specs.Runs.{reportOf, Runs}
 use Rattle.feed.specs.Series.{Asked, Series, nothing, more, Answered, answered}
-use Rattle.feed.specs.Turns.{IsTable, roomIn, listIn, told, one, here, Wrote, stateOf, Placed, Takes, Took}
-use Rattle.feed.specs.declared.Reply.{Reply}
+use Rattle.feed.specs.Turns.{IsTable, roomIn, listIn, one, here, Wrote, stateOf, Placed, Takes, Took}
 use Rattle.feed.specs.declared.Progress.{Progress}
 use Rattle.feed.specs.declared.Report.{Report}
 use Rattle.feed.specs.declared.Ran.the-variants.{Stopped, Refused}
@@ -45,20 +44,20 @@ one-le true = omega arith
 one-le false = omega arith
 
 module _ (p : Progress) (ws feed b : List ℕ) (t : Takes p ws feed b) (n : ℕ) (vs : List ℕ) (r : Reply) (q : ℕ) (c : List ℕ)
-    (x y : ℕ) (en : n ≡ size (getD feed (p .at) 0)) (asked : Asked ws (here feed (p .at)) (told r) vs)
-    (w : Wrote b (p .out) (replyBytes (told r)) q c)
-    (ex : x ≡ one (isDone (told r))) (ey : y ≡ one (isRefused (told r))) where
+    (x y : ℕ) (en : n ≡ size (getD feed (p .at) 0)) (asked : Asked ws (here feed (p .at)) r vs)
+    (w : Wrote b (p .out) (replyBytes r) q c)
+    (ex : x ≡ one (isDone r)) (ey : y ≡ one (isRefused r)) where
   abbrev A : ℕ
   A = roomIn (seen 4 ws)
 
   abbrev rs : List Route
   rs = listIn (seen 4 ws)
 
-  answer : Answered A rs (here feed (p .at)) (told r) vs
+  answer : Answered A rs (here feed (p .at)) r vs
   answer = answered A rs (table-eq (seen 4 ws) (t .isTable)) asked
 
-  fits : p .out + length (replyBytes (told r)) ≤ length b
-  fits = omega (arith, reply-short (told r), t .clear .free)
+  fits : p .out + length (replyBytes r) ≤ length b
+  fits = omega (arith, reply-short r, t .clear .free)
 
   pub took : Took p ws feed b (record { at = p .at + n; out = q; accepted = p .accepted + x; refused = p .refused + y }) vs c
   took =
@@ -74,37 +73,37 @@ module _ (p : Progress) (ws feed b : List ℕ) (t : Takes p ws feed b) (n : ℕ)
         list = answer .list ∙ ap (table A) (sym (ap listIn (answer .list)));
         rest =
             ap₂ (λ (m : ℕ) (l : List ℕ). drop m l) (w .place) (w .list)
-            ∙ drop-sets b (p .out) (replyBytes (told r)) fits
+            ∙ drop-sets b (p .out) (replyBytes r) fits
             ∙ ap (λ (m : ℕ). drop m b) (sym (w .place));
         placed = record {
           at = omega (arith, t .clear .body);
-          out = omega (arith, fits, w .place, ap length (w .list) ∙ length-sets b (p .out) (replyBytes (told r)));
-          accepted = omega (arith, t .placed .accepted, one-le (isDone (told r)), size-pos (getD feed (p .at) 0));
-          refused = omega (arith, t .placed .refused, one-le (isRefused (told r)), size-pos (getD feed (p .at) 0));
+          out = omega (arith, fits, w .place, ap length (w .list) ∙ length-sets b (p .out) (replyBytes r));
+          accepted = omega (arith, t .placed .accepted, one-le (isDone r), size-pos (getD feed (p .at) 0));
+          refused = omega (arith, t .placed .refused, one-le (isRefused r), size-pos (getD feed (p .at) 0));
         };
         on = omega (arith, size-pos (getD feed (p .at) 0));
         past = omega (arith, w .place);
       }
     where
-      said : told r ≡ reply 32 A rs (here feed (p .at))
+      said : r ≡ reply 32 A rs (here feed (p .at))
       said = answer .answer
 
       reps : take q c ≡ take (p .out) b ++ replyBytes (reply 32 A rs (here feed (p .at)))
       reps =
           ap₂ (λ (m : ℕ) (l : List ℕ). take m l) (w .place) (w .list)
-          ∙ take-sets b (p .out) (replyBytes (told r)) fits
+          ∙ take-sets b (p .out) (replyBytes r) fits
           ∙ ap (λ z. take (p .out) b ++ replyBytes z) said
 
       acc : p .accepted + x ≡ tally (isDone (reply 32 A rs (here feed (p .at)))) (p .accepted)
       acc =
           ap (λ (m : ℕ). p .accepted + m) ex
-          ∙ one-tally (isDone (told r)) (p .accepted)
+          ∙ one-tally (isDone r) (p .accepted)
           ∙ ap (λ z. tally (isDone z) (p .accepted)) said
 
       ref : p .refused + y ≡ tally (isRefused (reply 32 A rs (here feed (p .at)))) (p .refused)
       ref =
           ap (λ (m : ℕ). p .refused + m) ey
-          ∙ one-tally (isRefused (told r)) (p .refused)
+          ∙ one-tally (isRefused r) (p .refused)
           ∙ ap (λ z. tally (isRefused z) (p .refused)) said
 
 -- ---- the loop

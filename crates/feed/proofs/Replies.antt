@@ -6,29 +6,31 @@ use native.Mathlib.Omega.{arith}
 use lib.ListN.{length, set, take, drop, length-append}
 use lib.Seq.{sets, sets-eq, take-at, drop-at, length-take-le}
 use Rattle.routes.specs.Bytes.{two, replyBytes}
-use Rattle.feed.specs.Turns.{told, Wrote}
-use Rattle.feed.specs.declared.Reply.{Reply}
-use Rattle.feed.specs.declared.Reply.the-variants.{Done, Found, Nothing, Refused}
+use Rattle.replies.specs.Said.{saidReply}
+use Rattle.replies.specs.declared.Reply.{Reply}
+use Rattle.replies.specs.declared.Reply.the-variants.{Done, Found, Nothing, Refused}
+use Rattle.feed.specs.Turns.{Wrote}
 
 module _ (b : List ℕ) (at : ℕ) (r : Reply) where
   pub put-done : (h c : ℕ) (b₂ b₃ : List ℕ) → r ≡ Done h c → b₂ ≡ sets (set b at 16) (at + 1) (two h) → b₃ ≡ sets b₂ (at + 3) (two c)
-      → Wrote b at (replyBytes (told r)) (at + 5) b₃
+      → Wrote b at (replyBytes (saidReply r)) (at + 5) b₃
   put-done h c b₂ b₃ e p q =
       let i : at + 1 ≡ suc at = omega arith in
       let j : at + 3 ≡ suc (suc (suc at)) = omega arith in
       rw e (record { place = omega arith; list = rw (q, p, i, j) })
 
   pub put-found : (h l : ℕ) (b₂ : List ℕ) → r ≡ Found h l → b₂ ≡ sets (set b at 17) (at + 1) (two h)
-      → Wrote b at (replyBytes (told r)) (at + 4) (set b₂ (at + 3) (l % 256))
+      → Wrote b at (replyBytes (saidReply r)) (at + 4) (set b₂ (at + 3) (l % 256))
   put-found h l b₂ e p =
       let i : at + 1 ≡ suc at = omega arith in
       let j : at + 3 ≡ suc (suc (suc at)) = omega arith in
       rw e (record { place = omega arith; list = rw (p, i, j) })
 
-  pub put-nothing : r ≡ Nothing → Wrote b at (replyBytes (told r)) (at + 1) (set b at 18)
+  pub put-nothing : r ≡ Nothing → Wrote b at (replyBytes (saidReply r)) (at + 1) (set b at 18)
   put-nothing e = rw e (record { place = omega arith; list = refl })
 
-  pub put-refused : (n : ℕ) → r ≡ Refused n → Wrote b at (replyBytes (told r)) (at + 2) (set (set b at 19) (at + 1) (n % 256))
+  pub put-refused : (n : ℕ) → r ≡ Refused n
+      → Wrote b at (replyBytes (saidReply r)) (at + 2) (set (set b at 19) (at + 1) (n % 256))
   put-refused n e =
       let i : at + 1 ≡ suc at = omega arith in
       rw e (record { place = omega arith; list = rw i })

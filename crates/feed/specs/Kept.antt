@@ -1,6 +1,6 @@
 -- What a run leaves of the words that it is lent: a lookup and a refused record leave every word, and so does a run that accepts
 -- nothing. Assumes nothing.
-use mathlib.Core.Path.{_≡_, refl, sym, _∙_}
+use mathlib.Core.Path.{_≡_, refl, sym, ap, _∙_}
 use mathlib.Core.Bool.{false}
 use mathlib.Core.List.{List, [], _∷_}
 use Prim.Native.Nat.{ℕ, _+_}
@@ -11,7 +11,7 @@ use Rattle.routes.specs.Runs.{run}
 use Rattle.routes.specs.Seen.{Seen, misfit, foreign, table, runOn, answersOn}
 use Rattle.laws.specs.Taken.{run-came}
 use Rattle.arrays.specs.Table.{seen}
-use Rattle.update.specs.declared.Updated.the-variants.{Done, Refused as Unfit}
+use Rattle.update.specs.Refuse.{unaccepted}
 use Rattle.feed.specs.Series.{Asked, updated, looked, Series, nothing, more}
 use Rattle.feed.specs.Runs.{told, reported, Runs}
 use Rattle.feed.specs.declared.Ran.{Ran}
@@ -21,8 +21,7 @@ use Rattle.feed.specs.declared.Ran.the-variants.{Stopped, Refused}
 
 -- a record that is not accepted, a lookup among them, leaves every word
 pub asked-kept : {ws vs : List ℕ} {x : Record} {y : Reply} → Asked ws x y vs → isDone y ≡ false → vs ≡ ws
-asked-kept (updated (Done h c) p) e = let z : _≡_ {A = ℕ} 0 1 = cc in absurd (omega arith)
-asked-kept (updated (Unfit n) p) e = p .kept refl
+asked-kept {ws} (updated {u} r p) e = p .still (p .list ∙ unaccepted (seen 4 ws) u (sym (ap isDone (p .answer)) ∙ e))
 asked-kept (looked r p) e = refl
 
 -- ---- all of them

@@ -11,17 +11,16 @@ use Rattle.routes.specs.Route.{Route}
 use Rattle.routes.specs.Answers.{Update, Record, update, lookup, Reply, reply, next, replies, leaves}
 use Rattle.routes.specs.Seen.{table, lookupOn}
 use Rattle.arrays.specs.Table.{seen}
-use Rattle.update.specs.Update as update
-use Rattle.update.specs.declared.Updated.{Updated}
-use Rattle.matches.specs.Told as matches
+use Rattle.replies.specs.Said.{saidReply}
+use Rattle.replies.specs.declared.Reply as code
+use Rattle.update.specs.Update.{Updates}
 use Rattle.lookup.specs.Walk.{walk}
-use Rattle.matches.specs.declared.Match.{Match}
 
 -- the call of a record on the words ws was answered y and left vs, as its contract allows
 pub data Asked (ws : List ℕ) : Record → Reply → List ℕ → Type 0 where
-  updated : {u : Update} {vs : List ℕ} (r : Updated) → update.Updates ws vs u r → Asked ws (update u) (update.told r) vs
-  looked : {a : ℕ} (r : Match) → matches.told r ≡ lookupOn 32 (seen 4 ws) (walk 4 ws a) a
-      → Asked ws (lookup a) (matches.told r) ws
+  updated : {u : Update} {vs : List ℕ} (r : code.Reply) → Updates ws vs u r → Asked ws (update u) (saidReply r) vs
+  looked : {a : ℕ} (r : code.Reply) → saidReply r ≡ lookupOn 32 (seen 4 ws) (walk 4 ws a) a
+      → Asked ws (lookup a) (saidReply r) ws
 
 -- and so were several, in order
 pub data Series : List ℕ → List Record → List Reply → List ℕ → Type 0 where

@@ -6,15 +6,13 @@ use Prim.Native.Nat.{ℕ, _+_, _≤_, _<_}
 use lib.ListN.{length, getD, take, drop}
 use lib.Seq.{sets}
 use Rattle.routes.specs.Route.{Route}
-use Rattle.routes.specs.Answers.{Record, update, announce, withdraw, lookup, Reply as Said, done, found, none, refused, reply}
+use Rattle.routes.specs.Answers.{Record, update, announce, withdraw, lookup, reply}
 use Rattle.routes.specs.Bytes.{twoAt, fourAt}
 use Rattle.routes.specs.Runs.{State, size, recordAt, taken}
 use Rattle.routes.specs.Seen.{Seen, misfit, foreign, table}
 use Rattle.laws.specs.Turns.{Clear}
 use Rattle.arrays.specs.Table.{seen}
 use Rattle.feed.specs.Series.{Asked}
-use Rattle.feed.specs.declared.Reply.{Reply}
-use Rattle.feed.specs.declared.Reply.the-variants.{Done, Found, Nothing, Refused}
 use Rattle.feed.specs.declared.Progress.{Progress}
 
 -- ---- words that are a table
@@ -34,15 +32,9 @@ listIn misfit = []
 listIn foreign = []
 listIn (table A rs) = rs
 
--- ---- an answer
+-- ---- a record
 
-abbrev pub told : Reply → Said
-told (Done h c) = done h c
-told (Found h l) = found h l
-told Nothing = none
-told (Refused n) = refused n
-
--- the records of each kind that begin at i
+-- those of each kind that begin at i
 abbrev pub announceAt : List ℕ → ℕ → Record
 announceAt feed i = update (announce (fourAt feed (i + 1)) (getD feed (i + 5) 0) (twoAt feed (i + 6)))
 

@@ -1,4 +1,5 @@
 // The run of a feed: records in order, one reply for each but end, until a test stops it.
+use replies::Reply;
 ghost use mathlib.Core.Path.{_≡_};
 ghost use Prim.Native.Nat.{_+_, _<_, _≤_};
 ghost use lib.ListN.{length};
@@ -7,22 +8,11 @@ ghost use Rattle.routes.specs.Answers.{isDone, isRefused};
 ghost use Rattle.routes.specs.Bytes.{replyBytes};
 ghost use Rattle.routes.specs.Runs.{size as sizeOf, halts};
 ghost use Rattle.arrays.specs.Table.{seen};
-ghost use Rattle.update.specs.Update.{told as toldUpdate};
-ghost use Rattle.matches.specs.Told.{told as toldMatch};
+ghost use Rattle.replies.specs.Said.{saidReply};
 ghost use Rattle.feed.specs.Runs.{Runs};
 ghost use Rattle.feed.specs.Series.{Asked};
-ghost use Rattle.feed.specs.Turns.{told, one, Wrote, IsTable, announceAt, withdrawAt, lookupAt, Asks, here, Takes, Took};
+ghost use Rattle.feed.specs.Turns.{one, Wrote, IsTable, announceAt, withdrawAt, lookupAt, Asks, here, Takes, Took};
 ghost use Rattle.feed.specs.declared.Ran.the-variants.{Stopped};
-
-// What a record is answered with.
-enum Reply {
-    // hop and cells
-    Done(u32, u32),
-    // hop and length
-    Found(u32, u32),
-    Nothing,
-    Refused(u32),
-}
 
 // How far a run has come: feed bytes consumed, reply bytes written, accepted updates, refused records.
 struct Progress {
@@ -159,7 +149,7 @@ pub fn size(kind: u8) -> usize
 // Answers the record at `at`.
 fn ask(words: &mut [u32], feed: &[u8], at: usize) -> Reply
     requires { ⌜ Asks (now words) (now feed) at ⌝ }
-    ensures { λ r. ⌜ Asked (now (words .entry)) (here (now (feed .entry)) at) (told r) (now (words .exit)) ⌝ }
+    ensures { λ r. ⌜ Asked (now (words .entry)) (here (now (feed .entry)) at) (saidReply r) (now (words .exit)) ⌝ }
 {
     let kind = feed[at];
     if kind == 1 {
@@ -174,54 +164,35 @@ fn ask(words: &mut [u32], feed: &[u8], at: usize) -> Reply
 // Answers the announcement at `at`.
 fn announce(words: &mut [u32], feed: &[u8], at: usize) -> Reply
     requires { ⌜ IsTable (seen 4 (now words)) × (at + 8 ≤ length (now feed)) ⌝ }
-    ensures { λ r. ⌜ Asked (now (words .entry)) (announceAt (now (feed .entry)) at) (told r) (now (words .exit)) ⌝ }
+    ensures { λ r. ⌜ Asked (now (words .entry)) (announceAt (now (feed .entry)) at) (saidReply r) (now (words .exit)) ⌝ }
 {
     let address = numbers::four_at(feed, at + 1);
     let length = feed[at + 5] as u32;
     let hop = numbers::two_at(feed, at + 6);
-    of_update(update::announce_on(words, address, length, hop))
+    update::announce_on(words, address, length, hop)
 }
 
 // Answers the withdrawal at `at`.
 fn withdraw(words: &mut [u32], feed: &[u8], at: usize) -> Reply
     requires { ⌜ IsTable (seen 4 (now words)) × (at + 6 ≤ length (now feed)) ⌝ }
-    ensures { λ r. ⌜ Asked (now (words .entry)) (withdrawAt (now (feed .entry)) at) (told r) (now (words .exit)) ⌝ }
+    ensures { λ r. ⌜ Asked (now (words .entry)) (withdrawAt (now (feed .entry)) at) (saidReply r) (now (words .exit)) ⌝ }
 {
     let address = numbers::four_at(feed, at + 1);
     let length = feed[at + 5] as u32;
-    of_update(update::withdraw_on(words, address, length))
+    update::withdraw_on(words, address, length)
 }
 
 // Answers the lookup at `at`.
 fn lookup(words: &[u32], feed: &[u8], at: usize) -> Reply
     requires { ⌜ IsTable (seen 4 (now words)) × (at + 5 ≤ length (now feed)) ⌝ }
-    ensures { λ r. ⌜ Asked (now (words .entry)) (lookupAt (now (feed .entry)) at) (told r) (now (words .entry)) ⌝ }
+    ensures { λ r. ⌜ Asked (now (words .entry)) (lookupAt (now (feed .entry)) at) (saidReply r) (now (words .entry)) ⌝ }
 {
-    of_match(lookup::lookup_on(words, numbers::four_at(feed, at + 1)))
-}
-
-fn of_update(u: update::Updated) -> Reply
-    ensures { λ r. ⌜ told r ≡ toldUpdate u ⌝ }
-{
-    match u {
-        update::Updated::Done(hop, cells) => Reply::Done(hop, cells),
-        update::Updated::Refused(n) => Reply::Refused(n),
-    }
-}
-
-fn of_match(m: matches::Match) -> Reply
-    ensures { λ r. ⌜ told r ≡ toldMatch m ⌝ }
-{
-    match m {
-        matches::Match::Found(hop, length) => Reply::Found(hop, length),
-        matches::Match::Nothing => Reply::Nothing,
-        matches::Match::Refused(n) => Reply::Refused(n),
-    }
+    lookup::lookup_on(words, numbers::four_at(feed, at + 1))
 }
 
 // 1 for an update that was done.
 fn accepts(r: Reply) -> usize
-    ensures { λ n. ⌜ (n ≡ one (isDone (told r))) × (n ≤ 1) ⌝ }
+    ensures { λ n. ⌜ (n ≡ one (isDone (saidReply r))) × (n ≤ 1) ⌝ }
 {
     match r {
         Reply::Done(_, _) => 1,
@@ -233,7 +204,7 @@ fn accepts(r: Reply) -> usize
 
 // 1 for a record that was refused.
 fn refuses(r: Reply) -> usize
-    ensures { λ n. ⌜ (n ≡ one (isRefused (told r))) × (n ≤ 1) ⌝ }
+    ensures { λ n. ⌜ (n ≡ one (isRefused (saidReply r))) × (n ≤ 1) ⌝ }
 {
     match r {
         Reply::Done(_, _) => 0,
@@ -246,7 +217,7 @@ fn refuses(r: Reply) -> usize
 // Writes a reply, and returns the place after it.
 fn put(reply: &mut [u8], at: usize, r: Reply) -> usize
     requires { ⌜ at + 5 ≤ length (now reply) ⌝ }
-    ensures { λ q. ⌜ Wrote (now (reply .entry)) at (replyBytes (told r)) q (now (reply .exit)) ⌝ }
+    ensures { λ q. ⌜ Wrote (now (reply .entry)) at (replyBytes (saidReply r)) q (now (reply .exit)) ⌝ }
 {
     match r {
         Reply::Done(hop, cells) => {

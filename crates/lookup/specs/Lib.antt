@@ -2,4 +2,3 @@ pub mod Walk
 pub mod Ended
 pub mod Level
 pub mod Longest
-pub mod Told

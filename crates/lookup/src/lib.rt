@@ -1,5 +1,5 @@
 // Looking an address up in lent words: the layout's walk, from the root down. It reads one word a level and checks nothing else.
-use matches::Match;
+use replies::Reply;
 ghost use mathlib.Core.Path.{_≡_};
 ghost use Prim.Native.Nat.{_+_, _*_, _<_, _≤_};
 ghost use lib.ListN.{length};
@@ -10,7 +10,7 @@ ghost use Rattle.arrays.specs.Table.{seen};
 ghost use Rattle.arrays.specs.Decides.{Fits};
 ghost use Rattle.lookup.specs.Walk.{hopOf, walk, walked};
 ghost use Rattle.lookup.specs.Ended.{ended};
-ghost use Rattle.matches.specs.Told.{told};
+ghost use Rattle.replies.specs.Said.{saidReply};
 
 // The best so far, or that of a cell that has one, in an array below `base` bits: then with its whole length. No branch, which would
 // go either way and take a lookup half as long again.
@@ -26,7 +26,7 @@ fn newer(best: u32, own: u32, base: u32) -> u32
 }
 
 // The walk down the arrays: the last best on the way, with its whole length, or a length of 33 where it meets an array number out of
-// its range. One number and not a `Match`, which would pass through memory.
+// its range. One number and not a `Reply`, which would pass through memory.
 fn descend(words: &[u32], address: u32) -> u32
     requires { ⌜ Fits (length (now words)) ⌝ }
     ensures { λ r. ⌜ ended r ≡ walk 4 (now (words .entry)) address ⌝ }
@@ -53,35 +53,35 @@ fn descend(words: &[u32], address: u32) -> u32
 }
 
 // The answer that the walk's number stands for.
-fn answer(best: u32) -> Match
-    ensures { λ r. ⌜ told r ≡ ended best ⌝ }
+fn answer(best: u32) -> Reply
+    ensures { λ r. ⌜ saidReply r ≡ ended best ⌝ }
 {
     let length = best / 65536;
     if length > 32 {
-        return Match::Refused(2);
+        return Reply::Refused(2);
     }
     let hop = best % 65536;
     if hop == 0 {
-        return Match::Nothing;
+        return Reply::Nothing;
     }
-    Match::Found(hop, length)
+    Reply::Found(hop, length)
 }
 
 // The longest match of an address in words of a right number: a run's, whose start has tested them.
-pub fn lookup_on(words: &[u32], address: u32) -> Match
+pub fn lookup_on(words: &[u32], address: u32) -> Reply
     requires { ⌜ Fits (length (now words)) ⌝ }
-    ensures { λ r. ⌜ told r ≡ lookupOn 32 (seen 4 (now (words .entry))) (walk 4 (now (words .entry)) address) address ⌝ }
+    ensures { λ r. ⌜ saidReply r ≡ lookupOn 32 (seen 4 (now (words .entry))) (walk 4 (now (words .entry)) address) address ⌝ }
 {
     answer(descend(words, address))
 }
 
 // The longest match of an address.
-pub fn lookup(words: &[u32], address: u32) -> Match
-    ensures { λ r. ⌜ told r ≡ lookupOn 32 (seen 4 (now (words .entry))) (walk 4 (now (words .entry)) address) address ⌝ }
-    ensures any_words { λ r. ⌜ told r ≡ walked 4 (now (words .entry)) address ⌝ }
+pub fn lookup(words: &[u32], address: u32) -> Reply
+    ensures { λ r. ⌜ saidReply r ≡ lookupOn 32 (seen 4 (now (words .entry))) (walk 4 (now (words .entry)) address) address ⌝ }
+    ensures any_words { λ r. ⌜ saidReply r ≡ walked 4 (now (words .entry)) address ⌝ }
 {
     if audit::size::misfit(words.len()) {
-        return Match::Refused(1);
+        return Reply::Refused(1);
     }
     answer(descend(words, address))
 }

@@ -1,5 +1,7 @@
 // Document 01's small cases by the calls themselves: P1 to P12, and the case of four arrays. A line for each call tells its case,
 // what was sent, the answer, and the arrays that the check then counts.
+use replies::Reply;
+
 fn main() {
     let mut one = [0u32; 2048];
     let mut four = [0u32; 5120];
@@ -72,25 +74,25 @@ fn freed(words: &mut [u32]) {
 }
 
 fn announce(words: &mut [u32], case: &[u8], address: u32, length: u32, hop: u32) {
-    let u = update::announce(words, address, length, hop);
+    let r = update::announce(words, address, length, hop);
     sent(case, b" announce ", address);
     field(b"/", length);
-    updated(u);
+    answered(r);
     counted(words);
 }
 
 fn withdraw(words: &mut [u32], case: &[u8], address: u32, length: u32) {
-    let u = update::withdraw(words, address, length);
+    let r = update::withdraw(words, address, length);
     sent(case, b" withdraw ", address);
     field(b"/", length);
-    updated(u);
+    answered(r);
     counted(words);
 }
 
 fn lookup(words: &[u32], case: &[u8], address: u32) {
-    let m = lookup::lookup(words, address);
+    let r = lookup::lookup(words, address);
     sent(case, b" lookup ", address);
-    matched(m);
+    answered(r);
     counted(words);
 }
 
@@ -103,26 +105,20 @@ fn sent(case: &[u8], call: &[u8], address: u32) {
     field(b".", address % 256);
 }
 
-fn updated(u: update::Updated) {
-    match u {
-        update::Updated::Done(hop, cells) => {
+fn answered(r: Reply) {
+    match r {
+        Reply::Done(hop, cells) => {
             field(b" via ", hop);
             field(b" cells ", cells);
         }
-        update::Updated::Refused(n) => field(b" refused ", n),
-    }
-}
-
-fn matched(m: matches::Match) {
-    match m {
-        matches::Match::Found(hop, length) => {
+        Reply::Found(hop, length) => {
             field(b" via ", hop);
             field(b" length ", length);
         }
-        matches::Match::Nothing => {
+        Reply::Nothing => {
             io::write_all(1, b" none");
         }
-        matches::Match::Refused(n) => field(b" refused ", n),
+        Reply::Refused(n) => field(b" refused ", n),
     }
 }
 

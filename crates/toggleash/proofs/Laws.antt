@@ -11,8 +11,9 @@ use Rattle.logic.specs.Cases.{less}
 use Rattle.arrays.specs.Table.{seen}
 use Rattle.audit.specs.declared.Cleared.{Cleared}
 use Rattle.audit.specs.Told.{toldClear, Clears as Below}
-use Rattle.update.specs.declared.Updated.{Updated as Answered}
-use Rattle.update.specs.Update.{told, Updates as Made}
+use Rattle.replies.specs.Said.{saidReply}
+use Rattle.replies.specs.declared.Reply.{Reply}
+use Rattle.update.specs.Update.{Updates as Made}
 use Rattle.writing.specs.declared.Counted.{Counted}
 use Rattle.writing.specs.Told.{toldCount, Fills, front-length, front-none}
 use Rattle.feed.specs.declared.Ran.{Ran as Outcome}
@@ -34,7 +35,8 @@ pub cleared : (ws vs : List ℕ) (r : Cleared) (n : ℕ) → Below 4 ws vs r →
 cleared ws vs r n b e =
     record { answer = e ∙ ap refusal (b .answer); left = b .left; kept = λ m q. b .kept m (b .answer ∙ q) }
 
-pub made : (ws vs : List ℕ) (u : Update) (r : Answered) (x : Updated) → Made ws vs u r → x ≡ updated (told r) → Updates ws vs u x
+pub made : (ws vs : List ℕ) (u : Update) (r : Reply) (x : Updated) → Made ws vs u r → x ≡ updated (saidReply r)
+    → Updates ws vs u x
 made ws vs u r x m e =
     record {
       answer = e ∙ ap updated (m .answer);

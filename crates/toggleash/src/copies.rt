@@ -1,11 +1,13 @@
 // The copy's calls of the C face: its need, its build from the bytes of a written-out list, and its lookup.
 use super::Found;
+use replies::Match;
 ghost use mathlib.Core.Path.{_≡_};
 ghost use mathlib.Core.List.{List};
 ghost use Rattle.routes.specs.Route.{Route, IsList};
 ghost use Rattle.routes.specs.Match.{longest};
 ghost use Rattle.routes.specs.Answers.{matched};
 ghost use Rattle.way.specs.Listed.{listedIn, needOn};
+ghost use Rattle.replies.specs.Said.{saidMatch};
 ghost use Rattle.listing.specs.Told.{told as toldNeed};
 ghost use Rattle.copy.specs.Layout.{walk};
 ghost use Rattle.copy.specs.Copy.{Copy};
@@ -60,6 +62,31 @@ fn counts(answer: copier::Built) -> Built
     }
 }
 
+fn finding(answer: Match) -> Found
+    ensures { λ r. ⌜ r ≡ looked (saidMatch answer) ⌝ }
+{
+    match answer {
+        Match::Found(hop, length) => Found {
+            refusal: 0,
+            found: 1,
+            hop: hop,
+            length: length,
+        },
+        Match::Nothing => Found {
+            refusal: 0,
+            found: 0,
+            hop: 0,
+            length: 0,
+        },
+        Match::Refused(n) => Found {
+            refusal: n,
+            found: 0,
+            hop: 0,
+            length: 0,
+        },
+    }
+}
+
 // ---- the calls
 
 #[no_mangle]
@@ -81,5 +108,5 @@ pub extern "C" fn toggleash_copy_lookup(words: &[u32], address: u32) -> Found
     ensures { λ r. ⌜ r ≡ looked (walk (now (words .entry)) address) ⌝ }
     ensures of_a_copy { λ r. ⌜ ((rs : List Route) → IsList 32 rs → Copy rs (now (words .entry)) → r ≡ looked (matched (longest 32 address rs))) ⌝ }
 {
-    super::finding(copy::lookup(words, address))
+    finding(copy::lookup(words, address))
 }

@@ -2,17 +2,17 @@
 // a pointer and a length. No call asks anything of its caller, since nothing would check it.
 pub mod copies; // the copy's calls
 
+use replies::Reply;
 ghost use mathlib.Core.Path.{_≡_};
 ghost use lib.ListN.{length};
 ghost use Rattle.routes.specs.Answers.{announce as announced, withdraw as withdrawn};
 ghost use Rattle.routes.specs.Seen.{lookupOn, checkOn};
 ghost use Rattle.arrays.specs.Table.{seen};
 ghost use Rattle.lookup.specs.Walk.{walk};
-ghost use Rattle.update.specs.Update.{told};
 ghost use Rattle.writing.specs.Told.{toldCount};
 ghost use Rattle.feed.specs.Runs.{told as toldRun};
 ghost use Rattle.audit.specs.Told.{toldClear, toldCheck};
-ghost use Rattle.matches.specs.Told.{told as toldMatch};
+ghost use Rattle.replies.specs.Said.{saidReply};
 ghost use Rattle.toggleash.specs.Face.{refusal as refusalOf, counted, looked, updated, wrote, ran, Clears, Updates, Writes, Runs};
 
 #[repr(C)]
@@ -81,23 +81,30 @@ fn counts(answer: audit::Checked) -> Counted
     }
 }
 
-fn finding(answer: matches::Match) -> Found
-    ensures { λ r. ⌜ r ≡ looked (toldMatch answer) ⌝ }
+// No lookup is done.
+fn finding(answer: Reply) -> Found
+    ensures { λ r. ⌜ r ≡ looked (saidReply answer) ⌝ }
 {
     match answer {
-        matches::Match::Found(hop, length) => Found {
-            refusal: 0,
-            found: 1,
-            hop: hop,
-            length: length,
-        },
-        matches::Match::Nothing => Found {
+        Reply::Done(_, _) => Found {
             refusal: 0,
             found: 0,
             hop: 0,
             length: 0,
         },
-        matches::Match::Refused(n) => Found {
+        Reply::Found(hop, length) => Found {
+            refusal: 0,
+            found: 1,
+            hop: hop,
+            length: length,
+        },
+        Reply::Nothing => Found {
+            refusal: 0,
+            found: 0,
+            hop: 0,
+            length: 0,
+        },
+        Reply::Refused(n) => Found {
             refusal: n,
             found: 0,
             hop: 0,
@@ -106,16 +113,27 @@ fn finding(answer: matches::Match) -> Found
     }
 }
 
-fn change(answer: update::Updated) -> Updated
-    ensures { λ r. ⌜ r ≡ updated (told answer) ⌝ }
+// No update is found, nor nothing.
+fn change(answer: Reply) -> Updated
+    ensures { λ r. ⌜ r ≡ updated (saidReply answer) ⌝ }
 {
     match answer {
-        update::Updated::Done(hop, cells) => Updated {
+        Reply::Done(hop, cells) => Updated {
             refusal: 0,
             hop: hop,
             cells: cells,
         },
-        update::Updated::Refused(n) => Updated {
+        Reply::Found(_, _) => Updated {
+            refusal: 0,
+            hop: 0,
+            cells: 0,
+        },
+        Reply::Nothing => Updated {
+            refusal: 0,
+            hop: 0,
+            cells: 0,
+        },
+        Reply::Refused(n) => Updated {
             refusal: n,
             hop: 0,
             cells: 0,

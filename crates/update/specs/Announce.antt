@@ -33,7 +33,7 @@ use Rattle.paths.specs.Address.{front, stands-level}
 use Rattle.paths.specs.Grown.{Grown}
 use Rattle.paths.specs.Stop.{Opened, stops-missing}
 use Rattle.paths.specs.Held.{stands-head, stands-small, stands-place, stands-route, hopFound, Sought, sought-held}
-use Rattle.update.specs.declared.Updated.the-variants.{Done, Refused}
+use Rattle.replies.specs.declared.Reply.the-variants.{Done, Refused}
 use Rattle.update.specs.Update.{Applies}
 use Rattle.update.specs.Seat.{Seat, Seated, seat-at}
 use Rattle.update.specs.Cells.{cells-exposed}

@@ -1,6 +1,6 @@
 -- The test of the whole table that an update makes first: where it passes before an update, it passes after it, so a later one
 -- need not be made. Assumes nothing.
-use mathlib.Core.Path.{_≡_, refl, sym, _∙_}
+use mathlib.Core.Path.{_≡_, refl, sym}
 use mathlib.Core.List.{List}
 use Prim.Native.Nat.{ℕ}
 use native.Mathlib.Omega.{arith}
@@ -10,7 +10,7 @@ use Rattle.routes.specs.Seen.{table}
 use Rattle.arrays.specs.Table.{seen}
 use Rattle.arrays.specs.Decides.{table-tells}
 use Rattle.arrays.specs.View.{seen-table, table-of, table-fits, fits-no-misfit}
-use Rattle.update.specs.declared.Updated.{Updated}
+use Rattle.replies.specs.declared.Reply.{Reply}
 use Rattle.update.specs.Update.{refusalOf, Updates}
 use Rattle.update.specs.Refuse.{refusal-none, passed}
 
@@ -24,7 +24,7 @@ seen-passes ws A rs e =
     let f = table-fits 4 ws t in
     sym (refusal-none ws 0 (fits-no-misfit _ f) refl (table-tells 4 ws (omega arith) (omega arith) f .from t))
 
-pub update-passes : (ws vs : List ℕ) (u : Update) (r : Updated) → Updates ws vs u r → Passes ws → Passes vs
+pub update-passes : (ws vs : List ℕ) (u : Update) (r : Reply) → Updates ws vs u r → Passes ws → Passes vs
 update-passes ws vs u r p e =
     let t = seen-table 4 ws (passed ws 0 e .0) in
     seen-passes vs _ _ (rw t at (p .list))

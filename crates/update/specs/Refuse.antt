@@ -10,7 +10,7 @@ use lib.ListN.{length}
 use borrow.Author.Tests.{eq-eqb, ne-eqb}
 use Rattle.logic.specs.Cases.{bool, less, same}
 use Rattle.routes.specs.Route.{Route, tooLong, stray, badHop}
-use Rattle.routes.specs.Answers.{Update, announce, withdraw, Reply, refused, faulty, verdict, answer}
+use Rattle.routes.specs.Answers.{Update, announce, withdraw, Reply, refused, isDone, faulty, verdict, answer}
 use Rattle.routes.specs.Seen.{Seen, misfit, foreign, table, misfits, answerOn, afterOn}
 use Rattle.arrays.specs.Words.{arrayCount}
 use Rattle.arrays.specs.Table.{tableB, listOf, seen}
@@ -18,18 +18,21 @@ use Rattle.arrays.specs.Almost.{Table}
 use Rattle.arrays.specs.View.{fits-no-misfit, no-misfit-fits, table-fits, seen-misfit, seen-foreign, seen-table, seen-cases}
 use Rattle.arrays.specs.Decides.{table-tells}
 use Rattle.paths.specs.Address.{IsPrefix}
-use Rattle.update.specs.declared.Updated.{Updated}
-use Rattle.update.specs.declared.Updated.the-variants.{Refused}
+use Rattle.replies.specs.declared.Reply as code
+use Rattle.replies.specs.declared.Reply.the-variants.{Refused}
 use Rattle.update.specs.Update.{faultOf, refusalOf, Updates, Applies}
+
+-- what is not accepted leaves what the words are seen to be
+pub unaccepted : (s : Seen) (u : Update) → isDone (answerOn 32 s u) ≡ false → afterOn 32 s u ≡ s
+unaccepted misfit u e = refl
+unaccepted foreign u e = refl
+unaccepted (table A rs) u e = rw e
 
 -- a refusal that leaves the words
 refuses : (ws : List ℕ) (u : Update) (n : ℕ) → answerOn 32 (seen 4 ws) u ≡ refused n → Updates ws ws u (Refused n)
-refuses ws u n e = record { answer = sym e; list = stays (seen 4 ws) e; kept = λ _. refl; still = λ _. refl; frame = λ c h n w b. refl }
-  where
-    stays : (s : Seen) → answerOn 32 s u ≡ refused n → s ≡ afterOn 32 s u
-    stays misfit e = refl
-    stays foreign e = refl
-    stays (table A rs) e = rw e
+refuses ws u n e =
+    let l = sym (unaccepted (seen 4 ws) u (ap isDone e)) in
+    record { answer = sym e; list = l; kept = λ _. refl; still = λ _. refl; frame = λ c h n w b. refl }
 
 -- 1
 refuses-size : (ws : List ℕ) (u : Update) → misfits (length ws) ≡ true → Updates ws ws u (Refused 1)
@@ -127,7 +130,8 @@ sound-route a l h e =
     (λ q f. bool (badHop h) (λ g. absurd (omega (arith, rw (t, f, g) at e))) (λ g. (record { fits = w; clean = q }, hop-low h g, hop-high h g)))
     (λ _ f. absurd (omega (arith, rw (t, f) at e))))
 
-pub applied : (ws vs : List ℕ) (u : Update) (r : Updated) → Table 4 ws → faultOf 32 u ≡ 0 → Applies 4 ws vs u r → Updates ws vs u r
+pub applied : (ws vs : List ℕ) (u : Update) (r : code.Reply) → Table 4 ws → faultOf 32 u ≡ 0 → Applies 4 ws vs u r
+    → Updates ws vs u r
 unfolding answer
 applied ws vs u r t f p = record {
   answer = rw (seen-table 4 ws t) (p .answer ∙ sym none);

@@ -6,23 +6,16 @@ use mathlib.Core.List.{List}
 use Prim.Native.Nat.{ℕ}
 use Rattle.routes.specs.Answers.{Update, isRefused}
 use Rattle.arrays.specs.Table.{seen}
-use Rattle.update.specs.declared.Updated.{Updated}
-use Rattle.update.specs.declared.Updated.the-variants.{Done, Refused}
-use Rattle.update.specs.Update.{told, Updates}
+use Rattle.replies.specs.Said.{saidReply, reply-one}
+use Rattle.replies.specs.declared.Reply.{Reply}
+use Rattle.update.specs.Update.{Updates}
 
--- an answer is told in one way
-pub one-answer : (r s : Updated) → told r ≡ told s → r ≡ s
-one-answer (Done h c) (Done i d) e = cc
-one-answer (Done h c) (Refused n) e = cc
-one-answer (Refused n) (Done h c) e = cc
-one-answer (Refused n) (Refused m) e = cc
-
-pub record Agree (vs us : List ℕ) (r s : Updated) : Type 0 where
+pub record Agree (vs us : List ℕ) (r s : Reply) : Type 0 where
   pub answer : r ≡ s
   pub seen : seen 4 vs ≡ seen 4 us
-  pub words : isRefused (told r) ≡ true → vs ≡ us
+  pub words : isRefused (saidReply r) ≡ true → vs ≡ us
 
-pub sharp : (ws vs us : List ℕ) (u : Update) (r s : Updated) → Updates ws vs u r → Updates ws us u s → Agree vs us r s
+pub sharp : (ws vs us : List ℕ) (u : Update) (r s : Reply) → Updates ws vs u r → Updates ws us u s → Agree vs us r s
 sharp ws vs us u r s p q =
-    let e : r ≡ s = one-answer r s (p .answer ∙ sym (q .answer)) in
+    let e : r ≡ s = reply-one r s (p .answer ∙ sym (q .answer)) in
     record { answer = e; seen = p .list ∙ sym (q .list); words = λ z. p .kept z ∙ sym (q .kept (rw e at z)) }

@@ -9,7 +9,7 @@ use lib.Dec.{eqb}
 use lib.ListN.{length}
 use Rattle.routes.specs.Route.{tooLong, stray, badHop}
 use Rattle.routes.specs.Room.{level}
-use Rattle.routes.specs.Answers.{Update, announce, withdraw, Reply, done, refused, isDone, isRefused, changed, verdict}
+use Rattle.routes.specs.Answers.{Update, announce, withdraw, isDone, isRefused, changed, verdict}
 use Rattle.routes.specs.Seen.{misfits, answerOn, afterOn}
 use Rattle.arrays.specs.Arrays.{Arrays, node}
 use Rattle.arrays.specs.Words.{arraysOf, arrayCount}
@@ -17,13 +17,8 @@ use Rattle.arrays.specs.Table.{tableB, listOf, seen}
 use Rattle.arrays.specs.Almost.{Table}
 use Rattle.paths.specs.Address.{front}
 use Rattle.paths.specs.Alike.{Alike}
-use Rattle.update.specs.declared.Updated.{Updated}
-use Rattle.update.specs.declared.Updated.the-variants.{Done, Refused}
-
--- an answer as document 01 has it
-abbrev pub told : Updated → Reply
-told (Done hop cells) = done hop cells
-told (Refused number) = refused number
+use Rattle.replies.specs.Said.{saidReply}
+use Rattle.replies.specs.declared.Reply.{Reply}
 
 -- ---- which arrays may differ
 
@@ -42,22 +37,22 @@ Touches L (withdraw a l) ws vs c = Touched L (arraysOf ws) (arraysOf vs) a (leve
 
 -- ---- any words ws become vs
 
-pub record Updates (ws vs : List ℕ) (u : Update) (r : Updated) : Type 0 where
-  pub answer : told r ≡ answerOn 32 (seen 4 ws) u
+pub record Updates (ws vs : List ℕ) (u : Update) (r : Reply) : Type 0 where
+  pub answer : saidReply r ≡ answerOn 32 (seen 4 ws) u
   pub list : seen 4 vs ≡ afterOn 32 (seen 4 ws) u
-  pub kept : isRefused (told r) ≡ true → vs ≡ ws
+  pub kept : isRefused (saidReply r) ≡ true → vs ≡ ws
   pub still : seen 4 vs ≡ seen 4 ws → vs ≡ ws
   pub frame : (c : ℕ) → 1 ≤ c → ¬ Touches 4 u ws vs c → Alike ws vs c
 
 -- ---- the same of a table, once the update itself is without fault
 
 -- a table ws of L levels becomes vs
-pub record Applies (L : ℕ) (ws vs : List ℕ) (u : Update) (r : Updated) : Type 0 where
-  pub answer : told r ≡ verdict (8 * L) (arrayCount ws) (listOf L ws) u
+pub record Applies (L : ℕ) (ws vs : List ℕ) (u : Update) (r : Reply) : Type 0 where
+  pub answer : saidReply r ≡ verdict (8 * L) (arrayCount ws) (listOf L ws) u
   pub table : Table L vs
   pub size : length vs ≡ length ws
-  pub list : listOf L vs ≡ cond (isDone (told r)) (changed u (listOf L ws)) (listOf L ws)
-  pub kept : isRefused (told r) ≡ true → vs ≡ ws
+  pub list : listOf L vs ≡ cond (isDone (saidReply r)) (changed u (listOf L ws)) (listOf L ws)
+  pub kept : isRefused (saidReply r) ≡ true → vs ≡ ws
   pub still : listOf L vs ≡ listOf L ws → vs ≡ ws
   pub frame : (c : ℕ) → 1 ≤ c → ¬ Touches L u ws vs c → Alike ws vs c
 

@@ -26,7 +26,7 @@ use Rattle.paths.specs.Address.{front, stands-level}
 use Rattle.paths.specs.Stop.{On}
 use Rattle.paths.specs.Shrunk.{Loose, Pruned}
 use Rattle.paths.specs.Held.{stands-route, hopFound, Sought, sought-place, sought-held}
-use Rattle.update.specs.declared.Updated.the-variants.{Done, Refused}
+use Rattle.replies.specs.declared.Reply.the-variants.{Done, Refused}
 use Rattle.update.specs.Update.{Applies}
 use Rattle.update.specs.Seat.{Seat, Seated, seat-at}
 use Rattle.update.specs.Announce.{refuses, same-list}

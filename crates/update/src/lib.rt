@@ -1,4 +1,5 @@
 // Announcements and withdrawals: a route put into a table of lent words, or taken out of it.
+use replies::Reply;
 ghost use mathlib.Core.Path.{_≡_};
 ghost use Prim.Native.Nat.{_+_, _*_, _-_, _^_, _<_, _≤_};
 ghost use Rattle.routes.specs.Answers.{announce as announced, withdraw as withdrawn};
@@ -7,12 +8,6 @@ ghost use Rattle.arrays.specs.Almost.{Table};
 ghost use Rattle.paths.specs.Address.{IsPrefix};
 ghost use Rattle.update.specs.Seat.{Seat, Seated};
 ghost use Rattle.update.specs.Update.{Updates, Applies, faultOf, refusalOf};
-
-// What an update answers: hop and cells, or the refusal's number.
-pub enum Updated {
-    Done(u32, u32),
-    Refused(u32),
-}
 
 // The number of the first fault of a prefix, 0 where it has none.
 fn prefix_fault(address: u32, length: u32) -> u32
@@ -69,7 +64,7 @@ fn clear(words: &mut [u32], a: usize, p: paths::Place) -> array::change::Taken
 }
 
 // A route announced to a table. A hop that is held already changes no word; another replaces the one held, in the array that is there.
-fn announce_in(words: &mut [u32], address: u32, length: u32, hop: u32) -> Updated
+fn announce_in(words: &mut [u32], address: u32, length: u32, hop: u32) -> Reply
     requires { ⌜ Table 4 (now words) × IsPrefix 4 address length × (1 ≤ hop) × (hop ≤ 65535) ⌝ }
     ensures { λ r. ⌜ Applies 4 (now (words .entry)) (now (words .exit)) (announced address length hop) r ⌝ }
 {
@@ -77,20 +72,20 @@ fn announce_in(words: &mut [u32], address: u32, length: u32, hop: u32) -> Update
     let k = p.level;
     let s = paths::walk_down(words, address, k);
     if paths::hop_at(words, s, p) == hop {
-        return Updated::Done(hop, 0);
+        return Reply::Done(hop, 0);
     }
     let b = s.array;
     let j = s.level;
     let a = paths::open(words, address, b, j, k);
     if a == 0 {
-        return Updated::Refused(8);
+        return Reply::Refused(8);
     }
     let cells = set(words, a, p, hop);
-    Updated::Done(hop, cells)
+    Reply::Done(hop, cells)
 }
 
 // A route withdrawn from a table.
-fn withdraw_in(words: &mut [u32], address: u32, length: u32) -> Updated
+fn withdraw_in(words: &mut [u32], address: u32, length: u32) -> Reply
     requires { ⌜ Table 4 (now words) × IsPrefix 4 address length ⌝ }
     ensures { λ r. ⌜ Applies 4 (now (words .entry)) (now (words .exit)) (withdrawn address length) r ⌝ }
 {
@@ -98,36 +93,36 @@ fn withdraw_in(words: &mut [u32], address: u32, length: u32) -> Updated
     let k = p.level;
     let s = paths::walk_down(words, address, k);
     if paths::hop_at(words, s, p) == 0 {
-        return Updated::Refused(7);
+        return Reply::Refused(7);
     }
     let a = s.array;
     let t = clear(words, a, p);
     paths::prune(words, a);
-    Updated::Done(t.hop, t.cells)
+    Reply::Done(t.hop, t.cells)
 }
 
 // ---- updates of a table, by callers that know it to be one: a run has checked it and has kept it one since
 
 // A route announced: refused by the first of 3, 4, 5 and 8 that applies, or held afterwards.
-pub fn announce_on(words: &mut [u32], address: u32, length: u32, hop: u32) -> Updated
+pub fn announce_on(words: &mut [u32], address: u32, length: u32, hop: u32) -> Reply
     requires { ⌜ Table 4 (now words) ⌝ }
     ensures { λ r. ⌜ Updates (now (words .entry)) (now (words .exit)) (announced address length hop) r ⌝ }
 {
     let f = route_fault(address, length, hop);
     if f != 0 {
-        return Updated::Refused(f);
+        return Reply::Refused(f);
     }
     announce_in(words, address, length, hop)
 }
 
 // A route withdrawn: refused by the first of 3, 4 and 7 that applies, or held no more.
-pub fn withdraw_on(words: &mut [u32], address: u32, length: u32) -> Updated
+pub fn withdraw_on(words: &mut [u32], address: u32, length: u32) -> Reply
     requires { ⌜ Table 4 (now words) ⌝ }
     ensures { λ r. ⌜ Updates (now (words .entry)) (now (words .exit)) (withdrawn address length) r ⌝ }
 {
     let f = prefix_fault(address, length);
     if f != 0 {
-        return Updated::Refused(f);
+        return Reply::Refused(f);
     }
     withdraw_in(words, address, length)
 }
@@ -151,23 +146,23 @@ pub fn refusal(words: &[u32], fault: u32) -> u32
 }
 
 // A route announced: refused by the first of 1, 3, 4, 5, 2 and 8 that applies, or held afterwards.
-pub fn announce(words: &mut [u32], address: u32, length: u32, hop: u32) -> Updated
+pub fn announce(words: &mut [u32], address: u32, length: u32, hop: u32) -> Reply
     ensures { λ r. ⌜ Updates (now (words .entry)) (now (words .exit)) (announced address length hop) r ⌝ }
 {
     let n = refusal(words, route_fault(address, length, hop));
     if n != 0 {
-        return Updated::Refused(n);
+        return Reply::Refused(n);
     }
     announce_in(words, address, length, hop)
 }
 
 // A route withdrawn: refused by the first of 1, 3, 4, 2 and 7 that applies, or held no more.
-pub fn withdraw(words: &mut [u32], address: u32, length: u32) -> Updated
+pub fn withdraw(words: &mut [u32], address: u32, length: u32) -> Reply
     ensures { λ r. ⌜ Updates (now (words .entry)) (now (words .exit)) (withdrawn address length) r ⌝ }
 {
     let n = refusal(words, prefix_fault(address, length));
     if n != 0 {
-        return Updated::Refused(n);
+        return Reply::Refused(n);
     }
     withdraw_in(words, address, length)
 }

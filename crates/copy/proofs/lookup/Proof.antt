@@ -2,7 +2,7 @@
 use mathlib.Core.Path.{_≡_, ap, _∙_}
 use Rattle.routes.specs.Answers.{refused}
 use Rattle.copy.specs.Layout.{answered, walk}
-use Rattle.matches.specs.Told.{told}
+use Rattle.replies.specs.Said.{saidMatch}
 use Rattle.copy.proofs.Laws.{walk-short, walk-strange, walk-search, of-copy}
 use borrow.Author.Needs.{needs}
 use native.Mathlib.Omega.{arith}
@@ -41,10 +41,10 @@ returns-3 c =
     let if1 = c .before .before .before .before .before .if1 in
     let strange = c .before .before .before .strange in
     let if2 = c .before .before .if2 in
-    let w : told (c .answer .result) ≡ walk (a .words .now) (a .address) =
-    walk-search (a .words .now) (a .address) (strange .result) (told (c .answer .result)) (if1 .left) (strange .ensures) (if2 .left)
+    let w : saidMatch (c .answer .result) ≡ walk (a .words .now) (a .address) =
+    walk-search (a .words .now) (a .address) (strange .result) (saidMatch (c .answer .result)) (if1 .left) (strange .ensures) (if2 .left)
     (c .answer .ensures ∙ ap answered (c .before .search-from .ensures)) in
-    (w, of-copy (a .words .now) (a .address) (told (c .answer .result)) (omega arith) w)
+    (w, of-copy (a .words .now) (a .address) (saidMatch (c .answer .result)) (omega arith) w)
 
 pub lookup-spec : {M : Type 1} → statement M
 lookup-spec =

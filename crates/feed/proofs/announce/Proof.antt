@@ -31,17 +31,15 @@ two-at-requires c κs = search needs
 announce-on-requires : tie.Need-announce-on-requires
 announce-on-requires c κs = is-table _ (c .before .before .before .before .before .before .pre .0)
 
-of-update-requires : tie.Need-of-update-requires
-of-update-requires c κs = search needs
-
 same-length : tie.Need-same-length
 same-length c = search needs
 
 returns : tie.Need-returns
 returns c =
-    let s = c .before .before .before .before .before .before .before .before .before .before in
-    asked-announce _ _ (c .of-update .result) (s .args .feed .now) (s .args .at) _ _ _ (c .before .before .before .announce-on .result) (c .before .before .before .before .before .before .before .four-at .ensures) refl
-    (c .before .before .before .before .before .two-at .ensures .0) (c .before .before .before .announce-on .ensures) (c .of-update .ensures)
+    let on = c .before .before .announce-on in
+    let b = c .before .before .before .before in
+    let a = b .before .before .before .before .before .args in
+    asked-announce _ _ (on .result) (a .feed .now) (a .at) _ _ _ (b .before .before .four-at .ensures) refl (b .two-at .ensures .0) (on .ensures)
 
 pub announce-spec : {M : Type 1} → statement M
 announce-spec =
@@ -55,6 +53,5 @@ announce-spec =
     add-two-at
     two-at-requires
     announce-on-requires
-    of-update-requires
     same-length
     returns)

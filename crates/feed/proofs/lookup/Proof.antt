@@ -14,15 +14,12 @@ four-at-requires c κs = search needs
 lookup-on-requires : tie.Need-lookup-on-requires
 lookup-on-requires c κs = table-fits 4 _ (is-table _ (c .before .before .before .pre .0))
 
-of-match-requires : tie.Need-of-match-requires
-of-match-requires c κs = search needs
-
 returns : tie.Need-returns
 returns c =
-    let s = c .before .before .before .before .before in
-    asked-lookup (s .args .words .now) (c .of-match .result) (s .args .feed .now) (s .args .at) _ (c .before .lookup-on .result) (c .before .before .four-at .ensures) (c .before .lookup-on .ensures) (c .of-match .ensures)
+    let a = c .before .before .before .before .args in
+    asked-lookup (a .words .now) (c .lookup-on .result) (a .feed .now) (a .at) _ (c .before .four-at .ensures) (c .lookup-on .ensures)
 
 pub lookup-spec : {M : Type 1} → statement M
 lookup-spec =
     tie.close
-    (tie.spec add-four-at four-at-requires lookup-on-requires of-match-requires returns)
+    (tie.spec add-four-at four-at-requires lookup-on-requires returns)

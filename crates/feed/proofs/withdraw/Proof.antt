@@ -25,17 +25,15 @@ cast-length c = omega (arith, c .shared-slice-known2 .given (c .before .before .
 withdraw-on-requires : tie.Need-withdraw-on-requires
 withdraw-on-requires c κs = is-table _ (c .before .before .before .before .before .pre .0)
 
-of-update-requires : tie.Need-of-update-requires
-of-update-requires c κs = search needs
-
 same-length : tie.Need-same-length
 same-length c = search needs
 
 returns : tie.Need-returns
 returns c =
-    let s = c .before .before .before .before .before .before .before .before .before in
-    asked-withdraw _ _ (c .of-update .result) (s .args .feed .now) (s .args .at) _ _ (c .before .before .before .withdraw-on .result) (c .before .before .before .before .before .before .four-at .ensures) refl
-    (c .before .before .before .withdraw-on .ensures) (c .of-update .ensures)
+    let on = c .before .before .withdraw-on in
+    let b = c .before .before .before .before .before in
+    let a = b .before .before .before .args in
+    asked-withdraw _ _ (on .result) (a .feed .now) (a .at) _ _ (b .four-at .ensures) refl (on .ensures)
 
 pub withdraw-spec : {M : Type 1} → statement M
 withdraw-spec =
@@ -47,6 +45,5 @@ withdraw-spec =
     shared-slice-read-length
     cast-length
     withdraw-on-requires
-    of-update-requires
     same-length
     returns)

@@ -2,6 +2,7 @@
 use native.Mathlib.Omega.{arith}
 use lib.ListN.{getD}
 use Rattle.laws.specs.Turns.{size-pos}
+use Rattle.replies.specs.Said.{saidReply}
 use Rattle.feed.proofs.Loop.{took}
 use borrow.Author.Needs.{needs}
 use Rattle.feed.proofs.Progress.record.Statement.{statement}
@@ -43,7 +44,9 @@ same-length-2 c = search needs
 returns : tie.Need-returns
 returns c =
     let a = c .before .before .before .before .before .before .before .before .before .before in
-    took _ _ _ _ (a .before .before .before .before .before .before .before .pre) _ _ (a .ask .result) _ _ _ _ (a .before .before .size .ensures .0) (a .ask .ensures) (c .before .before .before .before .before .before .put .ensures)
+    let t = a .before .before .before .before .before .before .before .pre in
+    let put = c .before .before .before .before .before .before .put in
+    took _ _ _ _ t _ _ (saidReply (a .ask .result)) _ _ _ _ (a .before .before .size .ensures .0) (a .ask .ensures) (put .ensures)
     (c .before .before .before .accepts .ensures .0) (c .before .refuses .ensures .0)
 
 pub record-spec : {M : Type 1} → statement M

@@ -1,0 +1,84 @@
+-- Which sorts of reply can come: no lookup is done, no update is found or finds nothing, and no refusal has the number 0.
+-- So the numbers of the C face are read as the replies that they were. Assumes nothing.
+use mathlib.Core.Bool.{Bool, true, false}
+use mathlib.Core.List.{List}
+use Prim.Native.Nat.{ℕ, zero, suc, _-_, _*_, _≤_}
+use native.Mathlib.Omega.{arith}
+use lib.Dec.{ltb, eqb}
+use Rattle.logic.specs.Cases.{bool}
+use Rattle.routes.specs.Route.{Route, route, tooLong, stray, badHop, held}
+use Rattle.routes.specs.Match.{Match, longest}
+use Rattle.routes.specs.Match as best
+use Rattle.routes.specs.Cells.{cells}
+use Rattle.routes.specs.Answers.{Update, announce, withdraw, Reply, done, found, none, refused}
+use Rattle.routes.specs.Answers.{refuse, faulty, lacking, reloaded, verdict, answer, matched}
+use Rattle.routes.specs.Seen.{Seen, misfit, foreign, table, answerOn, lookupOn}
+use Rattle.arrays.specs.Table.{seen}
+use Rattle.arrays.specs.Words.{arraysOf, arrayCount, bestsOf}
+use Rattle.lookup.specs.Walk.{byteAt, outside, deeper, walkFrom, walk}
+
+-- ---- a lookup
+
+abbrev pub OfLookup : Reply → Type 0
+OfLookup (done h c) = ⊥
+OfLookup (found h l) = Unit {0}
+OfLookup none = Unit {0}
+OfLookup (refused n) = 1 ≤ n
+
+best-looks : (m : Match) → OfLookup (matched m)
+best-looks best.none = tt
+best-looks (best.found h l) = tt
+
+refuse-looks : (n : ℕ) (b : Bool) (y : Reply) → 1 ≤ n → OfLookup y → OfLookup (refuse n b y)
+refuse-looks n true y h p = h
+refuse-looks n false y h p = p
+
+walk-looks : (W : ℕ) (ws : List ℕ) (x n a : ℕ) (m : Match) → OfLookup (walkFrom W ws x n a m)
+unfolding walkFrom
+walk-looks W ws x zero a m = omega arith
+walk-looks W ws x (suc n) a m =
+    let base : ℕ = W - 8 * suc n in
+    let b : ℕ = bestsOf ws a (byteAt x n) in
+    let c : ℕ = arraysOf ws .link a (byteAt x n) in
+    refuse-looks 2 (outside W base b) _ (omega arith)
+    (bool (eqb c 0)
+    (λ e. rw e (best-looks (deeper base m b)))
+    (λ e. rw e (refuse-looks 2 (ltb (arrayCount ws) c) _ (omega arith) (walk-looks W ws x n c (deeper base m b)))))
+
+pub lookup-looks : (ws : List ℕ) (a : ℕ) → OfLookup (lookupOn 32 (seen 4 ws) (walk 4 ws a) a)
+lookup-looks ws a = go (seen 4 ws)
+  where
+    go : (s : Seen) → OfLookup (lookupOn 32 s (walk 4 ws a) a)
+    go misfit = omega arith
+    go foreign = walk-looks 32 ws a 4 1 best.none
+    go (table A rs) = best-looks (longest 32 a rs)
+
+-- ---- an update
+
+abbrev pub OfUpdate : Reply → Type 0
+OfUpdate (done h c) = Unit {0}
+OfUpdate (found h l) = ⊥
+OfUpdate none = ⊥
+OfUpdate (refused n) = 1 ≤ n
+
+refuse-made : (n : ℕ) (b : Bool) (y : Reply) → 1 ≤ n → OfUpdate y → OfUpdate (refuse n b y)
+refuse-made n true y h p = h
+refuse-made n false y h p = p
+
+faulty-made : (W : ℕ) (u : Update) (y : Reply) → OfUpdate y → OfUpdate (faulty W u y)
+faulty-made W (announce a l h) y p =
+    refuse-made 3 (tooLong W l) _ (omega arith)
+    (refuse-made 4 (stray W a l) _ (omega arith) (refuse-made 5 (badHop h) y (omega arith) p))
+faulty-made W (withdraw a l) y p =
+    refuse-made 3 (tooLong W l) _ (omega arith) (refuse-made 4 (stray W a l) y (omega arith) p)
+
+verdict-made : (W A : ℕ) (rs : List Route) (u : Update) → OfUpdate (verdict W A rs u)
+verdict-made W A rs (announce a l h) = refuse-made 8 (lacking W A rs a l h) (done h (reloaded W rs a l h)) (omega arith) tt
+verdict-made W A rs (withdraw a l) =
+    refuse-made 7 (eqb (held rs a l) 0) (done (held rs a l) (cells W (route a l 0) rs)) (omega arith) tt
+
+pub answer-made : (s : Seen) (u : Update) → OfUpdate (answerOn 32 s u)
+unfolding answer
+answer-made misfit u = omega arith
+answer-made foreign u = faulty-made 32 u (refused 2) (omega arith)
+answer-made (table A rs) u = faulty-made 32 u (verdict 32 A rs u) (verdict-made 32 A rs u)
