@@ -1,16 +1,18 @@
 -- An array gained or released: the search for a free one, what is asked, and the words afterwards. Assumes nothing.
 use mathlib.Core.Bool.{cond}
 use mathlib.Core.List.{List}
-use Prim.Native.Nat.{ℕ, zero, suc, _+_, _-_, _*_, _/_, _%_, _≤_, _<_}
+use Prim.Native.Nat.{ℕ, zero, suc, _+_, _-_, _/_, _≤_, _<_}
 use lib.Dec.{eqb}
 use lib.ListN.{length, getD, set}
+use Rattle.sizes.specs.Sizes.{mostArrays, mostWords, cellCount, arrayAt, cellAt, perGroup}
+use Rattle.array.specs.Tag.{tagOf, parentIn, cellIn, levelIn}
 use Rattle.array.specs.With.{withLink}
-use Rattle.arrays.specs.Arrays.{Arrays, usedIn}
+use Rattle.arrays.specs.Arrays.{Arrays, usedOf}
 
 -- used in the n groups of 8 from g on
 unfoldable pub usedFrom : Arrays → ℕ → ℕ → ℕ
 usedFrom t g zero = 0
-usedFrom t g (suc n) = usedFrom t g n + usedIn t (8 * (g + n)) 8
+usedFrom t g (suc n) = usedFrom t g n + usedOf t (g + n)
 
 -- the first free array from a on, among n
 unfoldable pub firstFree : Arrays → ℕ → ℕ → ℕ
@@ -18,37 +20,37 @@ firstFree t a zero = 0
 firstFree t a (suc n) = cond (eqb (t .tag a) 0) a (firstFree t (suc a) n)
 
 abbrev pub group : ℕ → ℕ
-group a = (a - 1) / 8 + 1
+group a = (a - 1) / perGroup + 1
 
 -- the words with the tag x of a, the cell y in word k, the count n and a's group m
 unfoldable pub rehung : List ℕ → ℕ → ℕ → ℕ → ℕ → ℕ → ℕ → List ℕ
-rehung ws a x k y n m = set (set (set (set ws (1024 * a) x) k y) 0 n) (group a) m
+rehung ws a x k y n m = set (set (set (set ws (arrayAt a) x) k y) 0 n) (group a) m
 
 unfoldable pub gained : List ℕ → ℕ → ℕ → ℕ → List ℕ
 gained ws p i a =
-    let k = 1024 * p + 512 + i in
-    rehung ws a (p * 8192 + i * 32 + (getD ws (1024 * p) 0 % 32 + 1)) k
+    let k = cellAt p i in
+    rehung ws a (tagOf p i (levelIn (getD ws (arrayAt p) 0) + 1)) k
     (withLink (getD ws k 0) (a - 1)) (getD ws 0 0 + 1) (getD ws (group a) 0 + 1)
 
 unfoldable pub released : List ℕ → ℕ → List ℕ
 released ws a =
-    let k = 1024 * (getD ws (1024 * a) 0 / 8192) + 512 + getD ws (1024 * a) 0 / 32 % 256 in
+    let k = cellAt (parentIn (getD ws (arrayAt a) 0)) (cellIn (getD ws (arrayAt a) 0)) in
     rehung ws a 0 k (withLink (getD ws k 0) 0) (getD ws 0 0 - 1) (getD ws (group a) 0 - 1)
 
 pub record Gains (ws : List ℕ) (p i a : ℕ) : Type 0 where
-  pub size : length ws ≤ 4195328
+  pub size : length ws ≤ mostWords
   pub parent : 1 ≤ p
-  pub inside : 1024 * (p + 1) ≤ length ws
-  pub cells : i < 256
+  pub inside : arrayAt (p + 1) ≤ length ws
+  pub cells : i < cellCount
   pub some : 1 ≤ a
-  pub within : 1024 * (a + 1) ≤ length ws
-  pub count : getD ws 0 0 < 4096
-  pub groups : getD ws (group a) 0 < 4096
+  pub within : arrayAt (a + 1) ≤ length ws
+  pub count : getD ws 0 0 < mostArrays
+  pub groups : getD ws (group a) 0 < mostArrays
 
 pub record Releases (ws : List ℕ) (a : ℕ) : Type 0 where
-  pub size : length ws ≤ 4195328
+  pub size : length ws ≤ mostWords
   pub some : 1 ≤ a
-  pub within : 1024 * (a + 1) ≤ length ws
-  pub parent : 1024 * (getD ws (1024 * a) 0 / 8192 + 1) ≤ length ws
+  pub within : arrayAt (a + 1) ≤ length ws
+  pub parent : arrayAt (parentIn (getD ws (arrayAt a) 0) + 1) ≤ length ws
   pub count : 1 ≤ getD ws 0 0
   pub groups : 1 ≤ getD ws (group a) 0

@@ -1,7 +1,9 @@
 -- When arrays are a tree: conditions, each on one array or one cell, of A arrays and L levels. Assumes nothing.
 use mathlib.Core.Path.{_≡_}
 use mathlib.Core.Logic.{_⊎_, _≢_}
-use Prim.Native.Nat.{ℕ, _+_, _*_, _≤_, _<_}
+use Prim.Native.Nat.{ℕ, _+_, _≤_, _<_}
+use Rattle.sizes.specs.Sizes.{cellCount, levelBound}
+use Rattle.array.specs.Tag.{tagOf}
 use Rattle.array.specs.Decides.{SomeSlot, SomeLink}
 use Rattle.arrays.specs.Arrays.{Arrays, par, cell, lev}
 
@@ -11,7 +13,7 @@ pub record Child (A L : ℕ) (t : Arrays) (a i b : ℕ) : Type 0 where
   pub within : b ≤ A
   pub used : 1 ≤ lev t a
   pub deep : lev t a < L
-  pub named : t .tag b ≡ a * 8192 + i * 32 + (lev t a + 1)
+  pub named : t .tag b ≡ tagOf a i (lev t a + 1)
 
 -- a's parent links back
 pub record Hung (A : ℕ) (t : Arrays) (a : ℕ) : Type 0 where
@@ -22,9 +24,9 @@ pub record Hung (A : ℕ) (t : Arrays) (a : ℕ) : Type 0 where
 pub record Shape (A L : ℕ) (t : Arrays) : Type 0 where
   pub many : 1 ≤ A
   pub some-level : 1 ≤ L
-  pub levels : L < 32
+  pub levels : L < levelBound
   pub root : t .tag 1 ≡ 1
-  pub links : (a i : ℕ) → 1 ≤ a → a ≤ A → i < 256 → (t .link a i ≡ 0) ⊎ Child A L t a i (t .link a i)
+  pub links : (a i : ℕ) → 1 ≤ a → a ≤ A → i < cellCount → (t .link a i ≡ 0) ⊎ Child A L t a i (t .link a i)
   pub tags : (a : ℕ) → 2 ≤ a → a ≤ A → (t .tag a ≡ 0) ⊎ Hung A t a
 
 -- an array has a slot past the first, or a link

@@ -7,6 +7,7 @@ use native.Mathlib.Omega.{arith}
 use lib.Dec.{eqb}
 use lib.Pow.{pow-pos, shr-shr}
 use borrow.Author.Tests.{ne-eqb, le-ltb}
+use Rattle.sizes.specs.Sizes.{slotEnd, hopBound}
 use Rattle.routes.specs.Match.{Match, none, orShorter, last}
 use Rattle.logic.specs.Cases.{same}
 use Rattle.array.specs.Block.{bestOf}
@@ -15,7 +16,8 @@ use Rattle.lookup.specs.Walk.{hopOf, lengthOf, outside, deeper}
 
 -- ---- a best is in its range
 
-pub best-inside : (W : ℕ) (f : ℕ → ℕ) (base d s : ℕ) → ((s : ℕ) → 1 ≤ s → s < 512 → f s < 65536) → 2 ^ d ≤ s → s < 512 → base + d ≤ W
+pub best-inside : (W : ℕ) (f : ℕ → ℕ) (base d s : ℕ) → ((s : ℕ) → 1 ≤ s → s < slotEnd → f s < hopBound) → 2 ^ d ≤ s → s < slotEnd
+    → base + d ≤ W
     → outside W base (bestOf f s d) ≡ false
 best-inside W f base d s hops h b w =
     let l : lengthOf base (bestOf f s d) ≤ W = omega (arith, best-parts f hops s d h b) in
@@ -24,19 +26,20 @@ best-inside W f base d s hops h b w =
 -- ---- the lengths of one array
 
 -- one length more
-hit-deeper : (h base d : ℕ) (m : Match) (b : ℕ) → h < 65536
-    → orShorter h (base + d) (deeper base m b) ≡ deeper base m (cond (eqb h 0) b (d * 65536 + h))
+hit-deeper : (h base d : ℕ) (m : Match) (b : ℕ) → h < hopBound
+    → orShorter h (base + d) (deeper base m b) ≡ deeper base m (cond (eqb h 0) b (d * hopBound + h))
 hit-deeper zero base d m b w = refl
 hit-deeper (suc h) base d m b w =
-    let p : (d * 65536 + suc h) % 65536 ≡ suc h = omega arith in
-    let q : (d * 65536 + suc h) / 65536 ≡ d = omega arith in
+    let p : (d * hopBound + suc h) % hopBound ≡ suc h = omega arith in
+    let q : (d * hopBound + suc h) / hopBound ≡ d = omega arith in
     rw (ne-eqb (suc h) 0 (λ e. omega arith), p, q, ne-eqb (suc h) 0 (λ e. omega arith))
 
 half : (s e : ℕ) → s / 2 / 2 ^ e ≡ s / 2 ^ suc e
 half s e = let q : suc e ≡ 1 + e = omega arith in rw q (shr-shr s 1 e)
 
 -- g is the hop of each length along an address, f the slots of the array whose lengths are base + 1 .. base + d, s the last one's slot
-pub level-last : (g f : ℕ → ℕ) → ((s : ℕ) → 1 ≤ s → s < 512 → f s < 65536) → (base : ℕ) (m : Match) (d s : ℕ) → 2 ^ d ≤ s → s < 512
+pub level-last : (g f : ℕ → ℕ) → ((s : ℕ) → 1 ≤ s → s < slotEnd → f s < hopBound) → (base : ℕ) (m : Match) (d s : ℕ) → 2 ^ d ≤ s
+    → s < slotEnd
     → last g base ≡ deeper base m (bestOf f (s / 2 ^ d) 0) → ((j e : ℕ) → e + j ≡ d → 1 ≤ j → g (base + j) ≡ f (s / 2 ^ e))
     → last g (base + d) ≡ deeper base m (bestOf f s d)
 unfolding last bestOf
@@ -65,14 +68,15 @@ upTo g zero = none
 upTo g (suc k) = last g (8 * suc k)
 
 -- length 0 is the root's, and no other array has it
-pub level-first : (g f : ℕ → ℕ) (k : ℕ) → f 1 < 65536 → (k ≡ 0 → g 0 ≡ f 1) → (1 ≤ k → f 1 ≡ 0) → last g (8 * k) ≡ deeper (8 * k) (upTo g k) (bestOf f 1 0)
+pub level-first : (g f : ℕ → ℕ) (k : ℕ) → f 1 < hopBound → (k ≡ 0 → g 0 ≡ f 1) → (1 ≤ k → f 1 ≡ 0)
+    → last g (8 * k) ≡ deeper (8 * k) (upTo g k) (bestOf f 1 0)
 unfolding last bestOf
 level-first g f zero small root below = rw (root refl) (first (f 1) small)
   where
-    first : (h : ℕ) → h < 65536 → orShorter h 0 none ≡ deeper 0 none h
+    first : (h : ℕ) → h < hopBound → orShorter h 0 none ≡ deeper 0 none h
     first zero b = refl
     first (suc h) b =
-        let p : suc h % 65536 ≡ suc h = omega arith in
-        let q : suc h / 65536 ≡ 0 = omega arith in
+        let p : suc h % hopBound ≡ suc h = omega arith in
+        let q : suc h / hopBound ≡ 0 = omega arith in
         rw (p, q, ne-eqb (suc h) 0 (λ e. omega arith))
 level-first g f (suc k) small root below = rw (below (omega arith))

@@ -11,6 +11,7 @@ use native.Mathlib.Nat.{mul-add-div-right, mul-assoc}
 use native.Mathlib.Omega.{arith}
 use lib.Pow.{pow-pos, pow-add, shr-shr, shr-lt}
 use borrow.Author.Tests.{eq-eqb, ne-eqb, le-ltb}
+use Rattle.sizes.specs.Sizes.{cellSlots, levelBound}
 use Rattle.routes.specs.Match.{longest, last}
 use Rattle.routes.specs.Answers.{matched}
 use Rattle.routes.specs.Seen.{lookupOn}
@@ -48,7 +49,7 @@ cut v i e j p =
     rw (r, ← (mul-assoc v (2 ^ j) (2 ^ e))) (mul-add-div-right (pow-pos e) (v * 2 ^ j) i)
 
 -- the slot of those bits in the array of v
-slot-cut : (i e j : ℕ) → e + j ≡ 8 → (256 + i) / 2 ^ e ≡ 2 ^ j + i / 2 ^ e
+slot-cut : (i e j : ℕ) → e + j ≡ 8 → (cellSlots + i) / 2 ^ e ≡ 2 ^ j + i / 2 ^ e
 slot-cut i e j p = cut 1 i e j p ∙ omega arith
 
 byte-cut : (i e j : ℕ) → e + j ≡ 8 → i < 256 → i / 2 ^ e < 2 ^ j
@@ -89,7 +90,7 @@ module _ (L : ℕ) (ws : List ℕ) (o : Table L ws) (x : ℕ) (small : x < 2 ^ (
       right = rw (level .level) at (o .right a there (level .within) (omega (arith, level .level)))
 
       -- a length of this level
-      along-slot : (j e : ℕ) → e + j ≡ 8 → 1 ≤ j → along (8 * k + j) ≡ slotsOf ws a ((256 + i) / 2 ^ e)
+      along-slot : (j e : ℕ) → e + j ≡ 8 → 1 ≤ j → along (8 * k + j) ≡ slotsOf ws a ((cellSlots + i) / 2 ^ e)
       along-slot j e q h =
           ap (λ (v : ℕ). held t v (8 * k + j)) (bits L x k n e j p q)
           ∙ held-at t (head x (suc n)) k j (i / 2 ^ e) h (omega arith) (byte-cut i e j q (omega arith))
@@ -100,16 +101,18 @@ module _ (L : ℕ) (ws : List ℕ) (o : Table L ws) (x : ℕ) (small : x < 2 ^ (
       inside : outside (8 * L) (8 * L - 8 * suc n) (bestsOf ws a i) ≡ false
       inside =
           rw (right .sound .best i (omega arith))
-          (best-inside (8 * L) (slotsOf ws a) (8 * L - 8 * suc n) 8 (256 + i) (right .sound .hops) (omega arith) (omega arith) (omega arith))
+          (best-inside (8 * L) (slotsOf ws a) (8 * L - 8 * suc n) 8 (cellSlots + i) (right .sound .hops) (omega arith)
+          (omega arith) (omega arith))
 
       down-to : deeper (8 * L - 8 * suc n) (upTo along k) (bestsOf ws a i) ≡ last along (8 * suc k)
       down-to =
           let e : 8 * L - 8 * suc n ≡ 8 * k = omega arith in
           let f : 8 * suc k ≡ 8 * k + 8 = omega arith in
-          let q : (256 + i) / 256 ≡ 1 = omega arith in
+          let q : (cellSlots + i) / 256 ≡ 1 = omega arith in
           let begins = level-first along (slotsOf ws a) k (right .sound .hops 1 (omega arith) (omega arith)) (held-root t (x / 2 ^ (8 * L - 0)) (head x (suc n)) k) (λ h. right .first (omega arith)) in
           rw (right .sound .best i (omega arith), e, f)
-          (sym (level-last along (slotsOf ws a) (right .sound .hops) (8 * k) (upTo along k) 8 (256 + i) (omega arith) (omega arith) (rw q begins) along-slot))
+          (sym (level-last along (slotsOf ws a) (right .sound .hops) (8 * k) (upTo along k) 8 (cellSlots + i) (omega arith)
+          (omega arith) (rw q begins) along-slot))
 
       -- the array below the cell
       below : node t (head x n) (suc k) ≡ t .link a i
@@ -161,7 +164,8 @@ module _ (L : ℕ) (ws : List ℕ) (o : Table L ws) (x : ℕ) (small : x < 2 ^ (
 
 -- ---- on any words: by what they are seen to be
 
-pub walked-seen : (L : ℕ) (ws : List ℕ) (x : ℕ) → 1 ≤ L → L < 32 → x < 2 ^ (8 * L) → walked L ws x ≡ lookupOn (8 * L) (seen L ws) (walk L ws x) x
+pub walked-seen : (L : ℕ) (ws : List ℕ) (x : ℕ) → 1 ≤ L → L < levelBound → x < 2 ^ (8 * L)
+    → walked L ws x ≡ lookupOn (8 * L) (seen L ws) (walk L ws x) x
 walked-seen L ws x some levels small =
     seen-cases L ws some levels
     (λ m e. rw (m, e))

@@ -8,6 +8,7 @@ use mathlib.Core.List.{List}
 use Prim.Native.Nat.{ℕ, zero, suc, _+_, _-_, _*_, _/_, _%_, _^_}
 use lib.Dec.{ltb, eqb}
 use lib.ListN.{length}
+use Rattle.sizes.specs.Sizes.{hopBound}
 use Rattle.routes.specs.Route.{tooLong}
 use Rattle.routes.specs.Match.{Match, none, found}
 use Rattle.routes.specs.Seen.{misfits}
@@ -20,10 +21,10 @@ byteAt x n = x / 2 ^ (8 * n) % 256
 
 -- a best in an array below `base` bits: its hop, 0 for none, and its length
 abbrev pub hopOf : ℕ → ℕ
-hopOf b = b % 65536
+hopOf b = b % hopBound
 
 abbrev pub lengthOf : ℕ → ℕ → ℕ
-lengthOf base b = base + b / 65536
+lengthOf base b = base + b / hopBound
 
 -- a length out of its range
 abbrev pub outside : ℕ → ℕ → ℕ → Bool

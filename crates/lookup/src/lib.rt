@@ -1,8 +1,12 @@
 // Looking an address up in lent words: the layout's walk, from the root down. It reads one word a level and checks nothing else.
 use replies::Reply;
+use sizes::ARRAY_WORDS;
+use sizes::CELLS_AT;
+use sizes::HOP_BOUND;
 ghost use mathlib.Core.Path.{_≡_};
 ghost use Prim.Native.Nat.{_+_, _*_, _<_, _≤_};
 ghost use lib.ListN.{length};
+ghost use Rattle.sizes.specs.Sizes.{hopBound, bestBound};
 ghost use Rattle.routes.specs.Seen.{lookupOn};
 ghost use mathlib.Core.Bool.{cond};
 ghost use lib.Dec.{eqb};
@@ -15,13 +19,13 @@ ghost use Rattle.replies.specs.Said.{saidReply};
 // The best so far, or that of a cell that has one, in an array below `base` bits: then with its whole length. No branch, which would
 // go either way and take a lookup half as long again.
 fn newer(best: u32, own: u32, base: u32) -> u32
-    requires { ⌜ (own < 1048576) × (base ≤ 24) ⌝ }
-    ensures { λ r. ⌜ r ≡ cond (eqb (hopOf own) 0) best (base * 65536 + own) ⌝ }
+    requires { ⌜ (own < bestBound) × (base ≤ 24) ⌝ }
+    ensures { λ r. ⌜ r ≡ cond (eqb (hopOf own) 0) best (base * hopBound + own) ⌝ }
 {
-    if own % 65536 == 0 {
+    if own % HOP_BOUND == 0 {
         best
     } else {
-        base * 65536 + own
+        base * HOP_BOUND + own
     }
 }
 
@@ -31,36 +35,36 @@ fn descend(words: &[u32], address: u32) -> u32
     requires { ⌜ Fits (length (now words)) ⌝ }
     ensures { λ r. ⌜ ended r ≡ walk 4 (now (words .entry)) address ⌝ }
 {
-    let arrays = words.len() / 1024 - 1;
+    let arrays = words.len() / ARRAY_WORDS - 1;
     let mut a: usize = 1;
     let mut best: u32 = 0;
     let mut left: u32 = 4;
     while left > 0 {
         left -= 1;
         let i = ((address >> (8 * left)) % 256) as usize;
-        let word = words[1024 * a + 512 + i];
+        let word = words[ARRAY_WORDS * a + CELLS_AT + i];
         best = newer(best, array::cell::best_in(word), 24 - 8 * left);
         let next = array::cell::link_in(word);
         if next == 0 {
             return best;
         }
         if next > arrays {
-            return 33 * 65536;
+            return 33 * HOP_BOUND;
         }
         a = next;
     }
-    33 * 65536
+    33 * HOP_BOUND
 }
 
 // The answer that the walk's number stands for.
 fn answer(best: u32) -> Reply
     ensures { λ r. ⌜ saidReply r ≡ ended best ⌝ }
 {
-    let length = best / 65536;
+    let length = best / HOP_BOUND;
     if length > 32 {
         return Reply::Refused(2);
     }
-    let hop = best % 65536;
+    let hop = best % HOP_BOUND;
     if hop == 0 {
         return Reply::Nothing;
     }
@@ -80,7 +84,7 @@ pub fn lookup(words: &[u32], address: u32) -> Reply
     ensures { λ r. ⌜ saidReply r ≡ lookupOn 32 (seen 4 (now (words .entry))) (walk 4 (now (words .entry)) address) address ⌝ }
     ensures any_words { λ r. ⌜ saidReply r ≡ walked 4 (now (words .entry)) address ⌝ }
 {
-    if audit::size::misfit(words.len()) {
+    if arrays::size::misfit(words.len()) {
         return Reply::Refused(1);
     }
     answer(descend(words, address))

@@ -8,6 +8,7 @@ use mathlib.Core.List.{List}
 use Prim.Native.Nat.{ℕ, suc, _+_, _-_, _*_, _/_, _≤_, _<_}
 use native.Mathlib.Omega.{arith}
 use lib.ListN.{length, getD}
+use Rattle.sizes.specs.Sizes.{cellCount, perGroup}
 use Rattle.arrays.specs.Arrays.{node, held}
 use Rattle.arrays.specs.Tree.{Level, node-level}
 use Rattle.arrays.specs.Need.{node-child, node-above}
@@ -25,7 +26,7 @@ pub record Tip (L : ℕ) (ws : List ℕ) (q j b i : ℕ) : Type 0 where
   pub ok : Almost L b ws
   pub some : 1 ≤ b
   pub leads : node (arraysOf ws) q j ≡ b
-  pub cells : i < 256
+  pub cells : i < cellCount
   pub off : arraysOf ws .link b i ≡ 0
 
 -- vs is ws with arrays hung at the levels j + 1 .. k of a's path; r is that of level k
@@ -80,7 +81,7 @@ module _ (L : ℕ) (ws : List ℕ) (q j b i : ℕ) (tip : Tip L ws q j b i) (dee
     count = omega (arith, tip .ok .high);
     groups =
         let g = (f - 1) / 8 in
-        omega (arith, tip .ok .header .groups g (omega (arith, fo .high, tip .ok .high, tip .ok .low)), used-full (arraysOf ws) (8 * g) 8);
+        omega (arith, tip .ok .header .groups g (omega (arith, fo .high, tip .ok .high, tip .ok .low)), used-full (arraysOf ws) (perGroup * g) perGroup);
   }
 
   -- a path that led somewhere leads there
@@ -100,7 +101,7 @@ module _ (L : ℕ) (ws : List ℕ) (q j b i : ℕ) (tip : Tip L ws q j b i) (dee
   ok = gained-almost L ws b i f (tip .ok) gn
 
   -- the fresh array is a tip itself, at any cell
-  grow-tip : (y : ℕ) → y < 256 → Tip L vs (q * 256 + i) (suc j) f y
+  grow-tip : (y : ℕ) → y < cellCount → Tip L vs (q * 256 + i) (suc j) f y
   grow-tip y w = record {
     ok = ok;
     some = fo .low;

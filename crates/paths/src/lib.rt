@@ -1,7 +1,10 @@
 // Paths of arrays down an IPv4 address: how far one goes, the arrays that it lacks gained, those left empty released.
+use array::tag::parent_in;
+use sizes::ARRAY_WORDS;
 ghost use mathlib.Core.Path.{_≡_};
-ghost use Prim.Native.Nat.{_+_, _*_, _-_, _/_, _%_, _^_, _<_, _≤_};
+ghost use Prim.Native.Nat.{_+_, _-_, _^_, _<_, _≤_};
 ghost use lib.ListN.{length as size, getD};
+ghost use Rattle.sizes.specs.Sizes.{leastWords, mostWords, arrayAt};
 ghost use Rattle.routes.specs.Room.{level as levelOf};
 ghost use Rattle.arrays.specs.Shape.{Shape};
 ghost use Rattle.arrays.specs.Words.{arraysOf, arrayCount};
@@ -61,7 +64,7 @@ pub struct Stop {
 
 // The deepest array on the path of an address, down to level k.
 pub fn walk_down(words: &[u32], address: u32, k: usize) -> Stop
-    requires { ⌜ (k < 4) × (2048 ≤ size (now words)) × (size (now words) ≤ 4195328) ⌝ }
+    requires { ⌜ (k < 4) × (leastWords ≤ size (now words)) × (size (now words) ≤ mostWords) ⌝ }
     requires { ⌜ Shape (arrayCount (now words)) 4 (arraysOf (now words)) ⌝ }
     ensures { λ r. ⌜ Stops 4 (now (words .entry)) address k (r .level) (r .array) ⌝ }
 {
@@ -81,7 +84,7 @@ pub fn walk_down(words: &[u32], address: u32, k: usize) -> Stop
 
 // The hop of the prefix at a place whose path stops at s, 0 where it is not held.
 pub fn hop_at(words: &[u32], s: Stop, p: Place) -> u32
-    requires { ⌜ (1024 * (s .array + 1) ≤ size (now words)) × (p .depth ≤ 8) × (p .value < 2 ^ p .depth) ⌝ }
+    requires { ⌜ (arrayAt (s .array + 1) ≤ size (now words)) × (p .depth ≤ 8) × (p .value < 2 ^ p .depth) ⌝ }
     ensures { λ r. ⌜ r ≡ hopFound (now (words .entry)) (s .array) (s .level) (p .level) (p .depth) (p .value) ⌝ }
 {
     let j = s.level;
@@ -93,7 +96,7 @@ pub fn hop_at(words: &[u32], s: Stop, p: Place) -> u32
     let d = p.depth;
     let x = p.value;
     let slot = array::place::slot_of(d, x);
-    words[1024 * a + slot]
+    words[ARRAY_WORDS * a + slot]
 }
 
 // The arrays of the levels j + 1 .. k on the path of an address, gained one below the other; a is that of level j. The last is returned.
@@ -123,7 +126,7 @@ pub fn open(words: &mut [u32], address: u32, a: usize, j: usize, k: usize) -> us
     if j == k {
         return a;
     }
-    let n = words.len() / 1024 - 1;
+    let n = words.len() / ARRAY_WORDS - 1;
     let m = words[0] as usize;
     if n < m + (k - j) {
         return 0;
@@ -141,8 +144,8 @@ pub fn prune(words: &mut [u32], a: usize)
         if !arrays::empty(words, b) {
             return;
         }
-        let from = 1024 * b;
-        let p = (words[from] / 8192) as usize;
+        let from = ARRAY_WORDS * b;
+        let p = parent_in(words[from]);
         arrays::release(words, b);
         b = p;
     }

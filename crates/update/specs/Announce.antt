@@ -10,6 +10,7 @@ use lib.Dec.{eqb}
 use lib.ListN.{getD}
 use lib.Pow.{pow-mono}
 use borrow.Author.Tests.{eq-eqb, ne-eqb, lt-ltb, le-ltb}
+use Rattle.sizes.specs.Sizes.{arrayWords}
 use Rattle.routes.specs.Route.{Route, route, insert}
 use Rattle.routes.specs.Route as list
 use Rattle.routes.specs.Room.{needTo, need}
@@ -118,7 +119,7 @@ module _ {L : ℕ} {ws : List ℕ} {a l k d x j b : ℕ} (s : Sought L ws a l k 
 
         room : need (8 * L) (insert (route a l h) (listOf L ws)) ≤ arrayCount ws
         room =
-            let e : arrayCount vs ≡ arrayCount ws = ap (λ (z : ℕ). z / 1024 - 1) (g .size) in
+            let e : arrayCount vs ≡ arrayCount ws = ap (λ (z : ℕ). z / arrayWords - 1) (g .size) in
             omega (arith, needs, g .count, g .ok .header .count, used-full (arraysOf vs) 0 (arrayCount vs))
 
         roomy : lacking (8 * L) (arrayCount ws) (listOf L ws) a l h ≡ false

@@ -9,6 +9,7 @@ use lib.Dec.{eqb}
 use lib.ListN.{length}
 use borrow.Author.Tests.{eq-eqb, ne-eqb}
 use Rattle.logic.specs.Cases.{bool, less, same}
+use Rattle.sizes.specs.Sizes.{arrayWords}
 use Rattle.routes.specs.Route.{Route, tooLong, stray, badHop}
 use Rattle.routes.specs.Answers.{Update, announce, withdraw, Reply, refused, isDone, faulty, verdict, answer}
 use Rattle.routes.specs.Seen.{Seen, misfit, foreign, table, misfits, answerOn, afterOn}
@@ -135,7 +136,8 @@ pub applied : (ws vs : List ℕ) (u : Update) (r : code.Reply) → Table 4 ws �
 unfolding answer
 applied ws vs u r t f p = record {
   answer = rw (seen-table 4 ws t) (p .answer ∙ sym none);
-  list = rw (seen-table 4 vs (p .table), seen-table 4 ws t, none) (ap₂ table (ap (λ (n : ℕ). n / 1024 - 1) (p .size)) (p .list ∙ rw (p .answer)));
+  list = rw (seen-table 4 vs (p .table), seen-table 4 ws t, none)
+      (ap₂ table (ap (λ (n : ℕ). n / arrayWords - 1) (p .size)) (p .list ∙ rw (p .answer)));
   kept = p .kept;
   still = λ e. p .still (held-in (rw (seen-table 4 vs (p .table), seen-table 4 ws t) at e));
   frame = p .frame;

@@ -3,11 +3,13 @@
 use mathlib.Core.Path.{_≡_, refl, sym, ap, _∙_}
 use mathlib.Core.Logic.{_⊎_, ⊎-elim}
 use mathlib.Core.List.{List}
-use Prim.Native.Nat.{ℕ, zero, suc, _+_, _-_, _*_, _/_, _%_, _^_, _≤_, _<_}
+use Prim.Native.Nat.{ℕ, zero, suc, _+_, _-_, _*_, _/_, _^_, _≤_, _<_}
 use native.Mathlib.Nat.{mul-le-mul-right}
 use native.Mathlib.Omega.{arith}
 use lib.ListN.{length, getD}
 use lib.Pow.{pow-add, pow-mono}
+use Rattle.sizes.specs.Sizes.{arrayWords, slotEnd, cellCount, cellSlots, cellsAt, arrayAt, wordAt, cellAt}
+use Rattle.array.specs.Tag.{levelIn}
 use Rattle.array.specs.Cell.{bestIn, linkIn}
 use Rattle.array.specs.Block.{slots, bests, links}
 use Rattle.array.specs.Right.{Right, right-ext}
@@ -22,7 +24,7 @@ use Rattle.array.specs.Frame.{blockOf, withBlock, block-word, block-length, wit
 
 -- array a, of level k, is right, and has a slot of length d and value x
 pub record Seat (ws : List ℕ) (a k d x : ℕ) : Type 0 where
-  pub inside : 1024 * (a + 1) ≤ length ws
+  pub inside : arrayAt (a + 1) ≤ length ws
   pub level : lev (arraysOf ws) a ≡ k + 1
   pub deep : d ≤ 8
   pub small : x < 2 ^ d
@@ -45,27 +47,31 @@ seat-at L e ws a q k d x ok p =
 -- ---- the block's slots, best cells and links are the array's
 
 module _ (ws : List ℕ) (a : ℕ) where
-  block-slot : (s : ℕ) → s < 512 → slots (blockOf ws a) s ≡ slotsOf ws a s
+  block-slot : (s : ℕ) → s < slotEnd → slots (blockOf ws a) s ≡ slotsOf ws a s
   block-slot s h = block-word ws a s (omega arith)
 
-  block-cell : (i : ℕ) → i < 256 → getD (blockOf ws a) (512 + i) 0 ≡ getD ws (1024 * a + 512 + i) 0
-  block-cell i h = let e : 1024 * a + (512 + i) ≡ 1024 * a + 512 + i = omega arith in block-word ws a (512 + i) (omega arith) ∙ ap (λ (n : ℕ). getD ws n 0) e
+  block-cell : (i : ℕ) → i < cellCount → getD (blockOf ws a) (cellsAt + i) 0 ≡ getD ws (cellAt a i) 0
+  block-cell i h =
+      let e : wordAt a (cellsAt + i) ≡ cellAt a i = omega arith in
+      block-word ws a (cellsAt + i) (omega arith) ∙ ap (λ (n : ℕ). getD ws n 0) e
 
-  block-best : (i : ℕ) → i < 256 → bests (blockOf ws a) i ≡ bestsOf ws a i
+  block-best : (i : ℕ) → i < cellCount → bests (blockOf ws a) i ≡ bestsOf ws a i
   block-best i h = ap bestIn (block-cell i h)
 
-  block-link : (i : ℕ) → i < 256 → links (blockOf ws a) i ≡ arraysOf ws .link a i
+  block-link : (i : ℕ) → i < cellCount → links (blockOf ws a) i ≡ arraysOf ws .link a i
   block-link i h = ap linkIn (block-cell i h)
 
-any-ext : (f g : ℕ → ℕ) → ((s : ℕ) → s < 512 → f s ≡ g s) → (n s : ℕ) → s < 512 → anyUp f s n ≡ anyUp g s n
+any-ext : (f g : ℕ → ℕ) → ((s : ℕ) → s < slotEnd → f s ≡ g s) → (n s : ℕ) → s < slotEnd → anyUp f s n ≡ anyUp g s n
 unfolding anyUp
 any-ext f g e zero s h = refl
 any-ext f g e (suc n) s h = rw (e s h, any-ext f g e n (s / 2) (omega arith))
 
-exposed-ext : (f g : ℕ → ℕ) → ((s : ℕ) → s < 512 → f s ≡ g s) → (d i n : ℕ) → i + n ≤ 256 → exposed f d i n ≡ exposed g d i n
+exposed-ext : (f g : ℕ → ℕ) → ((s : ℕ) → s < slotEnd → f s ≡ g s) → (d i n : ℕ) → i + n ≤ cellCount
+    → exposed f d i n ≡ exposed g d i n
 unfolding exposed
 exposed-ext f g e d i zero h = refl
-exposed-ext f g e d i (suc n) h = rw (any-ext f g e (8 - d) (256 + (i + n)) (omega arith), exposed-ext f g e d i n (omega arith))
+exposed-ext f g e d i (suc n) h =
+    rw (any-ext f g e (8 - d) (cellSlots + (i + n)) (omega arith), exposed-ext f g e d i n (omega arith))
 
 -- ---- what the floor of one block asks and gives
 
@@ -78,7 +84,7 @@ module _ (ws : List ℕ) (a k d x : ℕ) (s : Seat ws a k d x) where
     sound = right-ext (k + 1) (slotsOf ws a) (bestsOf ws a) (slots (blockOf ws a)) (bests (blockOf ws a)) (λ r l h. block-slot ws a r h) (block-best ws a) (s .right) .sound;
   }
 
-  slot-lt : 2 ^ d + x < 512
+  slot-lt : 2 ^ d + x < slotEnd
   slot-lt = omega (arith, s .small, pow-mono {i = d} {j = 8} (s .deep))
 
   pub seat-slot : slots (blockOf ws a) (2 ^ d + x) ≡ slotsOf ws a (2 ^ d + x)
@@ -88,7 +94,7 @@ module _ (ws : List ℕ) (a k d x : ℕ) (s : Seat ws a k d x) where
       ≡ exposed (slotsOf ws a) d (x * 2 ^ (8 - d)) (2 ^ (8 - d))
   seat-exposed = exposed-ext (slots (blockOf ws a)) (slotsOf ws a) (block-slot ws a) d (x * 2 ^ (8 - d)) (2 ^ (8 - d)) fits
     where
-      fits : x * 2 ^ (8 - d) + 2 ^ (8 - d) ≤ 256
+      fits : x * 2 ^ (8 - d) + 2 ^ (8 - d) ≤ cellCount
       fits =
           let e : d + (8 - d) ≡ 8 = omega (arith, s .deep) in
           let p : 2 ^ d * 2 ^ (8 - d) ≡ 256 = sym (pow-add 2 d (8 - d)) ∙ ap (λ (n : ℕ). 2 ^ n) e in
@@ -105,27 +111,27 @@ module _ (ws : List ℕ) (a k d x : ℕ) (s : Seat ws a k d x) where
     right = rw lv (right-ext (k + 1) (slots m) (bests m) (slotsOf (withBlock ws a m) a) (bestsOf (withBlock ws a m) a) (λ r l w. slot r w) best right);
   }
     where
-      whole : length m ≡ 1024
+      whole : length m ≡ arrayWords
       whole = g .size ∙ block-length ws a (s .inside)
 
-      word : (i : ℕ) → i < 1024 → getD (withBlock ws a m) (1024 * a + i) 0 ≡ getD m i 0
+      word : (i : ℕ) → i < arrayWords → getD (withBlock ws a m) (wordAt a i) 0 ≡ getD m i 0
       word = with-in ws a m (s .inside) whole
 
-      tag : getD (withBlock ws a m) (1024 * a) 0 ≡ getD ws (1024 * a) 0
+      tag : getD (withBlock ws a m) (arrayAt a) 0 ≡ getD ws (arrayAt a) 0
       tag =
-          let e : 1024 * a ≡ 1024 * a + 0 = omega arith in
+          let e : arrayAt a ≡ wordAt a 0 = omega arith in
           ap (λ (n : ℕ). getD (withBlock ws a m) n 0) e ∙ word 0 (omega arith) ∙ g .tag ∙ block-word ws a 0 (omega arith) ∙ ap (λ (n : ℕ). getD ws n 0) (sym e)
 
-      slot : (r : ℕ) → r < 512 → slotsOf (withBlock ws a m) a r ≡ slots m r
+      slot : (r : ℕ) → r < slotEnd → slotsOf (withBlock ws a m) a r ≡ slots m r
       slot r w = word r (omega arith)
 
-      cell : (i : ℕ) → i < 256 → getD (withBlock ws a m) (1024 * a + 512 + i) 0 ≡ getD m (512 + i) 0
-      cell i w = let e : 1024 * a + 512 + i ≡ 1024 * a + (512 + i) = omega arith in rw e (word (512 + i) (omega arith))
+      cell : (i : ℕ) → i < cellCount → getD (withBlock ws a m) (cellAt a i) 0 ≡ getD m (cellsAt + i) 0
+      cell i w = let e : cellAt a i ≡ wordAt a (cellsAt + i) = omega arith in rw e (word (cellsAt + i) (omega arith))
 
-      best : (i : ℕ) → i < 256 → bestsOf (withBlock ws a m) a i ≡ bests m i
+      best : (i : ℕ) → i < cellCount → bestsOf (withBlock ws a m) a i ≡ bests m i
       best i w = ap bestIn (cell i w)
 
-      link : (i : ℕ) → i < 256 → arraysOf (withBlock ws a m) .link a i ≡ links m i
+      link : (i : ℕ) → i < cellCount → arraysOf (withBlock ws a m) .link a i ≡ links m i
       link i w = ap linkIn (cell i w)
 
       -- length 0 is the root's still: no other array has a place for it
@@ -137,7 +143,7 @@ module _ (ws : List ℕ) (a k d x : ℕ) (s : Seat ws a k d x) where
       }
 
       lv : lev (arraysOf (withBlock ws a m)) a ≡ k + 1
-      lv = ap (λ (n : ℕ). n % 32) tag ∙ s .level
+      lv = ap levelIn tag ∙ s .level
 
 -- ---- a seat set to a hop, or to 0: vs is ws but for that slot and the array's best cells, and so many cells were rewritten
 

@@ -2,9 +2,11 @@
 use mathlib.Core.Path.{_≡_, refl, sym, ap, _∙_}
 use mathlib.Core.Logic.{_≢_, inl, inr, ⊎-elim}
 use mathlib.Core.List.{List}
-use Prim.Native.Nat.{ℕ, zero, suc, _+_, _-_, _*_, _/_, _%_, _≤_, _<_}
+use Prim.Native.Nat.{ℕ, zero, suc, _+_, _-_, _/_, _%_, _≤_, _<_}
 use native.Mathlib.Omega.{arith}
 use Rattle.logic.specs.Cases.{same, less}
+use Rattle.sizes.specs.Sizes.{wordAt}
+use Rattle.array.specs.Tag.{tagOf, parentIn, levelIn}
 use Rattle.arrays.specs.Arrays.{Arrays, node, par}
 use Rattle.arrays.specs.Shape.{Shape}
 use Rattle.arrays.specs.Tree.{node-level, node-tag}
@@ -21,7 +23,7 @@ use Rattle.update.specs.Update.{Touched}
 
 -- a slot of array a set: the others are alike
 reslot-alike : {ws vs : List ℕ} {a s h : ℕ} → Reslot ws vs a s h → (c : ℕ) → c ≢ a → Alike ws vs c
-reslot-alike {a = a} g c n w m = g .outside (1024 * c + w) (less c a (λ l _. inl (omega arith)) (λ l _. inr (omega arith)))
+reslot-alike {a = a} g c n w m = g .outside (wordAt c w) (less c a (λ l _. inl (omega arith)) (λ l _. inr (omega arith)))
 
 -- arrays hung at the levels j + 1 .. k, then a slot set in the last
 module _ {L : ℕ} {ws vs us : List ℕ} {a j k b r s h : ℕ} (shape : Shape (arrayCount ws) L (arraysOf ws)) (top : k < L) (stop : Stops L ws a k j b) (g : Grown L ws vs a j k r)
@@ -57,7 +59,7 @@ up-front A L t a k b s top e h (suc n) w =
     ap (par t) (up-front A L t a k b s top e h n (omega arith) ∙ ap (λ (m : ℕ). node t (front L a m) m) z)
     ∙ (rw y at (up-tag (node t (front L a (suc i) / 256) i) (front L a (suc i)) i (t .tag (node t (front L a (suc i)) (suc i))) x l))
   where
-    up-tag : (p v i z : ℕ) → z ≡ p * 8192 + v % 256 * 32 + (i + 2) → z % 32 ≡ suc i + 1 → z / 8192 ≡ p
+    up-tag : (p v i z : ℕ) → z ≡ tagOf p (v % 256) (i + 2) → levelIn z ≡ suc i + 1 → parentIn z ≡ p
     up-tag p v i z e l = omega arith
 
 -- a slot cleared in the array of level k, then it and those above it released while empty

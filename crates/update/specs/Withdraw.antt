@@ -4,11 +4,12 @@ use mathlib.Core.Path.{_≡_, refl, sym, ap, ap₂, _∙_}
 use mathlib.Core.Logic.{_≢_, inl}
 use mathlib.Core.Bool.{false≢true}
 use mathlib.Core.List.{List}
-use Prim.Native.Nat.{ℕ, _+_, _-_, _*_, _%_, _^_, _≤_, _<_}
+use Prim.Native.Nat.{ℕ, _+_, _-_, _*_, _^_, _≤_, _<_}
 use native.Mathlib.Omega.{arith}
 use lib.ListN.{getD}
 use borrow.Author.Tests.{eq-eqb, ne-eqb}
 use Rattle.logic.specs.Cases.{same}
+use Rattle.sizes.specs.Sizes.{arrayAt}
 use Rattle.routes.specs.Route.{Route, route, key, remove}
 use Rattle.routes.specs.Route as list
 use Rattle.routes.specs.Cells.{cells}
@@ -16,6 +17,7 @@ use Rattle.routes.specs.Answers.{withdraw, done}
 use Rattle.laws.specs.Sorted.{remove-same}
 use Rattle.laws.specs.Collect.{routes-from}
 use Rattle.routes.specs.Collect.{routeOf}
+use Rattle.array.specs.Tag.{levelIn}
 use Rattle.arrays.specs.Arrays.{held}
 use Rattle.arrays.specs.Words.{arraysOf, arrayCount, slotsOf}
 use Rattle.arrays.specs.Table.{listOf}
@@ -58,7 +60,7 @@ module _ {L : ℕ} {ws : List ℕ} {a l k d x j b : ℕ} (s : Sought L ws a l k 
     lv : Level (arrayCount ws) (arraysOf ws) b k
     lv = rw (place .leads) at (node-level (arrayCount ws) L (arraysOf ws) (s .ok .shape) (front L a k) k (rw (place .leads) (place .array)))
 
-    used : 1 ≤ getD ws (1024 * b) 0
+    used : 1 ≤ getD ws (arrayAt b) 0
     used = omega (arith, lv .level)
 
     module _ (vs : List ℕ) (c : ℕ) (p : Seated ws vs b d x 0 c) where
@@ -98,7 +100,7 @@ module _ {L : ℕ} {ws : List ℕ} {a l k d x j b : ℕ} (s : Sought L ws a l k 
         where
           -- fewer are released than there are levels down to the array's
           deep : pu .m ≤ k
-          deep = omega (arith, pu .level, ap (λ (n : ℕ). n % 32) (p .slot .tag), lv .level)
+          deep = omega (arith, pu .level, ap levelIn (p .slot .tag), lv .level)
 
           wide : 8 * L < 256
           wide = omega (arith, s .ok .shape .levels)

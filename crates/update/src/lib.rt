@@ -1,7 +1,9 @@
 // Announcements and withdrawals: a route put into a table of lent words, or taken out of it.
 use replies::Reply;
+use sizes::ARRAY_WORDS;
 ghost use mathlib.Core.Path.{_≡_};
-ghost use Prim.Native.Nat.{_+_, _*_, _-_, _^_, _<_, _≤_};
+ghost use Prim.Native.Nat.{_+_, _^_, _<_, _≤_};
+ghost use Rattle.sizes.specs.Sizes.{hopBound};
 ghost use Rattle.routes.specs.Answers.{announce as announced, withdraw as withdrawn};
 ghost use Rattle.arrays.specs.Words.{slotsOf};
 ghost use Rattle.arrays.specs.Almost.{Table};
@@ -41,11 +43,11 @@ fn route_fault(address: u32, length: u32, hop: u32) -> u32
 
 // A hop set in the slot at a place of array a. The block of that array alone is lent; the cells rewritten are counted.
 fn set(words: &mut [u32], a: usize, p: paths::Place, hop: u32) -> u32
-    requires { ⌜ Seat (now words) a (p .level) (p .depth) (p .value) × (1 ≤ hop) × (hop < 65536) ⌝ }
+    requires { ⌜ Seat (now words) a (p .level) (p .depth) (p .value) × (1 ≤ hop) × (hop < hopBound) ⌝ }
     ensures { λ r. ⌜ Seated (now (words .entry)) (now (words .exit)) a (p .depth) (p .value) hop r ⌝ }
 {
-    let from = 1024 * a;
-    let to = from + 1024;
+    let from = ARRAY_WORDS * a;
+    let to = from + ARRAY_WORDS;
     let d = p.depth;
     let x = p.value;
     array::change::put(&mut words[from..to], d, x, hop)
@@ -56,8 +58,8 @@ fn clear(words: &mut [u32], a: usize, p: paths::Place) -> array::change::Taken
     requires { ⌜ Seat (now words) a (p .level) (p .depth) (p .value) × (1 ≤ slotsOf (now words) a (2 ^ p .depth + p .value)) ⌝ }
     ensures { λ r. ⌜ (r .hop ≡ slotsOf (now (words .entry)) a (2 ^ p .depth + p .value)) × Seated (now (words .entry)) (now (words .exit)) a (p .depth) (p .value) 0 (r .cells) ⌝ }
 {
-    let from = 1024 * a;
-    let to = from + 1024;
+    let from = ARRAY_WORDS * a;
+    let to = from + ARRAY_WORDS;
     let d = p.depth;
     let x = p.value;
     array::change::take(&mut words[from..to], d, x)
@@ -133,7 +135,7 @@ pub fn withdraw_on(words: &mut [u32], address: u32, length: u32) -> Reply
 pub fn refusal(words: &[u32], fault: u32) -> u32
     ensures { λ r. ⌜ r ≡ refusalOf (now (words .entry)) fault ⌝ }
 {
-    if audit::size::misfit(words.len()) {
+    if arrays::size::misfit(words.len()) {
         return 1;
     }
     if fault != 0 {

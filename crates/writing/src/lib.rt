@@ -1,5 +1,9 @@
 // Writing a table's routes out into a lent buffer: lower address first, at equal address shorter length first. That is the order in
 // which a walk down the binary trie meets the prefixes, array below array.
+use sizes::ARRAY_WORDS;
+use sizes::CELL_SLOTS;
+use sizes::CELLS_AT;
+use sizes::ROOT_SLOT;
 ghost use mathlib.Core.Path.{_≡_};
 ghost use lib.ListN.{length};
 ghost use Rattle.routes.specs.Bytes.{written};
@@ -44,16 +48,16 @@ fn half(words: &[u32], slot: usize) -> usize
     requires { ⌜ Within (now words) slot ⌝ }
     ensures { λ r. ⌜ r ≡ halfOf (now (words .entry)) slot ⌝ }
 {
-    let s = slot % 1024;
-    if s < 256 {
+    let s = slot % ARRAY_WORDS;
+    if s < CELL_SLOTS {
         return slot + s;
     }
-    let cell = slot + 256;
+    let cell = slot + (CELLS_AT - CELL_SLOTS);
     let below = array::cell::link_in(words[cell]);
     if below == 0 {
         return 0;
     }
-    1024 * below + 2
+    ARRAY_WORDS * below + 2
 }
 
 // The records of all below the prefix v above some bits, which stands in `slot`: the lower half's own and what is below it, then the
@@ -84,8 +88,8 @@ fn dump(words: &[u32], buffer: &mut [u8]) -> usize
     requires { ⌜ Dumps (now words) (now buffer) ⌝ }
     ensures { λ r. ⌜ Wrote (now (buffer .entry)) 0 (written (listOf 4 (now (words .entry)))) r (now (buffer .exit)) ⌝ }
 {
-    let p = put(words[1025], 0, 32, buffer, 0);
-    let end = branch(words, 1025, 0, 32, buffer, p);
+    let p = put(words[ROOT_SLOT], 0, 32, buffer, 0);
+    let end = branch(words, ROOT_SLOT, 0, 32, buffer, p);
     buffer[end] = 0;
     end + 1
 }

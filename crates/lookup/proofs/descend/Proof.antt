@@ -1,9 +1,10 @@
 -- `lookup::descend` is the layout's walk. The loop's invariant: what is left of the walk, from this array on and with the best so far,
 -- is the whole walk; and that best is in its range while a level is left. The measure is the levels left. Assumes nothing.
 use mathlib.Core.Path.{_≡_, refl, sym, _∙_}
-use Prim.Native.Nat.{_+_, _*_, _-_, _/_, _≤_}
+use Prim.Native.Nat.{_-_, _/_, _≤_}
 use native.Mathlib.Omega.{arith}
 use borrow.Author.Needs.{needs}
+use Rattle.sizes.specs.Sizes.{cellAt, hopBound}
 use Rattle.routes.specs.Match.{none}
 use Rattle.lookup.specs.Walk.{byteAt, deeper, walkFrom, walk}
 use Rattle.lookup.proofs.Laws.{no-link, bad-link, onward, walk-none}
@@ -12,7 +13,7 @@ use Rattle.lookup.proofs.descend.Tie as tie
 
 abbrev Inv-loop : tie.InvT-loop
 Inv-loop words address arrays a₀ best₀ left₀ a best left =
-    (left ≤ 4) × (1 ≤ a) × (a ≤ arrays) × (walkFrom 32 words address left a (deeper 0 none best) ≡ walk 4 words address) × (1 ≤ left → best / 65536 ≤ 32)
+    (left ≤ 4) × (1 ≤ a) × (a ≤ arrays) × (walkFrom 32 words address left a (deeper 0 none best) ≡ walk 4 words address) × (1 ≤ left → best / hopBound ≤ 32)
 
 abbrev μ-loop : tie.MeasureT-loop
 μ-loop words address arrays a₀ best₀ left₀ a best left = left
@@ -93,7 +94,9 @@ loop-again c =
     let l = c .before .before .before .before .before .before .before .loop in
     let n = c .before .before .link-in .ensures .0 in
     let e = rw (c .before .before .before .before .best-in .ensures .0) at (c .before .before .before .newer .ensures) in
-    let o = onward (a .words .now) (a .address) (l .left) (l .a) (l .best) _ (omega arith) (l .inv .0) (l .inv .4 (omega arith)) e (λ z. c .before .if1 .left (n ∙ z)) (omega (arith, n)) (omega (arith, c .before .before .before .before .before .shared-slice-known2 .given (1024 * l .a + 512 + byteAt (a .address) (l .left - 1)))) in
+    let o = onward (a .words .now) (a .address) (l .left) (l .a) (l .best) _ (omega arith) (l .inv .0) (l .inv .4 (omega arith)) e
+    (λ z. c .before .if1 .left (n ∙ z)) (omega (arith, n))
+    (omega (arith, c .before .before .before .before .before .shared-slice-known2 .given (cellAt (l .a) (byteAt (a .address) (l .left - 1))))) in
     (omega arith, omega arith, omega arith, rw n (o .0) ∙ l .inv .3, o .1)
 
 mul-result-2 : tie.Need-mul-result-2 Inv-loop μ-loop

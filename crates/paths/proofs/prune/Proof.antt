@@ -2,11 +2,13 @@
 -- Assumes nothing.
 use mathlib.Core.Path.{sym, ap, _∙_}
 use mathlib.Core.Bool.{not}
-use Prim.Native.Nat.{_*_, _%_}
 use native.Mathlib.Omega.{arith}
 use lib.ListN.{getD}
 use borrow.Author.Tests.{not-false}
+use Rattle.sizes.specs.Sizes.{arrayAt}
+use Rattle.array.specs.Tag.{levelIn}
 use Rattle.paths.specs.Shrunk.{Shrunk, shrunk-none, prune-root, prune-some, can-release, shrink, falls}
+use borrow.Author.Needs.{needs}
 use Rattle.paths.proofs.prune.Statement.{statement}
 use Rattle.paths.proofs.prune.Tie as tie
 
@@ -14,7 +16,7 @@ abbrev Inv-loop : tie.InvT-loop
 Inv-loop words₀ a b₀ words b = Shrunk 4 words₀ words a b
 
 abbrev μ-loop : tie.MeasureT-loop
-μ-loop words₀ a b₀ words b = getD words (1024 * b) 0 % 32
+μ-loop words₀ a b₀ words b = levelIn (getD words (arrayAt b) 0)
 
 loop-holds : tie.Need-loop-holds Inv-loop μ-loop
 loop-holds c = shrunk-none 4 (c .before .args .words .now) (c .before .args .a) (c .before .pre)
@@ -33,25 +35,35 @@ returns c = prune-some (c .before .before .before .before .loop .inv) (ap not (s
 mul-from : tie.Need-mul-from Inv-loop μ-loop
 mul-from c = omega arith
 
-mul-p : tie.Need-mul-p Inv-loop μ-loop
-mul-p c = omega arith
+mul-parent-in : tie.Need-mul-parent-in Inv-loop μ-loop
+mul-parent-in c = omega arith
 
-slice-read-p : tie.Need-slice-read-p Inv-loop μ-loop
-slice-read-p c = omega arith
+slice-read-parent-in : tie.Need-slice-read-parent-in Inv-loop μ-loop
+slice-read-parent-in c = omega arith
 
-cast-p : tie.Need-cast-p Inv-loop μ-loop
-cast-p c = omega (arith, c .slice-known2 .given (1024 * c .before .before .before .before .before .loop .b))
+parent-in-requires : tie.Need-parent-in-requires Inv-loop μ-loop
+parent-in-requires c κs = search needs
 
 release-requires : tie.Need-release-requires Inv-loop μ-loop
-release-requires c κs = can-release (c .before .before .before .before .before .before .loop .inv) (λ z. omega arith) (sym (c .before .before .before .empty .ensures) ∙ not-false _ (c .before .before .if1 .left))
+release-requires c κs =
+    let b = c .before .before .before in
+    can-release (b .before .before .before .before .loop .inv) (λ z. omega arith) (sym (b .before .empty .ensures) ∙ not-false _ (b .if1 .left))
 
 loop-less : tie.Need-loop-less Inv-loop μ-loop
 loop-less c =
-    rw (c .before .before .release .ensures) (falls (c .before .before .before .before .before .before .before .before .before .loop .inv) (λ z. omega arith) (sym (c .before .before .before .before .before .before .empty .ensures) ∙ not-false _ (c .before .before .before .before .before .if1 .left)))
+    let r = c .before .before in
+    let p = r .before .before in
+    let b = p .before .before in
+    rw (r .release .ensures, p .parent-in .ensures)
+    (falls (b .before .before .before .before .loop .inv) (λ z. omega arith) (sym (b .before .empty .ensures) ∙ not-false _ (b .if1 .left)))
 
 loop-again : tie.Need-loop-again Inv-loop μ-loop
 loop-again c =
-    rw (c .before .before .release .ensures) (shrink (c .before .before .before .before .before .before .before .before .before .loop .inv) (λ z. omega arith) (sym (c .before .before .before .before .before .before .empty .ensures) ∙ not-false _ (c .before .before .before .before .before .if1 .left)))
+    let r = c .before .before in
+    let p = r .before .before in
+    let b = p .before .before in
+    rw (r .release .ensures, p .parent-in .ensures)
+    (shrink (b .before .before .before .before .loop .inv) (λ z. omega arith) (sym (b .before .empty .ensures) ∙ not-false _ (b .if1 .left)))
 
 same-length-2 : tie.Need-same-length-2 Inv-loop μ-loop
 same-length-2 c = c .before .loop .inv .freed .size
@@ -70,9 +82,9 @@ prune-spec =
     same-length
     returns
     mul-from
-    mul-p
-    slice-read-p
-    cast-p
+    mul-parent-in
+    slice-read-parent-in
+    parent-in-requires
     release-requires
     loop-less
     loop-again

@@ -1,7 +1,8 @@
 -- `update::clear` meets its contract: what the floor of one block promises of the lent block holds of the array in the words. Assumes nothing.
 use mathlib.Core.Path.{_≡_, refl, _∙_}
-use Prim.Native.Nat.{_+_, _-_, _*_}
+use Prim.Native.Nat.{_+_, _-_}
 use native.Mathlib.Omega.{arith}
+use Rattle.sizes.specs.Sizes.{arrayWords, arrayAt}
 use Rattle.update.specs.Seat.{seat-spot, seat-slot, seated}
 use borrow.Author.Needs.{needs}
 use Rattle.update.proofs.clear.Statement.{statement}
@@ -29,7 +30,7 @@ take-requires : tie.Need-take-requires
 take-requires c κs =
     let t = c .before .before in
     let p = t .args .p in
-    let e : 1024 * t .args .a + 1024 - 1024 * t .args .a ≡ 1024 = omega arith in
+    let e : arrayAt (t .args .a) + arrayWords - arrayAt (t .args .a) ≡ arrayWords = omega arith in
     rw (e, seat-slot (t .args .words .now) (t .args .a) (p .level) (p .depth) (p .value) (t .pre .0))
     (seat-spot (t .args .words .now) (t .args .a) (p .level) (p .depth) (p .value) (t .pre .0), t .pre .1)
 
@@ -40,7 +41,7 @@ returns : tie.Need-returns
 returns c =
     let t = c .before .before .before .before .before in
     let p = t .args .p in
-    let e : 1024 * t .args .a + 1024 - 1024 * t .args .a ≡ 1024 = omega arith in
+    let e : arrayAt (t .args .a) + arrayWords - arrayAt (t .args .a) ≡ arrayWords = omega arith in
     let g = rw e at (c .before .before .take .ensures) in
     rw e (
       g .0 ∙ seat-slot (t .args .words .now) (t .args .a) (p .level) (p .depth) (p .value) (t .pre .0),

@@ -1,0 +1,93 @@
+-- The sizes of a table, of an array, of a cell's word and of a tag, and where an array and its parts stand in the words: each
+-- number of the layout is said here, and src/lib.rt has the same for the code. Assumes nothing.
+use Prim.Native.Nat.{ℕ, _+_, _*_}
+
+-- ---- a table: a header, then its arrays
+
+-- the words of an array, and of the header
+abbrev pub arrayWords : ℕ
+arrayWords = 1024
+
+abbrev pub mostArrays : ℕ
+mostArrays = 4096
+
+-- the words of a table of one array, and of one of the most
+abbrev pub leastWords : ℕ
+leastWords = 2048
+
+abbrev pub mostWords : ℕ
+mostWords = 4195328
+
+-- ---- an array: its tag, its slots, its cells, and words without use
+
+-- the slots have the numbers 1 .. lastSlot, each the word of that number
+abbrev pub lastSlot : ℕ
+lastSlot = 511
+
+abbrev pub slotEnd : ℕ
+slotEnd = 512
+
+-- the cells have the numbers 0 .. cellCount - 1, and their words begin at cellsAt
+abbrev pub cellCount : ℕ
+cellCount = 256
+
+abbrev pub cellsAt : ℕ
+cellsAt = 512
+
+-- slot cellSlots + i is the longest above cell i
+abbrev pub cellSlots : ℕ
+cellSlots = 256
+
+-- the words from here on have no use, whatever they hold
+abbrev pub unusedAt : ℕ
+unusedAt = 768
+
+-- ---- where array a stands in the words, its word k, and its cell i
+
+abbrev pub arrayAt : ℕ → ℕ
+arrayAt a = arrayWords * a
+
+abbrev pub wordAt : ℕ → ℕ → ℕ
+wordAt a k = arrayWords * a + k
+
+abbrev pub cellAt : ℕ → ℕ → ℕ
+cellAt a i = arrayWords * a + cellsAt + i
+
+-- the slot of length 0, which is the root's first
+abbrev pub rootSlot : ℕ
+rootSlot = wordAt 1 1
+
+-- ---- a cell's word: best * linkBound + link; a best: in-array length * hopBound + hop
+
+abbrev pub linkBound : ℕ
+linkBound = 4096
+
+abbrev pub hopBound : ℕ
+hopBound = 65536
+
+-- four bits of in-array length and a hop
+abbrev pub bestBound : ℕ
+bestBound = 1048576
+
+-- ---- a tag: parent * parentUnit + cell * levelBound + one more than the level
+
+abbrev pub levelBound : ℕ
+levelBound = 32
+
+abbrev pub parentUnit : ℕ
+parentUnit = 8192
+
+-- ---- the header: the number of used arrays, then one for each group of arrays, then words that are 0
+
+abbrev pub perGroup : ℕ
+perGroup = 8
+
+abbrev pub groupCount : ℕ
+groupCount = 512
+
+-- the first word after the groups, and how many words follow from there
+abbrev pub restAt : ℕ
+restAt = 513
+
+abbrev pub restWords : ℕ
+restWords = 511

@@ -1,0 +1,43 @@
+// The sizes of a table, of an array, of a cell's word and of a tag: those of specs/Sizes, for the code.
+
+// The words of an array, and of the header before the first.
+pub const ARRAY_WORDS: usize = 1024;
+// The words of a table of one array, and of one of the most, 4,096.
+pub const LEAST_WORDS: usize = 2048;
+
+pub const MOST_WORDS: usize = 4195328;
+
+// The slots of an array: the words 1 .. LAST_SLOT, and SLOT_END is one past.
+pub const LAST_SLOT: usize = 511;
+
+pub const SLOT_END: usize = 512;
+// How many cells an array has, and its first cell's word.
+pub const CELL_COUNT: usize = 256;
+
+pub const CELLS_AT: usize = 512;
+// Slot CELL_SLOTS + i is the longest above cell i.
+pub const CELL_SLOTS: usize = 256;
+// The first word of an array after the cells: from there on no word has a use, whatever it holds.
+pub const UNUSED_AT: usize = 768;
+
+// The word of the root's first slot, which is that of length 0.
+pub const ROOT_SLOT: usize = 1025;
+
+// A cell's word is its best times this, and its link.
+pub const LINK_BOUND: u32 = 4096;
+// A best is an in-array length times this, and a hop, which is below it.
+pub const HOP_BOUND: u32 = 65536;
+
+// A tag is its parent times this, ..
+pub const PARENT_UNIT: u32 = 8192;
+// .. its cell times this, and one more than its level.
+pub const LEVEL_BOUND: u32 = 32;
+
+// How many arrays a group of the header counts, and how many groups there are.
+pub const PER_GROUP: usize = 8;
+
+pub const GROUP_COUNT: usize = 512;
+// The header's first word after the groups, and how many are left from there: they are 0.
+pub const REST_AT: usize = 513;
+
+pub const REST_WORDS: usize = 511;
