@@ -2,24 +2,23 @@
 
 // The words of an array, and of the header before the first.
 pub const ARRAY_WORDS: usize = 1024;
-// The words of a table of one array, and of one of the most, 4,096.
+// The words of a table of one array.
 pub const LEAST_WORDS: usize = 2048;
-
+// The words of a table of the most arrays, 4,096.
 pub const MOST_WORDS: usize = 4195328;
 
-// The slots of an array: the words 1 .. LAST_SLOT, and SLOT_END is one past.
+// The last slot of an array: the slots are its words from 1 to this one.
 pub const LAST_SLOT: usize = 511;
-
+// One past the last slot.
 pub const SLOT_END: usize = 512;
-// How many cells an array has, and its first cell's word.
+// How many cells an array has.
 pub const CELL_COUNT: usize = 256;
-
+// The first cell's word in an array.
 pub const CELLS_AT: usize = 512;
 // Slot CELL_SLOTS + i is the longest above cell i.
 pub const CELL_SLOTS: usize = 256;
 // The first word of an array after the cells: from there on no word has a use, whatever it holds.
 pub const UNUSED_AT: usize = 768;
-
 // The word of the root's first slot, which is that of length 0.
 pub const ROOT_SLOT: usize = 1025;
 
@@ -33,11 +32,11 @@ pub const PARENT_UNIT: u32 = 8192;
 // .. its cell times this, and one more than its level.
 pub const LEVEL_BOUND: u32 = 32;
 
-// How many arrays a group of the header counts, and how many groups there are.
+// How many arrays a group of the header counts.
 pub const PER_GROUP: usize = 8;
-
+// How many groups the header counts.
 pub const GROUP_COUNT: usize = 512;
-// The header's first word after the groups, and how many are left from there: they are 0.
+// The header's first word after the groups.
 pub const REST_AT: usize = 513;
-
+// How many words of the header are left from there: they are 0.
 pub const REST_WORDS: usize = 511;

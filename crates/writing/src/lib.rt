@@ -43,7 +43,7 @@ fn put(hop: u32, v: usize, bits: usize, buffer: &mut [u8], at: usize) -> usize
 }
 
 // The slot of the lower half of the prefix in `slot`, 0 where there is none; the upper half's is the next. Slot s of an array has its
-// halves at 2 s and 2 s + 1; from slot 256 on it stands above a cell, 256 words on, and has its halves in the array below that.
+// halves at 2 s and 2 s + 1; from slot 256 on it stands above a cell and has its halves in the array below that.
 fn half(words: &[u32], slot: usize) -> usize
     requires { ⌜ Within (now words) slot ⌝ }
     ensures { λ r. ⌜ r ≡ halfOf (now (words .entry)) slot ⌝ }
