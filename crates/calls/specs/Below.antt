@@ -148,12 +148,12 @@ abbrev asRan : Answer Report → Ran
 asRan (gives p) = stop.Stopped p
 asRan (refuses n) = stop.Refused n
 
-ran-back : (a : Answer Report) → feed.told (asRan a) ≡ a
+ran-back : (a : Answer Report) → feed.runAnswer (asRan a) ≡ a
 ran-back (gives p) = refl
 ran-back (refuses n) = refl
 
 pub run-below : (ws bytes b vs c : List ℕ) (r : Fields) → Runs ws bytes b vs c r
-    → Below (λ t. ran (feed.told t)) (feed.Runs ws bytes b vs c) r
+    → Below (λ t. ran (feed.runAnswer t)) (feed.Runs ws bytes b vs c) r
 run-below ws bytes b vs c r p =
     let e = ran-back (feed.reported (runOn (seen 4 ws) bytes b)) in
     record {

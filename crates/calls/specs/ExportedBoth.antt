@@ -19,7 +19,7 @@ use Rattle.routes.specs.Runs.{run}
 use Rattle.routes.specs.Seen.{table, lookupOn, checkOn}
 use Rattle.arrays.specs.Table.{seen}
 use Rattle.lookup.specs.Walk.{walk}
-use Rattle.feed.specs.Runs.{Runs as Made, told, reportOf}
+use Rattle.feed.specs.Runs.{Runs as Made, runAnswer, reportOf}
 use Rattle.feed.specs.declared.Report.{Report}
 use Rattle.feed.specs.declared.Ran.{Ran}
 use Rattle.feed.specs.declared.Ran.the-variants.{Stopped}
@@ -84,14 +84,14 @@ module _ {A : ℕ} {us : List Update} (c : Run A us) where
   report = reportOf (run A [] (bytes us (c .rest)) (length (c .reply)))
 
   -- an answer of the run below, which is not refused either
-  abbrev b : Below (λ t. ran (told t)) (Made (c .words) (bytes us (c .rest)) (c .reply) (c .words′) (c .reply′)) (c .ran)
+  abbrev b : Below (λ t. ran (runAnswer t)) (Made (c .words) (bytes us (c .rest)) (c .reply) (c .words′) (c .reply′)) (c .ran)
   b = run-below (c .words) (bytes us (c .rest)) (c .reply) (c .words′) (c .reply′) (c .ran) (c .runs)
 
   is-stopped : b .answer ≡ Stopped report
   is-stopped = stopped (b .answer) report (rw (cleared (c .cleared)) at (b .promise .answer))
 
-  told-ran : c .ran ≡ ran (told (Stopped report))
-  told-ran = b .told ∙ ap (λ (x : Ran). ran (told x)) is-stopped
+  told-ran : c .ran ≡ ran (runAnswer (Stopped report))
+  told-ran = b .told ∙ ap (λ (x : Ran). ran (runAnswer x)) is-stopped
 
   pub taken : c .ran .refusal ≡ 0
   taken = ap (λ (x : Fields). x .refusal) told-ran

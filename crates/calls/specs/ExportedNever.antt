@@ -7,7 +7,7 @@ use Prim.Native.Nat.{ℕ}
 use lib.ListN.{take}
 use Rattle.routes.specs.Answers.{Reply, refused}
 use Rattle.routes.specs.Bytes.{repliesBytes}
-use Rattle.feed.specs.Runs.{told}
+use Rattle.feed.specs.Runs.{runAnswer}
 use Rattle.feed.specs.Sharp.{writtenBy}
 use Rattle.feed.specs.Never.{never}
 use Rattle.feed.specs.declared.Ran.{Ran}
@@ -17,7 +17,7 @@ use Rattle.toggleash.specs.declared.Ran.{Ran as Fields}
 use Rattle.calls.specs.Below.{run-below}
 
 -- the numbers count what the run below wrote
-counts : (t : Ran) → ran (told t) .written ≡ writtenBy t
+counts : (t : Ran) → ran (runAnswer t) .written ≡ writtenBy t
 counts (Stopped p) = refl
 counts (Refused n) = refl
 

@@ -13,7 +13,7 @@ use Rattle.routes.specs.Answers.{replies}
 use Rattle.routes.specs.Bytes.{announced, repliesBytes}
 use Rattle.routes.specs.Seen.{table}
 use Rattle.arrays.specs.Table.{seen}
-use Rattle.feed.specs.Runs.{told}
+use Rattle.feed.specs.Runs.{runAnswer}
 use Rattle.feed.specs.declared.Ran.{Ran}
 use Rattle.toggleash.specs.Face.{ran, Clears, Writes, Runs}
 use Rattle.toggleash.specs.declared.Written.{Written}
@@ -95,5 +95,5 @@ again-exported {A} {rs} t =
       wrote = t .writes .answer ∙ rw (t .table, le-ltb (length (t .buffer)) (8 * length rs + 1) (t .fits));
       cleared = t .clears .answer ∙ rw (t .same, h .size);
       list = a .list;
-      answer = r .told ∙ ap (λ (x : Ran). ran (told x)) (a .answer);
+      answer = r .told ∙ ap (λ (x : Ran). ran (runAnswer x)) (a .answer);
     }

@@ -19,7 +19,7 @@ use Rattle.arrays.specs.View.{table-of, table-fits, fits-no-misfit}
 use Rattle.audit.specs.Told.{Clears}
 use Rattle.audit.specs.declared.Cleared.{Cleared}
 use Rattle.audit.specs.declared.Cleared.the-variants.{Done}
-use Rattle.feed.specs.Runs.{told}
+use Rattle.feed.specs.Runs.{runAnswer}
 use Rattle.feed.specs.declared.Report.{Report}
 use Rattle.feed.specs.declared.Ran.{Ran}
 use Rattle.feed.specs.declared.Ran.the-variants.{Stopped, Refused}
@@ -65,6 +65,6 @@ cleared-alike A rs ws lent vs r e n c =
 -- ---- a run
 
 -- what is told of one that was not refused is its report
-pub stopped : (r : Ran) (p : Report) → told r ≡ gives p → r ≡ Stopped p
+pub stopped : (r : Ran) (p : Report) → runAnswer r ≡ gives p → r ≡ Stopped p
 stopped (Stopped q) p e = cc
 stopped (Refused n) p e = absurd (let z : _≡_ {A = ℕ} 0 1 = cc in omega arith)

@@ -4,6 +4,6 @@ use Rattle.way.specs.Listed.{Counts as Both}
 use Rattle.copier.specs.declared.Built.{Built}
 use Rattle.copier.specs.declared.Built.the-variants.{Counts, Refused}
 
-abbrev pub told : Built → Answer Both
-told (Counts n m) = gives (record { routes = n; markers = m })
-told (Refused n) = refuses n
+abbrev pub buildAnswer : Built → Answer Both
+buildAnswer (Counts n m) = gives (record { routes = n; markers = m })
+buildAnswer (Refused n) = refuses n

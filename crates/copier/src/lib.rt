@@ -11,7 +11,7 @@ ghost use Rattle.copy.specs.Layout.{placesOf, find};
 ghost use Rattle.copy.specs.Hash.{Room, Free};
 ghost use Rattle.copier.specs.Filling.{chosen, Filling, Filled, Put, isMiss, below};
 ghost use Rattle.copier.specs.Build.{LeavesOn, Bests, Cleared, Headed, Makes, Made, Starts, Ends};
-ghost use Rattle.copier.specs.Told.{told};
+ghost use Rattle.copier.specs.Told.{buildAnswer};
 
 pub enum Built {
     // routes and markers
@@ -200,7 +200,7 @@ fn default_of(bytes: &[u8]) -> u32
 
 // A copy of a written-out list: the counts of its routes and markers.
 pub fn build(bytes: &[u8], words: &mut [u32]) -> Built
-    ensures { λ r. ⌜ told r ≡ buildOn (listedIn (now (bytes .entry))) (length (now (words .entry))) ⌝ }
+    ensures { λ r. ⌜ buildAnswer r ≡ buildOn (listedIn (now (bytes .entry))) (length (now (words .entry))) ⌝ }
     ensures words { λ _. ⌜ LeavesOn (listedIn (now (bytes .entry))) (now (words .entry)) (now (words .exit)) ⌝ }
 {
     let listing::Needs::Words(n) = listing::need(bytes) else {

@@ -13,7 +13,7 @@ use Rattle.laws.specs.Taken.{run-came}
 use Rattle.arrays.specs.Table.{seen}
 use Rattle.update.specs.Refuse.{unaccepted}
 use Rattle.feed.specs.Series.{Asked, updated, looked, Series, nothing, more}
-use Rattle.feed.specs.Runs.{told, reported, Runs}
+use Rattle.feed.specs.Runs.{runAnswer, reported, Runs}
 use Rattle.feed.specs.declared.Ran.{Ran}
 use Rattle.feed.specs.declared.Ran.the-variants.{Stopped, Refused}
 
@@ -44,7 +44,7 @@ abbrev pub acceptedBy : Ran → ℕ
 acceptedBy (Stopped r) = r .accepted
 acceptedBy (Refused n) = 0
 
-accepted-count : (s : Seen) (feed b : List ℕ) (r : Ran) → told r ≡ reported (runOn s feed b)
+accepted-count : (s : Seen) (feed b : List ℕ) (r : Ran) → runAnswer r ≡ reported (runOn s feed b)
     → acceptedBy r ≡ count isDone (answersOn s feed b)
 accepted-count misfit feed b (Stopped r) e = let z : _≡_ {A = ℕ} 0 1 = cc in absurd (omega arith)
 accepted-count foreign feed b (Stopped r) e = let z : _≡_ {A = ℕ} 0 1 = cc in absurd (omega arith)

@@ -21,7 +21,7 @@ use Rattle.routes.specs.Bytes.{replyBytes, repliesBytes, replySize}
 use Rattle.routes.specs.Runs.{State, recordAt, halts, taken, runs, fresh, run}
 use Rattle.routes.specs.Seen.{Seen, misfit, foreign, table, runOn, repliedOn}
 use Rattle.arrays.specs.Table.{seen}
-use Rattle.feed.specs.Runs.{told, reported, Runs}
+use Rattle.feed.specs.Runs.{runAnswer, reported, Runs}
 use Rattle.feed.specs.Sharp.{writtenBy}
 use Rattle.feed.specs.declared.Ran.{Ran}
 use Rattle.feed.specs.declared.Ran.the-variants.{Stopped, Refused}
@@ -162,7 +162,8 @@ no-second bs p xs ys e = others-at xs (refused 2) ys (others-read (p .replies) (
 
 -- ---- the bytes that a run writes
 
-written : (s : Seen) (feed b : List ℕ) (r : Ran) → told r ≡ reported (runOn s feed b) → Replied (take (writtenBy r) (repliedOn s feed b))
+written : (s : Seen) (feed b : List ℕ) (r : Ran) → runAnswer r ≡ reported (runOn s feed b)
+    → Replied (take (writtenBy r) (repliedOn s feed b))
 written s feed b (Refused n) e = record { replies = []; bytes = refl; others = tt }
 written misfit feed b (Stopped r) e = let z : _≡_ {A = ℕ} 0 1 = cc in absurd (omega arith)
 written foreign feed b (Stopped r) e = let z : _≡_ {A = ℕ} 0 1 = cc in absurd (omega arith)

@@ -11,12 +11,12 @@ use Rattle.feed.specs.declared.Report.{Report}
 use Rattle.feed.specs.declared.Ran.{Ran}
 use Rattle.feed.specs.declared.Ran.the-variants.{Stopped, Refused}
 
--- what a result tells
-abbrev pub told : Ran → Answer Report
-told (Stopped r) = gives r
-told (Refused n) = refuses n
+-- what a result says
+abbrev pub runAnswer : Ran → Answer Report
+runAnswer (Stopped r) = gives r
+runAnswer (Refused n) = refuses n
 
--- what is to be told of a run: stop, feed bytes consumed, reply bytes written, accepted updates, refused records
+-- what is to be said of a run: stop, feed bytes consumed, reply bytes written, accepted updates, refused records
 abbrev pub reportOf : Outcome → Report
 reportOf o =
     record {
@@ -33,7 +33,7 @@ reported (refuses n) = refuses n
 
 -- a run of feed on the words ws and the reply bytes b left vs and c, and answered r
 pub record Runs (ws feed b vs c : List ℕ) (r : Ran) : Type 0 where
-  pub answer : told r ≡ reported (runOn (seen 4 ws) feed b)
+  pub answer : runAnswer r ≡ reported (runOn (seen 4 ws) feed b)
   pub list : seen 4 vs ≡ ranOn (seen 4 ws) feed b
   pub replies : c ≡ repliedOn (seen 4 ws) feed b
   pub kept : (n : ℕ) → r ≡ Refused n → vs ≡ ws

@@ -9,7 +9,7 @@ use lib.Seq.{drop-at}
 use Rattle.routes.specs.Seen.{Seen, misfit, foreign, table, runOn, repliedOn}
 use Rattle.routes.specs.Runs.{run}
 use Rattle.arrays.specs.Table.{seen}
-use Rattle.feed.specs.Runs.{told, reported, Runs}
+use Rattle.feed.specs.Runs.{runAnswer, reported, Runs}
 use Rattle.feed.specs.declared.Ran.{Ran}
 use Rattle.feed.specs.declared.Ran.the-variants.{Stopped, Refused}
 
@@ -22,15 +22,15 @@ pub record Agree (vs c : List ℕ) (r : Ran) (vs′ c′ : List ℕ) (r′ : Ran
   pub list : seen 4 vs ≡ seen 4 vs′
   pub words : (n : ℕ) → r ≡ Refused n → vs ≡ vs′
 
-told-one : (r r′ : Ran) → told r ≡ told r′ → r ≡ r′
-told-one (Stopped r) (Stopped r′) e = cc
-told-one (Stopped r) (Refused n) e = let z : _≡_ {A = ℕ} 0 1 = cc in absurd (omega arith)
-told-one (Refused n) (Stopped r) e = let z : _≡_ {A = ℕ} 0 1 = cc in absurd (omega arith)
-told-one (Refused n) (Refused m) e = cc
+run-one : (r r′ : Ran) → runAnswer r ≡ runAnswer r′ → r ≡ r′
+run-one (Stopped r) (Stopped r′) e = cc
+run-one (Stopped r) (Refused n) e = let z : _≡_ {A = ℕ} 0 1 = cc in absurd (omega arith)
+run-one (Refused n) (Stopped r) e = let z : _≡_ {A = ℕ} 0 1 = cc in absurd (omega arith)
+run-one (Refused n) (Refused m) e = cc
 
 pub sharp : (ws feed b vs c : List ℕ) (r : Ran) (vs′ c′ : List ℕ) (r′ : Ran) → Runs ws feed b vs c r → Runs ws feed b vs′ c′ r′ → Agree vs c r vs′ c′ r′
 sharp ws feed b vs c r vs′ c′ r′ p q =
-    let e : r ≡ r′ = told-one r r′ (p .answer ∙ sym (q .answer)) in
+    let e : r ≡ r′ = run-one r r′ (p .answer ∙ sym (q .answer)) in
     record {
       answer = e;
       replies = p .replies ∙ sym (q .replies);
@@ -45,7 +45,8 @@ abbrev pub writtenBy : Ran → ℕ
 writtenBy (Stopped r) = r .written
 writtenBy (Refused n) = 0
 
-untouched : (s : Seen) (feed b : List ℕ) (r : Ran) → told r ≡ reported (runOn s feed b) → drop (writtenBy r) (repliedOn s feed b) ≡ drop (writtenBy r) b
+untouched : (s : Seen) (feed b : List ℕ) (r : Ran) → runAnswer r ≡ reported (runOn s feed b)
+    → drop (writtenBy r) (repliedOn s feed b) ≡ drop (writtenBy r) b
 untouched misfit feed b r e = refl
 untouched foreign feed b r e = refl
 untouched (table A rs) feed b (Stopped r) e =
@@ -59,7 +60,8 @@ stays ws feed b vs c r p = ap (drop (writtenBy r)) (p .replies) ∙ untouched (s
 
 -- ---- what is written fits
 
-fitting : (s : Seen) (feed b : List ℕ) (r : Ran) → told r ≡ reported (runOn s feed b) → length (repliedOn s feed b) ≡ length b → writtenBy r ≤ length b
+fitting : (s : Seen) (feed b : List ℕ) (r : Ran) → runAnswer r ≡ reported (runOn s feed b)
+    → length (repliedOn s feed b) ≡ length b → writtenBy r ≤ length b
 fitting s feed b (Refused n) e l = omega arith
 fitting misfit feed b (Stopped r) e l = let z : _≡_ {A = ℕ} 0 1 = cc in absurd (omega arith)
 fitting foreign feed b (Stopped r) e l = let z : _≡_ {A = ℕ} 0 1 = cc in absurd (omega arith)

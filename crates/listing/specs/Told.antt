@@ -4,6 +4,6 @@ use Rattle.routes.specs.Seen.{Answer, gives, refuses}
 use Rattle.listing.specs.declared.Needs.{Needs}
 use Rattle.listing.specs.declared.Needs.the-variants.{Words, Refused}
 
-abbrev pub told : Needs → Answer ℕ
-told (Words n) = gives n
-told (Refused n) = refuses n
+abbrev pub needAnswer : Needs → Answer ℕ
+needAnswer (Words n) = gives n
+needAnswer (Refused n) = refuses n

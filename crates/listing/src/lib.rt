@@ -8,7 +8,7 @@ ghost use Rattle.way.specs.Way.{turnsAt};
 ghost use Rattle.way.specs.Marks.{picks, markers};
 ghost use Rattle.way.specs.Listed.{routeAt, listOf, routeB, recordB, listedIn, needOn};
 ghost use Rattle.listing.specs.Pick.{picked as pickedBy, Whole, Counted};
-ghost use Rattle.listing.specs.Told.{told};
+ghost use Rattle.listing.specs.Told.{needAnswer};
 
 // The words that a copy needs, or the number by which the bytes are refused.
 pub enum Needs {
@@ -219,7 +219,7 @@ fn total(bytes: &[u8]) -> usize
 
 // The words that a copy of the bytes needs.
 pub fn need(bytes: &[u8]) -> Needs
-    ensures { λ r. ⌜ told r ≡ needOn (listedIn (now (bytes .entry))) ⌝ }
+    ensures { λ r. ⌜ needAnswer r ≡ needOn (listedIn (now (bytes .entry))) ⌝ }
 {
     if !whole(bytes) {
         return Needs::Refused(2);

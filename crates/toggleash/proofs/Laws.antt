@@ -18,11 +18,11 @@ use Rattle.writing.specs.declared.Counted.{Counted}
 use Rattle.writing.specs.Told.{toldCount, Fills, front-length, front-none}
 use Rattle.feed.specs.declared.Ran.{Ran as Outcome}
 use Rattle.feed.specs.declared.Ran.the-variants.{Stopped, Refused as Unfit}
-use Rattle.feed.specs.Runs.{told as toldRun, reported, Runs as Run}
+use Rattle.feed.specs.Runs.{runAnswer, reported, Runs as Run}
 use Rattle.way.specs.Marks.{wordsFor}
 use Rattle.way.specs.Listed.{Listed, unlisted, listed, listedIn, buildOn}
 use Rattle.copier.specs.declared.Built.{Built}
-use Rattle.copier.specs.Told.{told as toldBuild}
+use Rattle.copier.specs.Told.{buildAnswer}
 use Rattle.copier.specs.Build.{LeavesOn}
 use Rattle.toggleash.specs.Face.{refusal, updated, wrote, ran, Clears, Updates, Writes, Runs}
 use Rattle.toggleash.specs.Copies.{built, Builds}
@@ -64,11 +64,12 @@ module _ (ws b c : List ℕ) (n : ℕ) (f : Fills (seen 4 ws) b n c) where
 
 -- ---- the run
 
-told-refused : (r : Outcome) (n : ℕ) → toldRun r ≡ refuses n → r ≡ Unfit n
+told-refused : (r : Outcome) (n : ℕ) → runAnswer r ≡ refuses n → r ≡ Unfit n
 told-refused (Stopped x) n e = absurd (let z : _≡_ {A = ℕ} 0 1 = cc in omega arith)
 told-refused (Unfit m) n e = ap Unfit (cc)
 
-pub ran-so : (ws feed b vs c : List ℕ) (r : Outcome) (x : Fields) → Run ws feed b vs c r → x ≡ ran (toldRun r) → Runs ws feed b vs c x
+pub ran-so : (ws feed b vs c : List ℕ) (r : Outcome) (x : Fields) → Run ws feed b vs c r → x ≡ ran (runAnswer r)
+    → Runs ws feed b vs c x
 ran-so ws feed b vs c r x p e =
     record {
       answer = e ∙ ap ran (p .answer);
@@ -90,5 +91,6 @@ build-kept (listed rs) ws vs n p e =
     other : {T : Type 0} (c : T) (n : ℕ) → gives c ≡ refuses n → ⊥
     other c n e = let z : _≡_ {A = ℕ} 0 1 = cc in omega arith
 
-pub built-so : (bytes ws vs : List ℕ) (r : Built) (x : Numbers) → toldBuild r ≡ buildOn (listedIn bytes) (length ws) → LeavesOn (listedIn bytes) ws vs → x ≡ built (toldBuild r) → Builds bytes ws vs x
+pub built-so : (bytes ws vs : List ℕ) (r : Built) (x : Numbers) → buildAnswer r ≡ buildOn (listedIn bytes) (length ws)
+    → LeavesOn (listedIn bytes) ws vs → x ≡ built (buildAnswer r) → Builds bytes ws vs x
 built-so bytes ws vs r x a p e = record { answer = e ∙ ap built a; left = p; kept = λ n q. build-kept (listedIn bytes) ws vs n p q }

@@ -8,10 +8,10 @@ ghost use Rattle.routes.specs.Match.{longest};
 ghost use Rattle.routes.specs.Answers.{matched};
 ghost use Rattle.way.specs.Listed.{listedIn, needOn};
 ghost use Rattle.replies.specs.Said.{saidMatch};
-ghost use Rattle.listing.specs.Told.{told as toldNeed};
+ghost use Rattle.listing.specs.Told.{needAnswer};
 ghost use Rattle.copy.specs.Layout.{walk};
 ghost use Rattle.copy.specs.Copy.{Copy};
-ghost use Rattle.copier.specs.Told.{told as toldBuild};
+ghost use Rattle.copier.specs.Told.{buildAnswer};
 ghost use Rattle.toggleash.specs.Face.{looked};
 ghost use Rattle.toggleash.specs.Copies.{needed, built, Builds};
 
@@ -31,7 +31,7 @@ pub struct Built {
 // ---- answers in plain numbers
 
 fn size(answer: listing::Needs) -> Needed
-    ensures { λ r. ⌜ r ≡ needed (toldNeed answer) ⌝ }
+    ensures { λ r. ⌜ r ≡ needed (needAnswer answer) ⌝ }
 {
     match answer {
         listing::Needs::Words(n) => Needed {
@@ -46,7 +46,7 @@ fn size(answer: listing::Needs) -> Needed
 }
 
 fn counts(answer: copier::Built) -> Built
-    ensures { λ r. ⌜ r ≡ built (toldBuild answer) ⌝ }
+    ensures { λ r. ⌜ r ≡ built (buildAnswer answer) ⌝ }
 {
     match answer {
         copier::Built::Counts(routes, markers) => Built {

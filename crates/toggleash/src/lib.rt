@@ -10,7 +10,7 @@ ghost use Rattle.routes.specs.Seen.{lookupOn, checkOn};
 ghost use Rattle.arrays.specs.Table.{seen};
 ghost use Rattle.lookup.specs.Walk.{walk};
 ghost use Rattle.writing.specs.Told.{toldCount};
-ghost use Rattle.feed.specs.Runs.{told as toldRun};
+ghost use Rattle.feed.specs.Runs.{runAnswer};
 ghost use Rattle.audit.specs.Told.{toldClear, toldCheck};
 ghost use Rattle.replies.specs.Said.{saidReply};
 ghost use Rattle.toggleash.specs.Face.{refusal as refusalOf, counted, looked, updated, wrote, ran, Clears, Updates, Writes, Runs};
@@ -157,7 +157,7 @@ fn size(answer: writing::Counted) -> Written
 }
 
 fn report(answer: feed::Ran) -> Ran
-    ensures { λ r. ⌜ r ≡ ran (toldRun answer) ⌝ }
+    ensures { λ r. ⌜ r ≡ ran (runAnswer answer) ⌝ }
 {
     match answer {
         feed::Ran::Stopped(r) => Ran {
