@@ -9,7 +9,7 @@ ghost use Rattle.routes.specs.Room.{level as levelOf};
 ghost use Rattle.arrays.specs.Shape.{Shape};
 ghost use Rattle.arrays.specs.Words.{arraysOf, arrayCount};
 ghost use Rattle.arrays.specs.Almost.{Table};
-ghost use Rattle.paths.specs.Address.{front, byteOf, Stands};
+ghost use Rattle.address.specs.Address.{front, byteOf, Stands};
 ghost use Rattle.paths.specs.Grown.{Tip, Grown};
 ghost use Rattle.paths.specs.Stop.{Stops, Opened};
 ghost use Rattle.paths.specs.Shrunk.{Loose, Pruned};

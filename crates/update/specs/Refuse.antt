@@ -18,7 +18,7 @@ use Rattle.arrays.specs.Table.{tableB, listOf, seen}
 use Rattle.arrays.specs.Almost.{Table}
 use Rattle.arrays.specs.View.{fits-no-misfit, no-misfit-fits, table-fits, seen-misfit, seen-foreign, seen-table, seen-cases}
 use Rattle.arrays.specs.Decides.{table-tells}
-use Rattle.paths.specs.Address.{IsPrefix}
+use Rattle.address.specs.Address.{IsPrefix}
 use Rattle.replies.specs.declared.Reply as code
 use Rattle.replies.specs.declared.Reply.the-variants.{Refused}
 use Rattle.update.specs.Update.{faultOf, refusalOf, Updates, Applies}

@@ -7,7 +7,7 @@ ghost use Rattle.sizes.specs.Sizes.{hopBound};
 ghost use Rattle.routes.specs.Answers.{announce as announced, withdraw as withdrawn};
 ghost use Rattle.arrays.specs.Words.{slotsOf};
 ghost use Rattle.arrays.specs.Almost.{Table};
-ghost use Rattle.paths.specs.Address.{IsPrefix};
+ghost use Rattle.address.specs.Address.{IsPrefix};
 ghost use Rattle.update.specs.Seat.{Seat, Seated};
 ghost use Rattle.update.specs.Update.{Updates, Applies, faultOf, refusalOf};
 

@@ -1,7 +1,7 @@
 -- `paths::place_of` meets its contract: level, length and byte are what `stands-at` asks. Assumes nothing.
 use mathlib.Core.Path.{refl}
 use native.Mathlib.Omega.{arith}
-use Rattle.paths.specs.Address.{stands-at}
+use Rattle.address.specs.Address.{stands-at}
 use borrow.Author.Needs.{needs}
 use Rattle.paths.proofs.place_of.Statement.{statement}
 use Rattle.paths.proofs.place_of.Tie as tie
@@ -27,7 +27,7 @@ shr-t7 c = search needs
 returns : tie.Need-returns
 returns c =
     let s = c .before .before .args in
-    stands-at (s .address) (s .length) (c .before .level .result) _ (c .byte-of .result) (omega arith) (c .before .level .ensures .0) refl (c .byte-of .ensures .0)
+    stands-at 4 (s .address) (s .length) (c .before .level .result) _ (c .byte-of .result) (omega arith) (omega arith) (c .before .level .ensures .0) refl (c .byte-of .ensures .0)
 
 pub place-of-spec : {M : Type 1} → statement M
 place-of-spec =

@@ -84,11 +84,12 @@ pub record Stands (L a l k d x : ℕ) : Type 0 where
 pub stands-level : (L a l k d x : ℕ) → Stands L a l k d x → level l ≡ k
 stands-level L a l k d x s = ⊎-elim (λ (z : 1 ≤ d). omega (arith, s .whole, s .deep)) (λ (z : k ≡ 0). omega (arith, s .whole, s .deep)) (s .own)
 
-pub stands-at : (a l k d y : ℕ) → l ≤ 32 → k ≡ level l → d ≡ l - 8 * k → y ≡ byteOf 4 a k → Stands 4 a l k d (y / 2 ^ (8 - d))
-stands-at a l k d y h ek ed ey = record {
+pub stands-at : (L a l k d y : ℕ) → 1 ≤ L → l ≤ 8 * L → k ≡ level l → d ≡ l - 8 * k → y ≡ byteOf L a k
+    → Stands L a l k d (y / 2 ^ (8 - d))
+stands-at L a l k d y z h ek ed ey = record {
   top = omega arith;
   deep = omega arith;
-  own = same l 0 (λ z _. inr (omega arith)) (λ n _. inl (omega arith));
+  own = same l 0 (λ o _. inr (omega arith)) (λ n _. inl (omega arith));
   whole = omega arith;
   bits = rw ey;
 }

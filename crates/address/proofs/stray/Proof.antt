@@ -1,0 +1,61 @@
+-- `address::stray` meets its contract: the bits after the length are those of one byte and the bytes behind it. Assumes nothing.
+use mathlib.Core.Path.{refl, sym, _∙_}
+use native.Mathlib.Omega.{arith}
+use Prim.Native.Nat.{_/_}
+use borrow.Author.Needs.{needs}
+use Rattle.address.proofs.Laws.{stray-whole, stray-here, stray-rest}
+use Rattle.address.proofs.stray.Statement.{statement}
+use Rattle.address.proofs.stray.Tie as tie
+
+cast-k : tie.Need-cast-k
+cast-k c = search needs
+
+returns : tie.Need-returns
+returns c =
+    let k = c .before in
+    let s = k .before in
+    stray-whole (s .args .address .now) (λ i. omega (arith, k .shared-slice-known .given i)) (s .args .length) (s .args .length / 8) (omega arith) refl (c .if1 .taken)
+
+shared-slice-read-low-bits : tie.Need-shared-slice-read-low-bits
+shared-slice-read-low-bits c = search needs
+
+sub-low-bits : tie.Need-sub-low-bits
+sub-low-bits c = search needs
+
+low-bits-requires : tie.Need-low-bits-requires
+low-bits-requires c κs = search needs
+
+returns-2 : tie.Need-returns-2
+returns-2 c =
+    let k = c .before .before .before .before in
+    let s = k .before in
+    stray-here (s .args .address .now) (λ i. omega (arith, k .shared-slice-known .given i)) (s .args .length) (s .args .length / 8) (omega arith) refl (omega arith)
+    (λ z. c .if2 .taken (c .before .low-bits .ensures ∙ z))
+
+add-set-from : tie.Need-add-set-from
+add-set-from c = search needs
+
+set-from-requires : tie.Need-set-from-requires
+set-from-requires c κs = search needs
+
+returns-3 : tie.Need-returns-3
+returns-3 c =
+    let k = c .before .before .before .before .before in
+    let s = k .before in
+    c .set-from .ensures
+    ∙ stray-rest (s .args .address .now) (λ i. omega (arith, k .shared-slice-known .given i)) (s .args .length) (s .args .length / 8) (omega arith) refl (omega arith)
+    (sym (c .before .before .low-bits .ensures) ∙ c .before .if2 .left)
+
+pub stray-spec : {M : Type 1} → statement M
+stray-spec =
+    tie.close
+    (tie.spec
+    cast-k
+    returns
+    shared-slice-read-low-bits
+    sub-low-bits
+    low-bits-requires
+    returns-2
+    add-set-from
+    set-from-requires
+    returns-3)

@@ -1,0 +1,4 @@
+pub mod Address
+pub mod Number
+pub mod Four
+pub mod Bit

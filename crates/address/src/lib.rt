@@ -1,0 +1,104 @@
+// An address as lent bytes, the high one first. It has as many bytes as a table has levels: four in IPv4.
+ghost use mathlib.Core.Path.{_≡_};
+ghost use Prim.Native.Nat.{_+_, _*_, _-_, _%_, _^_, _<_, _≤_};
+ghost use mathlib.Core.Bool.{not};
+ghost use lib.Dec.{eqb};
+ghost use lib.ListN.{length as size, drop};
+ghost use Rattle.routes.specs.Route.{stray as strayOf};
+ghost use Rattle.routes.specs.Room.{level as levelOf};
+ghost use Rattle.routes.specs.Bytes.{four};
+ghost use Rattle.address.specs.Address.{byteOf, Stands};
+ghost use Rattle.address.specs.Number.{number};
+
+// The bytes of an IPv4 address.
+pub fn four_of(address: u32) -> [u8; 4]
+    ensures { λ r. ⌜ r ≡ four address ⌝ }
+{
+    let high = address / 65536;
+    let low = address % 65536;
+    [
+        (high / 256 % 256) as u8,
+        (high % 256) as u8,
+        (low / 256 % 256) as u8,
+        (low % 256) as u8,
+    ]
+}
+
+// The byte of level k.
+pub fn byte_at(address: &[u8], k: usize) -> usize
+    requires { ⌜ k < size (now address) ⌝ }
+    ensures { λ r. ⌜ (r ≡ byteOf (size (now (address .entry))) (number (now (address .entry))) k) × (r < 256) ⌝ }
+{
+    address[k] as usize
+}
+
+// The level of a length.
+fn level(length: u32) -> usize
+    ensures { λ r. ⌜ r ≡ levelOf length ⌝ }
+{
+    if length == 0 {
+        return 0;
+    }
+    ((length - 1) / 8) as usize
+}
+
+// Where a prefix stands: the level of its array, and its length and value there.
+pub struct Place {
+    pub level: usize,
+    pub depth: usize,
+    pub value: usize,
+}
+
+pub fn place_of(address: &[u8], length: u32) -> Place
+    requires { ⌜ (1 ≤ size (now address)) × (length ≤ 8 * size (now address)) ⌝ }
+    ensures { λ r. ⌜ Stands (size (now (address .entry))) (number (now (address .entry))) length (r .level) (r .depth) (r .value) ⌝ }
+{
+    let k = level(length);
+    let d = length as usize - 8 * k;
+    let y = byte_at(address, k);
+    Place {
+        level: k,
+        depth: d,
+        value: y >> (8 - d),
+    }
+}
+
+// ---- the bits after a length
+
+// Whether a byte from a place on is not 0.
+fn set_from(address: &[u8], from: usize) -> bool
+    ensures { λ r. ⌜ r ≡ not (eqb (number (drop from (now (address .entry)))) 0) ⌝ }
+{
+    let mut i = from;
+    while i < address.len() {
+        if address[i] != 0 {
+            return true;
+        }
+        i += 1;
+    }
+    false
+}
+
+// The last s bits of a byte.
+fn low_bits(y: u8, s: u32) -> u32
+    requires { ⌜ s ≤ 8 ⌝ }
+    ensures { λ r. ⌜ r ≡ y % 2 ^ s ⌝ }
+{
+    let p: u32 = 1 << s;
+    y as u32 % p
+}
+
+// Whether a bit after the length is set.
+pub fn stray(address: &[u8], length: u32) -> bool
+    requires { ⌜ length ≤ 8 * size (now address) ⌝ }
+    ensures { λ r. ⌜ r ≡ strayOf (8 * size (now (address .entry))) (number (now (address .entry))) length ⌝ }
+{
+    let k = (length / 8) as usize;
+    if k == address.len() {
+        return false;
+    }
+    if low_bits(address[k], 8 - length % 8) != 0 {
+        return true;
+    }
+    set_from(address, k + 1)
+}
