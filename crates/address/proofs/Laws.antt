@@ -15,19 +15,23 @@ use Rattle.address.specs.Number.{number, AreBytes, number-byte, number-r
 
 -- ---- set_from
 
-pub set-here : (bs : List ℕ) (from i : ℕ) → i < length bs → number (drop i bs) ≡ number (drop from bs) → (getD bs i 0 ≡ 0 → ⊥) → true ≡ not (eqb (number (drop from bs)) 0)
+pub set-here : (bs : List ℕ) (from i : ℕ) → i < length bs → number (drop i bs) ≡ number (drop from bs) → (getD bs i 0 ≡ 0 → ⊥)
+    → true ≡ not (eqb (number (drop from bs)) 0)
 set-here bs from i h e n =
     let p : number (drop from bs) ≡ 0 → ⊥ = λ z. omega (arith, number-some bs i h (omega arith)) in
     sym (ap not (ne-eqb (number (drop from bs)) 0 p))
 
-pub set-none : (bs : List ℕ) (from i : ℕ) → length bs ≤ i → number (drop i bs) ≡ number (drop from bs) → false ≡ not (eqb (number (drop from bs)) 0)
+pub set-none : (bs : List ℕ) (from i : ℕ) → length bs ≤ i → number (drop i bs) ≡ number (drop from bs)
+    → false ≡ not (eqb (number (drop from bs)) 0)
 set-none bs from i h e = sym (ap not (eq-eqb (number (drop from bs)) 0 (sym e ∙ number-end bs i h)))
 
 -- ---- stray
 
 module _ (bs : List ℕ) (ok : AreBytes bs) (l k : ℕ) (top : l ≤ 8 * length bs) (ek : k ≡ l / 8) where
   -- the bits after the length: those of the byte k, then the rest
-  after : k < length bs → number bs % 2 ^ (8 * length bs - l) ≡ getD bs k 0 % 2 ^ (8 - l % 8) * 2 ^ (8 * length bs - 8 * (k + 1)) + number (drop (k + 1) bs)
+  after : k < length bs
+      → number bs % 2 ^ (8 * length bs - l)
+      ≡ getD bs k 0 % 2 ^ (8 - l % 8) * 2 ^ (8 * length bs - 8 * (k + 1)) + number (drop (k + 1) bs)
   after h =
       let L = length bs in
       let a = number bs in
@@ -54,8 +58,10 @@ module _ (bs : List ℕ) (ok : AreBytes bs) (l k : ℕ) (top : l ≤ 8 * length 
       let g : 1 * 2 ^ e ≤ y * 2 ^ e = mul-le-mul-right (2 ^ e) (omega arith) in
       sym (ap not (ne-eqb (number bs % 2 ^ (8 * length bs - l)) 0 (λ z. omega (arith, after h, pow-pos e))))
 
-  pub stray-rest : k < length bs → getD bs k 0 % 2 ^ (8 - l % 8) ≡ 0 → not (eqb (number (drop (k + 1) bs)) 0) ≡ stray (8 * length bs) (number bs) l
+  pub stray-rest : k < length bs → getD bs k 0 % 2 ^ (8 - l % 8) ≡ 0
+      → not (eqb (number (drop (k + 1) bs)) 0) ≡ stray (8 * length bs) (number bs) l
   stray-rest h z =
       let e = 8 * length bs - 8 * (k + 1) in
-      let f : number bs % 2 ^ (8 * length bs - l) ≡ number (drop (k + 1) bs) = after h ∙ ap (λ (n : ℕ). n * 2 ^ e + number (drop (k + 1) bs)) z ∙ omega (arith, zero-mul (2 ^ e)) in
+      let f : number bs % 2 ^ (8 * length bs - l) ≡ number (drop (k + 1) bs) =
+      after h ∙ ap (λ (n : ℕ). n * 2 ^ e + number (drop (k + 1) bs)) z ∙ omega (arith, zero-mul (2 ^ e)) in
       rw f

@@ -31,7 +31,8 @@ front-more L a i h =
     let s = 8 * L - 8 - 8 * i in
     let e : 8 * L - 8 * suc i ≡ s = omega arith in
     let f : s + 8 ≡ 8 * L - 8 * i = omega arith in
-    ap (λ (n : ℕ). a / 2 ^ n) e ∙ sym (split (a / 2 ^ s) 8) ∙ ap (λ (x : ℕ). x * 256 + byteOf L a i) (shr-shr a s 8 ∙ ap (λ (n : ℕ). a / 2 ^ n) f)
+    ap (λ (n : ℕ). a / 2 ^ n) e ∙ sym (split (a / 2 ^ s) 8)
+    ∙ ap (λ (x : ℕ). x * 256 + byteOf L a i) (shr-shr a s 8 ∙ ap (λ (n : ℕ). a / 2 ^ n) f)
 
 pub front-up : (L a m j k : ℕ) → m + j ≡ k → k ≤ L → front L a k / 2 ^ (8 * m) ≡ front L a j
 front-up L a m j k e h =
@@ -82,7 +83,8 @@ pub record Stands (L a l k d x : ℕ) : Type 0 where
   pub bits : x ≡ value L a k d
 
 pub stands-level : (L a l k d x : ℕ) → Stands L a l k d x → level l ≡ k
-stands-level L a l k d x s = ⊎-elim (λ (z : 1 ≤ d). omega (arith, s .whole, s .deep)) (λ (z : k ≡ 0). omega (arith, s .whole, s .deep)) (s .own)
+stands-level L a l k d x s =
+    ⊎-elim (λ (z : 1 ≤ d). omega (arith, s .whole, s .deep)) (λ (z : k ≡ 0). omega (arith, s .whole, s .deep)) (s .own)
 
 pub stands-at : (L a l k d y : ℕ) → 1 ≤ L → l ≤ 8 * L → k ≡ level l → d ≡ l - 8 * k → y ≡ byteOf L a k
     → Stands L a l k d (y / 2 ^ (8 - d))

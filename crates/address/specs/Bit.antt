@@ -43,15 +43,18 @@ bit-pow (suc (suc (suc (suc (suc (suc (suc zero))))))) h = refl
 bit-pow (suc (suc (suc (suc (suc (suc (suc (suc m)))))))) h = absurd (omega arith)
 
 -- of the first L bytes
-pub bit-value : (L : ℕ) (a : List ℕ) (n : ℕ) → L ≤ length a → n < 8 * L → number (take L (withBit a n)) ≡ number (take L a) + 2 ^ (8 * L - 1 - n)
-bit-value L a n t h =
+pub bit-number : (L : ℕ) (a : List ℕ) (n : ℕ) → L ≤ length a → n < 8 * L
+    → number (take L (withBit a n)) ≡ number (take L a) + 2 ^ (8 * L - 1 - n)
+bit-number L a n t h =
     let k = n / 8 in
     let y = getD a k 0 in
     let s = 8 * (L - suc k) in
     let l : length (take L a) ≡ L = length-take-le L a t in
     let g : getD (take L a) k 0 ≡ y = getD-take L a k 0 (omega arith) in
     let e : (7 - n % 8) + s ≡ 8 * L - 1 - n = omega arith in
-    let p : bitOf n * 2 ^ s ≡ 2 ^ (8 * L - 1 - n) = ap (λ (x : ℕ). x * 2 ^ s) (bit-pow (n % 8) (omega arith)) ∙ sym (pow-add 2 (7 - n % 8) s) ∙ ap (λ (x : ℕ). 2 ^ x) e in
+    let f : 128 / 2 ^ (n % 8) ≡ 2 ^ (7 - n % 8) = bit-pow (n % 8) (omega arith) in
+    let p : bitOf n * 2 ^ s ≡ 2 ^ (8 * L - 1 - n) =
+    ap (λ (x : ℕ). x * 2 ^ s) f ∙ sym (pow-add 2 (7 - n % 8) s) ∙ ap (λ (x : ℕ). 2 ^ x) e in
     let v : number (set (take L a) k (y + bitOf n)) + y * 2 ^ s ≡ number (take L a) + (y + bitOf n) * 2 ^ s =
     rw (l, g) at (number-set (take L a) k (y + bitOf n) (omega arith)) in
     rw (take-set-lt L a k (y + bitOf n) (omega arith)) (omega (arith, v, p, add-mul y (bitOf n) (2 ^ s)))

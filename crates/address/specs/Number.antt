@@ -65,7 +65,8 @@ unfolding number
 number-byte bs ok k h =
     let s : 8 * length bs - 8 - 8 * k ≡ 8 * length bs - 8 * suc k = omega arith in
     let f : number bs / 2 ^ (8 * length bs - 8 * suc k) ≡ number (take (suc k) bs) = number-front bs ok (suc k) h in
-    let g : number (take (suc k) bs) ≡ number (take k bs) * 256 + getD bs k 0 = ap number (take-suc bs k 0 h) ∙ number-append (take k bs) (getD bs k 0 ∷ []) ∙ omega arith in
+    let g : number (take (suc k) bs) ≡ number (take k bs) * 256 + getD bs k 0 =
+    ap number (take-suc bs k 0 h) ∙ number-append (take k bs) (getD bs k 0 ∷ []) ∙ omega arith in
     rw (s, f, g) (omega (arith, ok k))
 
 -- equal numbers of equal length have equal bytes
@@ -88,7 +89,9 @@ number-some bs k h n =
 -- one that is 0 may be passed
 pub number-pass : (bs : List ℕ) (k : ℕ) → k < length bs → getD bs k 0 ≡ 0 → number (drop (k + 1) bs) ≡ number (drop k bs)
 unfolding number
-number-pass bs k h e = rw (add-one k) (sym (ap number (drop-cons bs k 0 h) ∙ omega (arith, zero-mul (2 ^ (8 * length (drop (suc k) bs))), ap (λ (b : ℕ). b * 2 ^ (8 * length (drop (suc k) bs))) e)))
+number-pass bs k h e =
+    let p = 2 ^ (8 * length (drop (suc k) bs)) in
+    rw (add-one k) (sym (ap number (drop-cons bs k 0 h) ∙ omega (arith, zero-mul p, ap (λ (b : ℕ). b * p) e)))
 
 pub number-end : (bs : List ℕ) (k : ℕ) → length bs ≤ k → number (drop k bs) ≡ 0
 unfolding number

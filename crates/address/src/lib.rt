@@ -51,7 +51,8 @@ pub struct Place {
 
 pub fn place_of(address: &[u8], length: u32) -> Place
     requires { ⌜ (1 ≤ size (now address)) × (length ≤ 8 * size (now address)) ⌝ }
-    ensures { λ r. ⌜ Stands (size (now (address .entry))) (number (now (address .entry))) length (r .level) (r .depth) (r .value) ⌝ }
+    ensures { λ r. ⌜ Stands (size (now (address .entry))) (number (now (address .entry))) length
+        (r .level) (r .depth) (r .value) ⌝ }
 {
     let k = level(length);
     let d = length as usize - 8 * k;

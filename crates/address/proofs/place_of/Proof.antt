@@ -27,8 +27,10 @@ shr-t7 c = search needs
 
 returns : tie.Need-returns
 returns c =
-    let s = c .before .before .before in
-    stands-at (length (s .args .address .now)) _ (s .args .length) (c .before .level .result) _ (c .byte-at .result) (omega arith) (omega arith) (c .before .level .ensures) refl (c .byte-at .ensures .0)
+    let s = c .before .before .before .args in
+    let l = c .before .level in
+    let b = c .byte-at in
+    stands-at (length (s .address .now)) _ (s .length) (l .result) _ (b .result) (omega arith) (omega arith) (l .ensures) refl (b .ensures .0)
 
 pub place-of-spec : {M : Type 1} → statement M
 place-of-spec =

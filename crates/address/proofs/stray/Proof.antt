@@ -13,8 +13,8 @@ cast-k c = search needs
 returns : tie.Need-returns
 returns c =
     let k = c .before in
-    let s = k .before in
-    stray-whole (s .args .address .now) (λ i. omega (arith, k .shared-slice-known .given i)) (s .args .length) (s .args .length / 8) (omega arith) refl (c .if1 .taken)
+    let s = k .before .args in
+    stray-whole (s .address .now) (λ i. omega (arith, k .shared-slice-known .given i)) (s .length) (s .length / 8) (omega arith) refl (c .if1 .taken)
 
 shared-slice-read-low-bits : tie.Need-shared-slice-read-low-bits
 shared-slice-read-low-bits c = search needs
@@ -28,8 +28,8 @@ low-bits-requires c κs = search needs
 returns-2 : tie.Need-returns-2
 returns-2 c =
     let k = c .before .before .before .before in
-    let s = k .before in
-    stray-here (s .args .address .now) (λ i. omega (arith, k .shared-slice-known .given i)) (s .args .length) (s .args .length / 8) (omega arith) refl (omega arith)
+    let s = k .before .args in
+    stray-here (s .address .now) (λ i. omega (arith, k .shared-slice-known .given i)) (s .length) (s .length / 8) (omega arith) refl (omega arith)
     (λ z. c .if2 .taken (c .before .low-bits .ensures ∙ z))
 
 add-set-from : tie.Need-add-set-from
@@ -41,9 +41,9 @@ set-from-requires c κs = search needs
 returns-3 : tie.Need-returns-3
 returns-3 c =
     let k = c .before .before .before .before .before in
-    let s = k .before in
+    let s = k .before .args in
     c .set-from .ensures
-    ∙ stray-rest (s .args .address .now) (λ i. omega (arith, k .shared-slice-known .given i)) (s .args .length) (s .args .length / 8) (omega arith) refl (omega arith)
+    ∙ stray-rest (s .address .now) (λ i. omega (arith, k .shared-slice-known .given i)) (s .length) (s .length / 8) (omega arith) refl (omega arith)
     (sym (c .before .before .low-bits .ensures) ∙ c .before .if2 .left)
 
 pub stray-spec : {M : Type 1} → statement M
