@@ -10,8 +10,8 @@ use lib.ListN.{length, getD, drop}
 use lib.Pow.{pow-pos, mod-pow-add, mod-mod-pow}
 use borrow.Author.Tests.{eq-eqb, ne-eqb}
 use Rattle.routes.specs.Route.{stray}
-use Rattle.address.specs.Address.{byteOf}
-use Rattle.address.specs.Number.{number, AreBytes, number-byte, number-rest, number-some, number-end}
+use Rattle.numbers.specs.Front.{byteOf}
+use Rattle.numbers.specs.Number.{number, AreBytes, number-byte, number-rest, number-some, number-end}
 
 -- ---- set_from
 

@@ -7,7 +7,7 @@ use native.Mathlib.Omega.{arith}
 use lib.ListN.{length, getD, take, set}
 use lib.Seq.{length-take-le, take-set-lt, getD-take}
 use lib.Pow.{pow-add}
-use Rattle.address.specs.Number.{number, number-set}
+use Rattle.numbers.specs.Number.{number, number-set}
 
 -- bit n from the front, in its byte
 abbrev pub bitOf : ℕ → ℕ

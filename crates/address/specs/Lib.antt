@@ -1,4 +1,3 @@
 pub mod Address
-pub mod Number
 pub mod Four
 pub mod Bit

@@ -6,9 +6,10 @@ ghost use lib.Dec.{eqb};
 ghost use lib.ListN.{length as size, drop};
 ghost use Rattle.routes.specs.Route.{stray as strayOf};
 ghost use Rattle.routes.specs.Room.{level as levelOf};
-ghost use Rattle.routes.specs.Bytes.{four};
-ghost use Rattle.address.specs.Address.{byteOf, Stands};
-ghost use Rattle.address.specs.Number.{number};
+ghost use Rattle.numbers.specs.Digits.{four};
+ghost use Rattle.numbers.specs.Front.{byteOf};
+ghost use Rattle.address.specs.Address.{Stands};
+ghost use Rattle.numbers.specs.Number.{number};
 
 // The bytes of an IPv4 address.
 pub fn four_of(address: u32) -> [u8; 4]

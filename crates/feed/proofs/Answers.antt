@@ -8,7 +8,7 @@ use lib.ListN.{length, getD}
 use lib.Dec.{eqb}
 use borrow.Author.Tests.{ne-eqb}
 use Rattle.routes.specs.Answers.{announce, withdraw}
-use Rattle.routes.specs.Bytes.{twoAt, fourAt}
+use Rattle.numbers.specs.Digits.{twoAt, fourAt}
 use Rattle.routes.specs.Runs.{size}
 use Rattle.routes.specs.Seen.{Seen, misfit, foreign, table, lookupOn}
 use Rattle.laws.specs.Turns.{size-pos}

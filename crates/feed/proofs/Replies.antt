@@ -5,7 +5,8 @@ use Prim.Native.Nat.{ℕ, suc, _+_, _%_, _≤_}
 use native.Mathlib.Omega.{arith}
 use lib.ListN.{length, set, take, drop, length-append}
 use lib.Seq.{sets, sets-eq, take-at, drop-at, length-take-le}
-use Rattle.routes.specs.Bytes.{two, replyBytes}
+use Rattle.numbers.specs.Digits.{two}
+use Rattle.routes.specs.Bytes.{replyBytes}
 use Rattle.replies.specs.Said.{saidReply}
 use Rattle.replies.specs.declared.Reply.{Reply}
 use Rattle.replies.specs.declared.Reply.the-variants.{Done, Found, Nothing, Refused}

@@ -7,7 +7,7 @@ use lib.ListN.{length, getD, take, drop}
 use lib.Seq.{sets}
 use Rattle.routes.specs.Route.{Route}
 use Rattle.routes.specs.Answers.{Record, update, announce, withdraw, lookup, reply}
-use Rattle.routes.specs.Bytes.{twoAt, fourAt}
+use Rattle.numbers.specs.Digits.{twoAt, fourAt}
 use Rattle.routes.specs.Runs.{State, size, recordAt, taken}
 use Rattle.routes.specs.Seen.{Seen, misfit, foreign, table}
 use Rattle.laws.specs.Turns.{Clear}

@@ -10,7 +10,7 @@ use lib.ListN.{length, getD}
 use lib.Dec.{ltb, leb, eqb}
 use borrow.Author.Tests.{lt-ltb, le-ltb, le-leb, lt-leb, eq-eqb, ne-eqb}
 use Rattle.routes.specs.Route.{Route, route, key, IsList}
-use Rattle.routes.specs.Bytes.{twoAt, fourAt}
+use Rattle.numbers.specs.Digits.{twoAt, fourAt}
 use Rattle.routes.specs.Room.{distinct, need, needTo}
 use Rattle.routes.specs.Seen.{gives, refuses}
 use Rattle.logic.specs.Cases.{same, less}

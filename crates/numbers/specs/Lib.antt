@@ -1,1 +1,4 @@
 pub mod Powers
+pub mod Digits
+pub mod Front
+pub mod Number

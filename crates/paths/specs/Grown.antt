@@ -18,7 +18,7 @@ use Rattle.arrays.specs.Gained.{firstFree, gained, Gains}
 use Rattle.arrays.specs.Hang.{Hang, hang-held, other, node-cases}
 use Rattle.arrays.specs.Rehang.{Gain, gained-hang, gained-almost, gained-length, gained-counted}
 use Rattle.arrays.specs.Stock.{Found, find-some, used-full}
-use Rattle.address.specs.Address.{front, byteOf, byte-lt, front-more, front-up}
+use Rattle.numbers.specs.Front.{front, byteOf, byte-lt, front-more, front-up}
 use Rattle.paths.specs.Alike.{Alike, gained-alike}
 
 -- a table of L levels but for b, the array of the first 8 * j bits q, whose cell i is without a link

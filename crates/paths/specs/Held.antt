@@ -19,7 +19,8 @@ use Rattle.arrays.specs.Slot.{Place, held-place, at-none}
 use Rattle.arrays.specs.Words.{arraysOf, arrayCount, slotsOf}
 use Rattle.arrays.specs.Table.{listOf}
 use Rattle.arrays.specs.Almost.{Table}
-use Rattle.address.specs.Address.{front, value-lt, front-lt, prefix-whole, IsPrefix, Stands}
+use Rattle.numbers.specs.Front.{front, value-lt, front-lt, prefix-whole}
+use Rattle.address.specs.Address.{IsPrefix, Stands}
 use Rattle.paths.specs.Stop.{Stops, stops-short}
 
 module _ (L a l k d x : ℕ) (s : Stands L a l k d x) (p : IsPrefix L a l) (inside : a < 2 ^ (8 * L)) where

@@ -13,7 +13,7 @@ use Rattle.arrays.specs.Need.{node-child}
 use Rattle.arrays.specs.Words.{arraysOf, arrayCount}
 use Rattle.arrays.specs.Almost.{Almost}
 use Rattle.arrays.specs.Missing.{missing, missing-none, missing-depth}
-use Rattle.address.specs.Address.{front, byteOf, byte-lt, front-more, front-up}
+use Rattle.numbers.specs.Front.{front, byteOf, byte-lt, front-more, front-up}
 use Rattle.paths.specs.Grown.{Grown, Tip, grown-none}
 
 -- b is the array of the first 8 * j bits of a

@@ -30,7 +30,8 @@ use Rattle.arrays.specs.Slot.{Place, Slotted, slotted-insert}
 use Rattle.arrays.specs.Reslot.{reslot-slotted, reslot-almost, almost-whole}
 use Rattle.arrays.specs.Stock.{count-need, used-full}
 use Rattle.arrays.specs.Missing.{need-more}
-use Rattle.address.specs.Address.{front, stands-level}
+use Rattle.numbers.specs.Front.{front}
+use Rattle.address.specs.Address.{stands-level}
 use Rattle.paths.specs.Grown.{Grown}
 use Rattle.paths.specs.Stop.{Opened, stops-missing}
 use Rattle.paths.specs.Held.{stands-head, stands-small, stands-place, stands-route, hopFound, Sought, sought-held}

@@ -14,7 +14,7 @@ use Rattle.arrays.specs.Need.{node-above}
 use Rattle.arrays.specs.Words.{arraysOf, arrayCount}
 use Rattle.arrays.specs.Slot.{Slotted, same-node}
 use Rattle.arrays.specs.Reslot.{Reslot}
-use Rattle.address.specs.Address.{front, front-up}
+use Rattle.numbers.specs.Front.{front, front-up}
 use Rattle.paths.specs.Alike.{Alike}
 use Rattle.paths.specs.Grown.{Grown}
 use Rattle.paths.specs.Stop.{On, Stops, stops-below}

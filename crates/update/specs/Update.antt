@@ -15,7 +15,7 @@ use Rattle.arrays.specs.Arrays.{Arrays, node}
 use Rattle.arrays.specs.Words.{arraysOf, arrayCount}
 use Rattle.arrays.specs.Table.{tableB, listOf, seen}
 use Rattle.arrays.specs.Almost.{Table}
-use Rattle.address.specs.Address.{front}
+use Rattle.numbers.specs.Front.{front}
 use Rattle.paths.specs.Alike.{Alike}
 use Rattle.replies.specs.Said.{saidReply}
 use Rattle.replies.specs.declared.Reply.{Reply}

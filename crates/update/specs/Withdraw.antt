@@ -24,7 +24,8 @@ use Rattle.arrays.specs.Table.{listOf}
 use Rattle.arrays.specs.Tree.{Level, node-level}
 use Rattle.arrays.specs.Slot.{Place, Slotted, same-node, slotted-remove}
 use Rattle.arrays.specs.Reslot.{reslot-slotted, reslot-almost}
-use Rattle.address.specs.Address.{front, stands-level}
+use Rattle.numbers.specs.Front.{front}
+use Rattle.address.specs.Address.{stands-level}
 use Rattle.paths.specs.Stop.{On}
 use Rattle.paths.specs.Shrunk.{Loose, Pruned}
 use Rattle.paths.specs.Held.{stands-route, hopFound, Sought, sought-place, sought-held}

@@ -8,7 +8,7 @@ use lib.ListN.{length, getD}
 use lib.Dec.{ltb, leb, eqb}
 use Rattle.routes.specs.Route.{Route, route, key, tooLong, stray, badHop}
 use Rattle.routes.specs.Room.{need}
-use Rattle.routes.specs.Bytes.{twoAt, fourAt}
+use Rattle.numbers.specs.Digits.{twoAt, fourAt}
 use Rattle.routes.specs.Seen.{Answer, gives, refuses}
 use Rattle.logic.specs.Every.{allB}
 use Rattle.way.specs.Marks.{markers, wordsFor}

@@ -12,7 +12,7 @@ use lib.Pow.{shr-mono, shr-le}
 use borrow.Author.Tests.{ltb-true, ltb-false, eqb-true, eqb-false, eq-eqb, ne-eqb}
 use Rattle.routes.specs.Route.{Route, key, From, All, Wf, IsRoute, IsList}
 use Rattle.routes.specs.Room.{mem, distinct}
-use Rattle.routes.specs.Bytes.{twoAt, fourAt}
+use Rattle.numbers.specs.Digits.{twoAt, fourAt}
 use Rattle.logic.specs.Cases.{bool}
 use Rattle.laws.specs.Sorted.{from-weaken, all-map}
 use Rattle.laws.specs.Longest.{Wfs}

@@ -11,7 +11,8 @@ use borrow.Author.Tests.{lt-ltb, le-ltb, le-leb, leb-true, eq-eqb, ne-eqb, eqb-t
 use Rattle.routes.specs.Route.{Route, key, From, All, IsRoute, IsList}
 use Rattle.routes.specs.Room.{need}
 use Rattle.routes.specs.Answers.{announce, update}
-use Rattle.routes.specs.Bytes.{two, four, twoAt, fourAt, recordBytes, recordsBytes, announced, written}
+use Rattle.numbers.specs.Digits.{two, four, twoAt, fourAt}
+use Rattle.routes.specs.Bytes.{recordBytes, recordsBytes, announced, written}
 use Rattle.logic.specs.Bools.{and-to, or-true}
 use Rattle.logic.specs.Every.{allB}
 use Rattle.logic.specs.Tells.{all-to, all-from}

@@ -2,7 +2,7 @@
 use mathlib.Core.Path.{sym}
 use native.Mathlib.Omega.{arith}
 use borrow.Author.Needs.{needs}
-use Rattle.address.specs.Number.{number-byte}
+use Rattle.numbers.specs.Number.{number-byte}
 use Rattle.address.proofs.byte_at.Statement.{statement}
 use Rattle.address.proofs.byte_at.Tie as tie
 

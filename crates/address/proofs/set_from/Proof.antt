@@ -4,7 +4,7 @@ use Prim.Native.Nat.{_-_}
 use native.Mathlib.Omega.{arith}
 use lib.ListN.{length, drop}
 use borrow.Author.Needs.{needs}
-use Rattle.address.specs.Number.{number, number-pass}
+use Rattle.numbers.specs.Number.{number, number-pass}
 use Rattle.address.proofs.Laws.{set-here, set-none}
 use Rattle.address.proofs.set_from.Statement.{statement}
 use Rattle.address.proofs.set_from.Tie as tie

@@ -11,7 +11,7 @@ use lib.ListN.{length, getD, take, drop, set, length-set, length-append, length-
 use lib.Seq.{take-suc, drop-cons, getD-drop, ext-getD}
 use lib.Pow.{pow-add, pow-pos, high, low}
 use lib.Arith.{digits-lt}
-use Rattle.address.specs.Address.{front, byteOf}
+use Rattle.numbers.specs.Front.{front, byteOf}
 
 abbrev pub AreBytes : List ℕ → Type 0
 AreBytes bs = (i : ℕ) → getD bs i 0 < 256
