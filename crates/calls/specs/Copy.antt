@@ -1,5 +1,5 @@
--- The copy over the calls of the C face: a table written out, and a copy built from the bytes in as many words as they need, which
--- answers every address as the table does. Assumes nothing.
+-- The copy over the calls of the C face: a table written out, and a copy built from the bytes in as many words as they need,
+-- which answers every address as the table does. Assumes nothing.
 --
 --     words ── write_out ──▶ bytes ── copy_need ──▶ how many words to lend
 --       │                      └───── copy_build ─▶ copy, its words on the card ── copy_lookup ──▶ found

@@ -220,9 +220,9 @@ holds-again T m p B xs v h e =
     }
 
 -- a value that is not there is at no place
-unheld : (T : Places) (m p : ℕ) (B : ℕ → ℕ) (xs : List ℕ) (v : ℕ) → Holds T m p B xs → mem v xs ≡ false → (i : ℕ) → i < p
+elsewhere : (T : Places) (m p : ℕ) (B : ℕ → ℕ) (xs : List ℕ) (v : ℕ) → Holds T m p B xs → mem v xs ≡ false → (i : ℕ) → i < p
     → T .taken i ≡ 1 → T .value i ≢ v
-unheld T m p B xs v h e i l t q =
+elsewhere T m p B xs v h e i l t q =
     hit-not-miss (sym (h .finds (T .value i) ∙ rw (q, e)) ∙ h .own i l t)
 
 -- the way to a free place: those before it are taken
@@ -238,7 +238,7 @@ pub holds-put : (T U : Places) (m p j : ℕ) (B : ℕ → ℕ) (xs : List ℕ) (
     → badBest m (B v) ≡ false → Free T p v j → Puts T U p j v (B v) → Holds U m p B (v ∷ xs)
 holds-put T U m p j B xs v h e g f s =
     let one : 1 ≤ p = omega (arith, f .few) in
-    let away = unheld T m p B xs v h e in
+    let away = elsewhere T m p B xs v h e in
     let new : find U m p v ≡ hit (B v) =
     reached T U p j v (B v) s m g away (f .steps) p 0 (f .few) (omega arith) (at-steps (f .steps) j (f .there))
     (λ x a c. (let l = place-lt (start v p) p x (start-lt v p one) (omega (arith, f .few)) in
@@ -258,7 +258,8 @@ holds-put T U m p j B xs v h e g f s =
           (λ z. rw z (stays T U p j v (B v) s m w (B w) p 0 (omega arith) (h .finds w ∙ rw z)))
           (λ z. rw z (absent U m p w one low (λ i l t. same i j
           (λ a _ y. q (sym (ap (U .value) a ∙ s .value) ∙ y))
-          (λ a _ y. unheld T m p B xs w h z i l (sym (s .takens i l a) ∙ t) (sym (s .values i l a) ∙ y))) p 0 (omega arith)))));
+          (λ a _ y. elsewhere T m p B xs w h z i l (sym (s .takens i l a) ∙ t) (sym (s .values i l a) ∙ y)))
+          p 0 (omega arith)))));
       count = filled-put T U j p (s .within) (s .free) (s .taken) (s .takens) ∙ rw (e, h .count);
     }
   where

@@ -1,4 +1,4 @@
 pub mod Words
-pub mod Laws
+pub mod Entry
 pub mod Making
 pub mod Whole

@@ -1,4 +1,4 @@
--- One table made, and all of them: the header, the clearing and the two passes together. Assumes nothing.
+-- One table made: its numbers in the header, the clearing and the two passes together. Assumes nothing.
 use mathlib.Core.Path.{_≡_, refl, _∙_}
 use mathlib.Core.Logic.{_≢_}
 use mathlib.Core.Bool.{Bool, true, false}
@@ -11,8 +11,8 @@ use Rattle.logic.specs.Cases.{same}
 use Rattle.listing.specs.Listed.{routeAt, listOf}
 use Rattle.lengths.specs.Layout.{headerWords, beginOf, sizeOf}
 use Rattle.lengths.specs.Laid.{table-same}
-use Rattle.lengths_build.specs.Filling.{Kept, Built, chosen, Filling, Filled}
-use Rattle.lengths_build.specs.Fill.{kept-none, kept-join, built-kept, built-more, filling-skip, filling-start}
+use Rattle.lengths_build.specs.Filling.{Kept, Standing, chosen, Filling, Filled}
+use Rattle.lengths_build.specs.Fill.{kept-none, kept-join, standing-kept, standing-more, filling-skip, filling-start}
 use Rattle.lengths_build.specs.Fill.{filling-turn, filling-end}
 use Rattle.lengths_build.specs.Best.{route-of}
 use Rattle.lengths_build.specs.Build.{Cleared, Headed, Makes, Made}
@@ -127,7 +127,7 @@ module _ (k : Bool) (bs : List ℕ) (m o p : ℕ) where
 -- ---- one table
 
 module _ (bs ws : List ℕ) (m o size : ℕ) (f : Makes bs ws m o size) (us : List ℕ) (h : Headed ws us m o size) where
-  below-kept : Built (listOf bs) us o m
+  below-kept : Standing (listOf bs) us o m
   below-kept = record {
     default = h .kept .below 0 (omega (arith, f .few)) ∙ f .built .default;
     tables = λ l x y. table-same (listOf bs) ws us o l (λ i a b. h .kept .below i (omega arith))
@@ -140,7 +140,7 @@ module _ (bs ws : List ℕ) (m o size : ℕ) (f : Makes bs ws m o size) (us : Li
     make-first =
         filling-start bs vs m o (2 * size) (f .list) (f .few) (f .most) (f .low)
         (omega (arith, f .fits, h .kept .long, c .kept .long)) (rw (f .counts))
-        (built-kept (listOf bs) us vs o m to (f .low) (omega (arith, f .most)) (c .kept) below-kept)
+        (standing-kept (listOf bs) us vs o m to (f .low) (omega (arith, f .most)) (c .kept) below-kept)
         (λ i a b. c .zero i a (omega arith))
 
     module _ (xs : List ℕ) (g : Filled false bs vs xs 0 m o (2 * size)) where
@@ -149,7 +149,7 @@ module _ (bs ws : List ℕ) (m o size : ℕ) (f : Makes bs ws m o size) (us : Li
 
       pub make-made : to ≤ o + 8 * size → (ys : List ℕ) → Filled true bs xs ys 0 m o (2 * size) → Made bs ws ys m (o + 8 * size)
       make-made x ys t = record {
-        built = built-more (listOf bs) ys o (o + 8 * size) m (omega arith) (t .filling .built)
+        built = standing-more (listOf bs) ys o (o + 8 * size) m (omega arith) (t .filling .built)
             (filling-end bs ys m o (2 * size) size refl bo so (t .filling));
         long = t .kept .long ∙ g .kept .long ∙ c .kept .long ∙ h .kept .long;
         past = λ i a b. t .kept .above i (omega arith) ∙ g .kept .above i (omega arith) ∙ c .kept .above i (omega arith)

@@ -1,4 +1,4 @@
--- All tables, and the call: what is built when the lengths below m are done. Assumes nothing.
+-- All tables made, one length after the other, and what the call leaves and answers. Assumes nothing.
 use mathlib.Core.Path.{_≡_, refl, sym, _∙_}
 use mathlib.Core.Logic.{_≢_}
 use mathlib.Core.List.{List, _∷_}
@@ -19,8 +19,8 @@ use Rattle.lengths_build.specs.Answer.{needOn, buildOn}
 use Rattle.listing.specs.Records.{Bytes, records-length}
 use Rattle.listing.specs.Written.{listed-list, listed-out}
 use Rattle.laws.specs.Longest.{wfs}
-use Rattle.lengths_build.specs.Filling.{Built}
-use Rattle.lengths_build.specs.Fill.{built-on}
+use Rattle.lengths_build.specs.Filling.{Standing}
+use Rattle.lengths_build.specs.Fill.{standing-on}
 use Rattle.lengths_build.specs.Best.{best-own, head-fits}
 use Rattle.lengths.specs.Layout.{headerWords}
 use Rattle.lengths_build.specs.Build.{LeavesOn, Makes, Made, Starts, Ends}
@@ -50,7 +50,7 @@ pub record Going (bs ws us : List ℕ) (m o : ℕ) : Type 0 where
   pub few : 1 ≤ m
   pub most : m ≤ 33
   pub at : o ≡ headerWords + 8 * entriesTo (m - 1) (listOf bs)
-  pub built : Built (listOf bs) us o m
+  pub built : Standing (listOf bs) us o m
   pub long : length us ≡ length ws
   pub past : (i : ℕ) → wordsFor (listOf bs) ≤ i → getD us i 0 ≡ getD ws i 0
 
@@ -99,7 +99,7 @@ module _ (bs ws : List ℕ) (s : Starts bs ws) (us : List ℕ) (m o : ℕ) (g : 
       let q : m - 1 ≡ 32 = omega (arith, g .most) in
       let z : m ≡ 33 = omega (arith, g .most) in
       let a : o ≡ headerWords + 8 * entriesTo 32 (listOf bs) = g .at ∙ rw q in
-      let b = built-on (listOf bs) us o (wordsFor (listOf bs)) m
+      let b = standing-on (listOf bs) us o (wordsFor (listOf bs)) m
       (omega (arith, a, to-fits 32 (listOf bs) (omega arith) (s .list))) (g .built) in
       record {
         laid = record {
@@ -188,7 +188,8 @@ module _ (bs ws : List ℕ) (n : ℕ) (g : Given bs n) where
   }
 
   pub build-built : (d : ℕ) (us : List ℕ) → n ≤ length ws → Ends bs (set ws 0 d) us
-      → (gives (record { routes = length bs / 8; markers = (n - headerWords) / 8 - length bs / 8 }) ≡ buildOn (listedIn bs) (length ws))
+      → (gives (record { routes = length bs / 8; markers = (n - headerWords) / 8 - length bs / 8 })
+      ≡ buildOn (listedIn bs) (length ws))
       × LeavesOn (listedIn bs) ws us
   build-built d us h e =
       let r : length (listOf bs) ≡ length bs / 8 = records-length bs (length bs / 8) 0 in

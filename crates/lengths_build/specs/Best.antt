@@ -22,7 +22,7 @@ use Rattle.lengths.specs.Entries.{own, own-held, key-own, mem-either}
 use Rattle.lengths.specs.Held.{best-same}
 use Rattle.listing.specs.Listed.{routeAt, routesFrom, listOf}
 use Rattle.lengths.specs.Layout.{beginOf, sizeOf, look}
-use Rattle.lengths_build.specs.Filling.{Built, below}
+use Rattle.lengths_build.specs.Filling.{Standing, below}
 
 -- ---- a record's route is held
 
@@ -81,7 +81,7 @@ own-entered rs m x e = mem-either (λ l. eqb l m) (turnsAt m) m x rs
 pub unentered : (rs : List Route) (m x : ℕ) → m ≤ 32 → Wfs 32 rs → mem x (own m rs) ≡ false → heldAt rs m x ≡ 0
 unentered rs m x h w e = same (heldAt rs m x) 0 (λ q _. q) (λ q d. absurd (true≢false (sym (own-held m x rs h w ∙ rw d) ∙ e)))
 
-module _ (rs : List Route) (w : Wfs 32 rs) (ws : List ℕ) (o m v : ℕ) (long : o ≤ length ws) (k : m ≤ 32) (b : Built rs ws o m)
+module _ (rs : List Route) (w : Wfs 32 rs) (ws : List ℕ) (o m v : ℕ) (long : o ≤ length ws) (k : m ≤ 32) (b : Standing rs ws o m)
     (low : v < 2 ^ m) where
   abbrev G : ℕ → ℕ
   G l = heldAt rs l (v / 2 ^ (m - l))

@@ -10,7 +10,7 @@ use Rattle.lengths.specs.Marks.{heldAt, entries, bestAt, wordsFor}
 use Rattle.listing.specs.Listed.{routeAt, listOf, Listed, unlisted, listed}
 use Rattle.lengths.specs.Layout.{headerWords, beginOf, sizeOf}
 use Rattle.lengths.specs.Laid.{Laid}
-use Rattle.lengths_build.specs.Filling.{Kept, Built}
+use Rattle.lengths_build.specs.Filling.{Kept, Standing}
 
 -- ---- the call
 
@@ -35,7 +35,7 @@ pub record Bests (bs ws : List ℕ) (i m v : ℕ) : Type 0 where
   pub few : 1 ≤ m
   pub most : m ≤ 32
   pub long : headerWords ≤ length ws
-  pub built : Built (listOf bs) ws (length ws) m
+  pub built : Standing (listOf bs) ws (length ws) m
   pub value : v ≡ routeAt bs i .addr / 2 ^ (32 - m)
   pub marker : routeAt bs i .len ≢ m → heldAt (listOf bs) m v ≡ 0
 
@@ -56,10 +56,10 @@ pub record Makes (bs ws : List ℕ) (m o size : ℕ) : Type 0 where
   pub low : headerWords ≤ o
   pub fits : o + 8 * size ≤ length ws
   pub counts : size ≡ distinct (entries m (listOf bs))
-  pub built : Built (listOf bs) ws o m
+  pub built : Standing (listOf bs) ws o m
 
 pub record Made (bs ws us : List ℕ) (m to : ℕ) : Type 0 where
-  pub built : Built (listOf bs) us to (m + 1)
+  pub built : Standing (listOf bs) us to (m + 1)
   pub long : length us ≡ length ws
   pub past : (i : ℕ) → to ≤ i → headerWords ≤ i → getD us i 0 ≡ getD ws i 0
 

@@ -24,7 +24,7 @@ use Rattle.laws.specs.Longest.{wfs}
 use Rattle.lengths.specs.Layout.{headerWords, beginOf, sizeOf, placesOf, find}
 use Rattle.lengths.specs.Hash.{Room, room-left, Holds, holds-none, holds-again, holds-put}
 use Rattle.lengths.specs.Laid.{Table, table-same, best-fine}
-use Rattle.lengths_build.specs.Filling.{Kept, Built, chosen, tail, base, sofar, Filling, Filled, Put, isMiss}
+use Rattle.lengths_build.specs.Filling.{Kept, Standing, chosen, tail, base, sofar, Filling, Filled, Put, isMiss}
 use Rattle.lengths_build.specs.Best.{unentered}
 
 -- ---- words kept
@@ -39,9 +39,9 @@ kept-join ws us vs lo hi k l = record {
   above = λ i h. l .above i h ∙ k .above i h;
 }
 
-pub built-kept : (rs : List Route) (ws us : List ℕ) (o m hi : ℕ) → headerWords ≤ o → m ≤ 33 → Kept ws us o hi → Built rs ws o m
-    → Built rs us o m
-built-kept rs ws us o m hi h k s b = record {
+pub standing-kept : (rs : List Route) (ws us : List ℕ) (o m hi : ℕ) → headerWords ≤ o → m ≤ 33 → Kept ws us o hi
+    → Standing rs ws o m → Standing rs us o m
+standing-kept rs ws us o m hi h k s b = record {
   default = s .below 0 (omega arith) ∙ b .default;
   tables = λ l x y. table-same rs ws us o l (λ i p q. s .below i (omega arith)) (λ i p q. s .below i q) (b .tables l x y);
 }
@@ -151,7 +151,7 @@ module _ (k : Bool) (bs ws : List ℕ) (i m o p : ℕ) (f : Filling k bs ws (i +
   here = omega (arith, f .upto)
 
   -- another list of what is held, for the record before
-  before : (us : List ℕ) → length us ≡ length ws → Built (listOf bs) us o m
+  before : (us : List ℕ) → length us ≡ length ws → Standing (listOf bs) us o m
       → Holds (placesOf us o) m p (bestAt (listOf bs) m) (sofar k bs m i) → Filling k bs us i m o p
   before us e b h = record {
     list = f .list;
@@ -198,7 +198,7 @@ module _ (k : Bool) (bs ws : List ℕ) (i m o p : ℕ) (f : Filling k bs ws (i +
         → y ≡ bestAt (listOf bs) m x → Put ws us o p x y → Filled k bs ws us i m o p
     filling-put us b y e q w s = record {
       filling = before us (s .kept .long)
-          (built-kept (listOf bs) ws us o m (o + 4 * p) (f .low) (omega (arith, f .most)) (s .kept) (f .built))
+          (standing-kept (listOf bs) ws us o m (o + 4 * p) (f .low) (omega (arith, f .most)) (s .kept) (f .built))
           (rw (sofar-more k bs i m here c, ← xe)
           (holds-put (placesOf ws o) (placesOf us o) m p (s .at) (bestAt (listOf bs) m) (sofar k bs m (i + 1)) x (f .holds)
           (away b e q)
@@ -209,9 +209,10 @@ module _ (k : Bool) (bs ws : List ℕ) (i m o p : ℕ) (f : Filling k bs ws (i +
 -- ---- its begin, its turn and its end
 
 -- an empty table, before the first pass
-pub filling-start : (bs ws : List ℕ) (m o p : ℕ) → IsList 32 (listOf bs) → 1 ≤ m → m ≤ 32 → headerWords ≤ o → o + 4 * p ≤ length ws
-    → p ≡ 2 * distinct (entries m (listOf bs))
-    → Built (listOf bs) ws o m → ((i : ℕ) → o ≤ i → i < o + 4 * p → getD ws i 0 ≡ 0) → Filling false bs ws (length bs / 8) m o p
+pub filling-start : (bs ws : List ℕ) (m o p : ℕ) → IsList 32 (listOf bs) → 1 ≤ m → m ≤ 32 → headerWords ≤ o
+    → o + 4 * p ≤ length ws → p ≡ 2 * distinct (entries m (listOf bs))
+    → Standing (listOf bs) ws o m → ((i : ℕ) → o ≤ i → i < o + 4 * p → getD ws i 0 ≡ 0)
+    → Filling false bs ws (length bs / 8) m o p
 filling-start bs ws m o p l a b c d e f z = record {
   list = l;
   few = a;
@@ -270,12 +271,12 @@ table-on : (rs : List Route) (ws : List ℕ) (o to m : ℕ) → o ≤ to → Tab
 table-on rs ws o to m h t = record { begins = t .begins; ends = omega (arith, t .ends); finds = t .finds }
 
 -- one table more
-pub built-more : (rs : List Route) (ws : List ℕ) (o to m : ℕ) → o ≤ to → Built rs ws o m → Table rs ws to m
-    → Built rs ws to (m + 1)
-built-more rs ws o to m h b t = record {
+pub standing-more : (rs : List Route) (ws : List ℕ) (o to m : ℕ) → o ≤ to → Standing rs ws o m → Table rs ws to m
+    → Standing rs ws to (m + 1)
+standing-more rs ws o to m h b t = record {
   default = b .default;
   tables = λ l x y. same l m (λ q _. rw q t) (λ q _. table-on rs ws o to l h (b .tables l x (omega arith)));
 }
 
-pub built-on : (rs : List Route) (ws : List ℕ) (o to m : ℕ) → o ≤ to → Built rs ws o m → Built rs ws to m
-built-on rs ws o to m h b = record { default = b .default; tables = λ l x y. table-on rs ws o to l h (b .tables l x y) }
+pub standing-on : (rs : List Route) (ws : List ℕ) (o to m : ℕ) → o ≤ to → Standing rs ws o m → Standing rs ws to m
+standing-on rs ws o to m h b = record { default = b .default; tables = λ l x y. table-on rs ws o to l h (b .tables l x y) }

@@ -1,5 +1,5 @@
--- The words while they are built: the tables of lengths below m stand, that of length m is filled from the last record to the first,
--- the routes of that length first and then the markers. Assumes nothing.
+-- The words while they are built: the tables of the lengths below m stand, and that of length m is filled from the last record to
+-- the first, the routes of that length first and then the markers. Assumes nothing.
 use mathlib.Core.Path.{_≡_}
 use mathlib.Core.Bool.{Bool, true, false}
 use mathlib.Core.List.{List, [], _++_}
@@ -23,7 +23,7 @@ pub record Kept (ws us : List ℕ) (lo hi : ℕ) : Type 0 where
   pub above : (i : ℕ) → hi ≤ i → getD us i 0 ≡ getD ws i 0
 
 -- the default route, and the tables of the lengths below m, which end by o
-pub record Built (rs : List Route) (ws : List ℕ) (o m : ℕ) : Type 0 where
+pub record Standing (rs : List Route) (ws : List ℕ) (o m : ℕ) : Type 0 where
   pub default : getD ws 0 0 ≡ bestAt rs 0 0
   pub tables : (l : ℕ) → 1 ≤ l → l < m → Table rs ws o l
 
@@ -55,7 +55,7 @@ pub record Filling (k : Bool) (bs ws : List ℕ) (i m o p : ℕ) : Type 0 where
   pub low : headerWords ≤ o
   pub fits : o + 4 * p ≤ length ws
   pub size : p ≡ 2 * distinct (entries m (listOf bs))
-  pub built : Built (listOf bs) ws o m
+  pub built : Standing (listOf bs) ws o m
   pub holds : Holds (placesOf ws o) m p (bestAt (listOf bs) m) (sofar k bs m i)
 
 pub record Filled (k : Bool) (bs ws us : List ℕ) (i m o p : ℕ) : Type 0 where

@@ -10,6 +10,7 @@ ghost use Rattle.routes.specs.Route.{IsList};
 ghost use Rattle.routes.specs.Room.{distinct};
 ghost use Rattle.lengths.specs.Marks.{bestAt, markers, entries as entriesOf};
 ghost use Rattle.listing.specs.Listed.{routeAt, listOf, listedIn};
+ghost use Rattle.listing.specs.Records.{keyBound};
 ghost use Rattle.lengths.specs.Layout.{headerWords, placesOf, find};
 ghost use Rattle.lengths.specs.Hash.{Room, Free};
 ghost use Rattle.lengths_build.specs.Filling.{chosen, Filling, Filled, Put, isMiss, below};
@@ -65,7 +66,7 @@ fn reach(m: u32) -> u32
 // How many entries the length m has.
 fn entries(bytes: &[u8], m: u32) -> usize
     requires { ⌜ IsList 32 (listOf (now bytes)) × (1 ≤ m) × (m ≤ 32) ⌝ }
-    ensures { λ r. ⌜ (r ≡ distinct (entriesOf m (listOf (now (bytes .entry))))) × (r ≤ 1099511627776) ⌝ }
+    ensures { λ r. ⌜ (r ≡ distinct (entriesOf m (listOf (now (bytes .entry))))) × (r ≤ keyBound) ⌝ }
 {
     listing::count(bytes, m, reach(m), m)
 }
@@ -73,7 +74,7 @@ fn entries(bytes: &[u8], m: u32) -> usize
 // The entries of all lengths, and the default route: as many as there are routes and markers.
 fn total(bytes: &[u8]) -> usize
     requires { ⌜ IsList 32 (listOf (now bytes)) ⌝ }
-    ensures { λ r. ⌜ (r ≡ length (listOf (now (bytes .entry))) + markers (listOf (now (bytes .entry)))) × (r ≤ 36283883716608) ⌝ }
+    ensures { λ r. ⌜ (r ≡ length (listOf (now (bytes .entry))) + markers (listOf (now (bytes .entry)))) × (r ≤ 33 * keyBound) ⌝ }
 {
     let mut sum = listing::count(bytes, 0, 0, 0);
     let mut m: u32 = 0;

@@ -10,16 +10,16 @@ use Rattle.routes.specs.Room.{distinct, need, needTo}
 use Rattle.logic.specs.Cases.{same}
 use Rattle.laws.specs.Longest.{wfs}
 use Rattle.listing.specs.Listed.{routeAt, routesFrom}
-use Rattle.listing.specs.Heads.{picks, between, Counted, firstOr, heads-picks, count-skip, count-same, count-new}
+use Rattle.listing.specs.Heads.{picks, between, noHead, Counted, firstOr, heads-picks, count-skip, count-same, count-new}
 use Rattle.listing.specs.Heads.{count-first, distinct-length}
-use Rattle.listing.specs.Records.{tail-step, tail-end, tail-list, records-length, list-short}
+use Rattle.listing.specs.Records.{keyBound, tail-step, tail-end, tail-list, records-length, list-short}
 
 -- what was counted so far, over the records from i on: the count, and the head met last
 pub record Counts (P : ℕ → Bool) (m : ℕ) (rs : List Route) (seen last : ℕ) : Type 0 where
   pub count : seen ≡ distinct (picks P m rs)
-  pub first : last ≡ firstOr 4294967296 (picks P m rs)
+  pub first : last ≡ firstOr noHead (picks P m rs)
 
-pub counts-none : (P : ℕ → Bool) (m n : ℕ) (bs : List ℕ) → Counts P m (routesFrom bs (n - n) n) 0 4294967296
+pub counts-none : (P : ℕ → Bool) (m n : ℕ) (bs : List ℕ) → Counts P m (routesFrom bs (n - n) n) 0 noHead
 counts-none P m n bs = rw (tail-end bs n) (record { count = refl; first = refl })
 
 module _ (P : ℕ → Bool) (m n i j : ℕ) (bs : List ℕ) (e : j + 1 ≡ i) (h : i ≤ n) (l : IsList 32 (routesFrom bs n 0))
@@ -33,7 +33,7 @@ module _ (P : ℕ → Bool) (m n i j : ℕ) (bs : List ℕ) (e : j + 1 ≡ i) (h
       rw (tail-step bs n i j e h) (record {
         count = s .count ∙ ap distinct (sym z);
         first = s .first
-            ∙ ap (firstOr 4294967296) (sym z);
+            ∙ ap (firstOr noHead) (sym z);
       })
 
   pub counts-more : (b : Bool) (v r : ℕ) → b ≡ P (routeAt bs j .len) → b ≡ true → v ≡ routeAt bs j .addr / 2 ^ (32 - m)
@@ -58,7 +58,7 @@ counts-low P m n i bs seen last s = omega
 
 pub counts-end : (P : ℕ → Bool) (m n i : ℕ) (bs : List ℕ) (seen last : ℕ) → i ≤ 0 → IsList 32 (routesFrom bs n 0)
     → Counts P m (routesFrom bs (n - i) i) seen last
-    → (seen ≡ distinct (picks P m (routesFrom bs n 0))) × (seen ≤ 1099511627776)
+    → (seen ≡ distinct (picks P m (routesFrom bs n 0))) × (seen ≤ keyBound)
 counts-end P m n i bs seen last h l s =
     let z : i ≡ 0 = omega arith in
     let d : n - 0 ≡ n = omega arith in

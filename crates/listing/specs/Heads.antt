@@ -25,6 +25,10 @@ picks P m (r ∷ rs) = cond (P (r .len)) (r .addr / 2 ^ (32 - m) ∷ picks P m r
 abbrev pub between : ℕ → ℕ → ℕ → Bool
 between from to l = leb from l && leb l to
 
+-- above every head: before the first there is none
+abbrev pub noHead : ℕ
+noHead = 4294967296
+
 -- one more, unless v is the one before
 pub record Counted (seen v last r : ℕ) : Type 0 where
   pub same : v ≡ last → r ≡ seen
@@ -54,7 +58,7 @@ heads-picks n rs w = longer rs ∙ picks-same (λ l. ltb n l) (between (n + 1) 3
 -- ---- counting
 
 -- each number is at least the one before
-abbrev pub Rising : ℕ → List ℕ → Type 0
+abbrev Rising : ℕ → List ℕ → Type 0
 Rising lo [] = Unit {0}
 Rising lo (x ∷ xs) = (lo ≤ x) × Rising x xs
 
@@ -67,7 +71,7 @@ rising-past : (v lo : ℕ) (xs : List ℕ) → v < lo → Rising lo xs → mem v
 rising-past v lo [] h r = refl
 rising-past v lo (x ∷ xs) h r = rw (ne-eqb x v (λ e. omega (arith, r .0))) (rising-past v x xs (omega (arith, r .0)) (r .1))
 
-pub distinct-step : (v d : ℕ) (xs : List ℕ) → v < d → Rising v xs
+distinct-step : (v d : ℕ) (xs : List ℕ) → v < d → Rising v xs
     → distinct (v ∷ xs) ≡ cond (eqb v (firstOr d xs)) (distinct xs) (suc (distinct xs))
 distinct-step v d [] h r = rw (ne-eqb v d (λ e. omega arith))
 distinct-step v d (x ∷ xs) h r =
@@ -75,7 +79,7 @@ distinct-step v d (x ∷ xs) h r =
     (λ q e. rw (e, eq-eqb x v (sym q)))
     (λ q e. rw (e, ne-eqb x v (λ z. q (sym z)), rising-past v x xs (omega (arith, r .0)) (r .1)))
 
-pub picks-rising : (P : ℕ → Bool) (m lo h : ℕ) (rs : List Route) → From lo rs → Wfs 32 rs → h ≤ lo / 256 / 2 ^ (32 - m)
+picks-rising : (P : ℕ → Bool) (m lo h : ℕ) (rs : List Route) → From lo rs → Wfs 32 rs → h ≤ lo / 256 / 2 ^ (32 - m)
     → Rising h (picks P m rs)
 picks-rising P m lo h [] f w b = tt
 picks-rising P m lo h (r ∷ rs) f w b =
@@ -87,14 +91,11 @@ picks-rising P m lo h (r ∷ rs) f w b =
 
 -- ---- one route more, before the others
 
-abbrev none : ℕ
-none = 4294967296
-
 module _ (P : ℕ → Bool) (m : ℕ) (r : Route) (rs : List Route) (l : IsList 32 (r ∷ rs)) where
   abbrev v : ℕ
   v = r .addr / 2 ^ (32 - m)
 
-  head-low : r .addr / 2 ^ (32 - m) < 4294967296
+  head-low : r .addr / 2 ^ (32 - m) < noHead
   head-low = omega (arith, shr-le (r .addr) (32 - m), l .routes .0 .wf .inside)
 
   rising : Rising v (picks P m rs)
@@ -103,15 +104,15 @@ module _ (P : ℕ → Bool) (m : ℕ) (r : Route) (rs : List Route) (l : IsList 
   pub count-skip : P (r .len) ≡ false → picks P m (r ∷ rs) ≡ picks P m rs
   count-skip e = rw e
 
-  pub count-same : P (r .len) ≡ true → r .addr / 2 ^ (32 - m) ≡ firstOr 4294967296 (picks P m rs)
+  pub count-same : P (r .len) ≡ true → r .addr / 2 ^ (32 - m) ≡ firstOr noHead (picks P m rs)
       → distinct (picks P m (r ∷ rs)) ≡ distinct (picks P m rs)
-  count-same e q = rw e (distinct-step v none (picks P m rs) head-low rising ∙ rw (eq-eqb v (firstOr none (picks P m rs)) q))
+  count-same e q = rw e (distinct-step v noHead (picks P m rs) head-low rising ∙ rw (eq-eqb v (firstOr noHead (picks P m rs)) q))
 
-  pub count-new : P (r .len) ≡ true → r .addr / 2 ^ (32 - m) ≢ firstOr 4294967296 (picks P m rs)
+  pub count-new : P (r .len) ≡ true → r .addr / 2 ^ (32 - m) ≢ firstOr noHead (picks P m rs)
       → distinct (picks P m (r ∷ rs)) ≡ suc (distinct (picks P m rs))
-  count-new e q = rw e (distinct-step v none (picks P m rs) head-low rising ∙ rw (ne-eqb v (firstOr none (picks P m rs)) q))
+  count-new e q = rw e (distinct-step v noHead (picks P m rs) head-low rising ∙ rw (ne-eqb v (firstOr noHead (picks P m rs)) q))
 
-  pub count-first : P (r .len) ≡ true → firstOr 4294967296 (picks P m (r ∷ rs)) ≡ r .addr / 2 ^ (32 - m)
+  pub count-first : P (r .len) ≡ true → firstOr noHead (picks P m (r ∷ rs)) ≡ r .addr / 2 ^ (32 - m)
   count-first e = rw e
 
 pub distinct-length : (P : ℕ → Bool) (m : ℕ) (rs : List Route) → distinct (picks P m rs) ≤ length rs

@@ -152,8 +152,11 @@ unfolding routesFrom
 records-length bs zero i = refl
 records-length bs (suc n) i = ap suc (records-length bs n (suc i))
 
--- keys are below 2 ^ 40, so no list is longer
-pub list-short : (lo : ℕ) (rs : List Route) → From lo rs → Wfs 32 rs → lo ≤ 1099511627776 → lo + length rs ≤ 1099511627776
+-- keys are below it, so no list is longer
+abbrev pub keyBound : ℕ
+keyBound = 1099511627776
+
+pub list-short : (lo : ℕ) (rs : List Route) → From lo rs → Wfs 32 rs → lo ≤ keyBound → lo + length rs ≤ keyBound
 list-short lo [] f w h = omega arith
 list-short lo (r ∷ rs) f w h =
     let a : r .addr < 4294967296 = w .0 .inside in

@@ -7,7 +7,10 @@ ghost use Rattle.routes.specs.Route.{key, route, IsList};
 ghost use Rattle.routes.specs.Room.{distinct, need};
 ghost use Rattle.listing.specs.Listed.{routeAt, listOf, routeB, recordB};
 ghost use Rattle.listing.specs.Heads.{picks, between, Counted};
-ghost use Rattle.listing.specs.Records.{Whole, Reads};
+ghost use Rattle.listing.specs.Records.{Whole, Reads, keyBound};
+
+// Above every head: before the first there is none.
+const NO_HEAD: u64 = 4294967296;
 
 // ---- numbers of a record
 
@@ -129,11 +132,11 @@ fn counted(seen: usize, v: u64, last: u64) -> usize
 // neighbours.
 pub fn count(bytes: &[u8], from: u32, to: u32, m: u32) -> usize
     requires { ⌜ IsList 32 (listOf (now bytes)) × (m ≤ 32) ⌝ }
-    ensures { λ r. ⌜ (r ≡ distinct (picks (between from to) m (listOf (now (bytes .entry))))) × (r ≤ 1099511627776) ⌝ }
+    ensures { λ r. ⌜ (r ≡ distinct (picks (between from to) m (listOf (now (bytes .entry))))) × (r ≤ keyBound) ⌝ }
 {
     let mut i = bytes.len() / 8;
     let mut seen: usize = 0;
-    let mut last: u64 = 4294967296;
+    let mut last = NO_HEAD;
     while i > 0 {
         i -= 1;
         if is_between(from, to, bits(bytes, i)) {

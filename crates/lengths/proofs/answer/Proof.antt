@@ -1,4 +1,4 @@
--- By the look. Assumes nothing.
+-- `lengths::answer` meets its contract: each case of what was found is its answer. Assumes nothing.
 use borrow.Author.Tests.{ne-eqb}
 use borrow.Author.Needs.{needs}
 use Rattle.lengths.proofs.answer.Statement.{statement}

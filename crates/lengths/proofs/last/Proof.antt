@@ -1,4 +1,4 @@
--- By what the look gives, and at 31 by the one at 32. Assumes nothing.
+-- `lengths::last` meets its contract: by what the look gives, and at 31 by the one at 32. Assumes nothing.
 use mathlib.Core.Path.{sym, ap, _∙_}
 use Rattle.lengths.specs.Answer.{lookOf}
 use Rattle.lengths.proofs.Searching.{looks, end-miss, end-hit, end-longer, any-outside}

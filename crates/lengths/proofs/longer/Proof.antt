@@ -1,4 +1,4 @@
--- By what the look at 32 gives. Assumes nothing.
+-- `lengths::longer` meets its contract: by what the look at 32 gives. Assumes nothing.
 use mathlib.Core.Path.{sym, ap, _∙_}
 use Rattle.lengths.specs.Answer.{lookOf}
 use Rattle.lengths.specs.Way.{Look, hit, after}

@@ -1,4 +1,5 @@
--- The table lies inside the words, or the walk meets a number outside its range. Assumes nothing.
+-- `lengths::look_in` meets its contract: the table lies inside the words, or the walk meets a number outside its range. Assumes
+-- nothing.
 use mathlib.Core.Path.{_∙_}
 use Rattle.lengths.proofs.Probing.{look-past, look-long, look-there}
 use borrow.Author.Needs.{needs}

@@ -1,4 +1,4 @@
--- Each return is one law of the walk. Assumes nothing.
+-- `lengths::lookup` meets its contract: each return is one law of the walk. Assumes nothing.
 use mathlib.Core.Path.{_≡_, ap, _∙_}
 use Rattle.routes.specs.Answers.{refused}
 use Rattle.lengths.specs.Layout.{answered, walk}

@@ -1,4 +1,4 @@
--- The place is before the end, or goes round it. Assumes nothing.
+-- `lengths::place` meets its contract: the place is before the end, or goes round it. Assumes nothing.
 use Rattle.lengths.proofs.Probing.{place-on, place-round}
 use borrow.Author.Needs.{needs}
 use native.Mathlib.Omega.{arith}

@@ -1,4 +1,4 @@
--- The loop keeps that what is left of the probe is the whole of it. Assumes nothing.
+-- `lengths::probe` meets its contract. The loop keeps that what is left of the probe is the whole of it. Assumes nothing.
 use mathlib.Core.Path.{_≡_, ap, _∙_}
 use Prim.Native.Nat.{ℕ, _-_, _≤_}
 use Rattle.lengths.specs.Layout.{placesOf, place, probe, find}

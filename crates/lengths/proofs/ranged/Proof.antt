@@ -1,4 +1,4 @@
--- Outside its range, or an entry's best match. Assumes nothing.
+-- `lengths::ranged` meets its contract: a best match is outside its range, or an entry's. Assumes nothing.
 use Rattle.lengths.proofs.Probing.{ranged-out, ranged-in}
 use borrow.Author.Needs.{needs}
 use Rattle.lengths.proofs.ranged.Statement.{statement}

@@ -1,4 +1,4 @@
--- The loop keeps that what is left of the search is the whole of it. Assumes nothing.
+-- `lengths::search_from` meets its contract. The loop keeps that what is left of the search is the whole of it. Assumes nothing.
 use mathlib.Core.Path.{_≡_, refl, sym, ap, _∙_}
 use Rattle.numbers.specs.Powers.{half}
 use Rattle.lengths.specs.Answer.{lookOf}

@@ -1,4 +1,4 @@
--- A rest is below its divisor. Assumes nothing.
+-- `lengths::start` meets its contract: a rest is below its divisor. Assumes nothing.
 use mathlib.Core.Path.{refl}
 use native.Mathlib.Nat.{mod-lt}
 use Rattle.lengths.specs.Layout.{start}

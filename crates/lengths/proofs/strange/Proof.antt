@@ -1,4 +1,4 @@
--- Each return is one law of the test. Assumes nothing.
+-- `lengths::strange` meets its contract: each return is one law of the test. Assumes nothing.
 use Rattle.lengths.proofs.Probing.{best-none, best-small, best-large, best-length}
 use Rattle.lengths.proofs.strange.Statement.{statement}
 use Rattle.lengths.proofs.strange.Tie as tie

@@ -1,4 +1,4 @@
--- Two words fit 64 bits, since each is below 2 ^ 32. Assumes nothing.
+-- `lengths::wide` meets its contract: two words fit 64 bits, since each is below 2 ^ 32. Assumes nothing.
 use Prim.Native.Nat.{_+_}
 use borrow.Author.Needs.{needs}
 use native.Mathlib.Omega.{arith}

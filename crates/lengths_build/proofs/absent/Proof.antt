@@ -1,4 +1,4 @@
--- By what the probe gives. Assumes nothing.
+-- `lengths_build::absent` meets its contract: by what the probe gives. Assumes nothing.
 use mathlib.Core.Path.{sym, ap, _∙_}
 use Rattle.lengths.specs.Answer.{lookOf}
 use Rattle.lengths_build.specs.Filling.{isMiss}

@@ -1,5 +1,6 @@
--- A route of that length has its own, and a marker what the shorter tables say. Assumes nothing.
-use Rattle.lengths_build.proofs.Laws.{of-route, of-marker}
+-- `lengths_build::best_of` meets its contract: a route of that length has its own, and a marker what the shorter tables say.
+-- Assumes nothing.
+use Rattle.lengths_build.proofs.Entry.{of-route, of-marker}
 use native.Mathlib.Omega.{arith}
 use Rattle.lengths_build.proofs.best_of.Statement.{statement}
 use Rattle.lengths_build.proofs.best_of.Tie as tie

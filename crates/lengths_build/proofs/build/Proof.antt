@@ -1,4 +1,4 @@
--- Each return is one law of the answer. Assumes nothing.
+-- `lengths_build::build` meets its contract: each return is one law of the call. Assumes nothing.
 use mathlib.Core.Path.{sym, ap, _∙_}
 use lib.ListN.{length-set}
 use Rattle.lengths_build.specs.Answer.{needAnswer}
@@ -29,8 +29,8 @@ returns-2 c =
     let a = c .before .before .before .before .before .before .before .args in
     let need = c .before .before .before .before .need in
     let n = c .before .before .n in
-    build-short (a .bytes .now) (a .words .now) (n .given .0 .0) (given (a .bytes .now) (n .given .0 .0) (sym (ap needAnswer (n .given .1)) ∙ need .ensures))
-    (c .if1 .taken)
+    let g = given (a .bytes .now) (n .given .0 .0) (sym (ap needAnswer (n .given .1)) ∙ need .ensures) in
+    build-short (a .bytes .now) (a .words .now) (n .given .0 .0) g (c .if1 .taken)
 
 default-of-requires : tie.Need-default-of-requires
 default-of-requires c κs =
@@ -38,19 +38,19 @@ default-of-requires c κs =
     let shared-slice-known = c .before .before .before .before .before .before .shared-slice-known in
     let need = c .before .before .before .before .need in
     let n = c .before .before .n in
-    build-list (a .bytes .now) (a .words .now) (n .given .0 .0) (given (a .bytes .now) (n .given .0 .0) (sym (ap needAnswer (n .given .1)) ∙ need .ensures))
-    (λ i. omega (arith, shared-slice-known .given i))
+    let g = given (a .bytes .now) (n .given .0 .0) (sym (ap needAnswer (n .given .1)) ∙ need .ensures) in
+    build-list (a .bytes .now) (a .words .now) (n .given .0 .0) g (λ i. omega (arith, shared-slice-known .given i))
 
 slice-write-words : tie.Need-slice-write-words
 slice-write-words c =
     let a = c .before .before .before .before .before .before .before .before .args in
     let need = c .before .before .before .before .before .need in
     let n = c .before .before .before .n in
+    let g = given (a .bytes .now) (n .given .0 .0) (sym (ap needAnswer (n .given .1)) ∙ need .ensures) in
     omega (
       arith,
       c .before .if1 .left,
-      build-sub (a .bytes .now) (a .words .now) (n .given .0 .0)
-          (given (a .bytes .now) (n .given .0 .0) (sym (ap needAnswer (n .given .1)) ∙ need .ensures)) .0,
+      build-sub (a .bytes .now) (a .words .now) (n .given .0 .0) g .0,
     )
 
 tables-requires : tie.Need-tables-requires
@@ -59,8 +59,9 @@ tables-requires c κs =
     let shared-slice-known = c .before .before .before .before .before .before .before .before .shared-slice-known in
     let need = c .before .before .before .before .before .before .need in
     let n = c .before .before .before .before .n in
+    let g = given (a .bytes .now) (n .given .0 .0) (sym (ap needAnswer (n .given .1)) ∙ need .ensures) in
     let if1 = c .before .before .if1 in
-    build-starts (a .bytes .now) (a .words .now) (n .given .0 .0) (given (a .bytes .now) (n .given .0 .0) (sym (ap needAnswer (n .given .1)) ∙ need .ensures))
+    build-starts (a .bytes .now) (a .words .now) (n .given .0 .0) g
     (λ i. omega (arith, shared-slice-known .given i)) (c .before .default-of .result) (if1 .left) (c .before .default-of .ensures)
 
 sub-t6 : tie.Need-sub-t6
@@ -68,14 +69,16 @@ sub-t6 c =
     let a = c .before .before .before .before .before .before .before .before .before .before .before .before .args in
     let need = c .before .before .before .before .before .before .before .before .before .need in
     let n = c .before .before .before .before .before .before .before .n in
-    build-sub (a .bytes .now) (a .words .now) (n .given .0 .0) (given (a .bytes .now) (n .given .0 .0) (sym (ap needAnswer (n .given .1)) ∙ need .ensures)) .0
+    let g = given (a .bytes .now) (n .given .0 .0) (sym (ap needAnswer (n .given .1)) ∙ need .ensures) in
+    build-sub (a .bytes .now) (a .words .now) (n .given .0 .0) g .0
 
 sub-t14 : tie.Need-sub-t14
 sub-t14 c =
     let a = c .before .before .before .before .before .before .before .before .before .before .before .before .args in
     let need = c .before .before .before .before .before .before .before .before .before .need in
     let n = c .before .before .before .before .before .before .before .n in
-    build-sub (a .bytes .now) (a .words .now) (n .given .0 .0) (given (a .bytes .now) (n .given .0 .0) (sym (ap needAnswer (n .given .1)) ∙ need .ensures)) .1
+    let g = given (a .bytes .now) (n .given .0 .0) (sym (ap needAnswer (n .given .1)) ∙ need .ensures) in
+    build-sub (a .bytes .now) (a .words .now) (n .given .0 .0) g .1
 
 same-length : tie.Need-same-length
 same-length c = c .before .before .tables .ensures .long ∙ simp length-set
@@ -85,10 +88,11 @@ returns-3 c =
     let a = c .before .before .before .before .before .before .before .before .before .before .before .before .args in
     let need = c .before .before .before .before .before .before .before .before .before .need in
     let n = c .before .before .before .before .before .before .before .n in
+    let g = given (a .bytes .now) (n .given .0 .0) (sym (ap needAnswer (n .given .1)) ∙ need .ensures) in
     let if1 = c .before .before .before .before .before .if1 in
     let default-of = c .before .before .before .before .default-of in
     let tables = c .before .before .tables in
-    build-built (a .bytes .now) (a .words .now) (n .given .0 .0) (given (a .bytes .now) (n .given .0 .0) (sym (ap needAnswer (n .given .1)) ∙ need .ensures))
+    build-built (a .bytes .now) (a .words .now) (n .given .0 .0) g
     (default-of .result) (tables .last .1 .0) (if1 .left) (tables .ensures)
 
 pub build-spec : {M : Type 1} → statement M

@@ -1,4 +1,5 @@
--- The loop keeps that the words so far are 0 and all others as they were. Assumes nothing.
+-- `lengths_build::clear` meets its contract. The loop keeps that the words so far are 0 and all others as they were. Assumes
+-- nothing.
 use Prim.Native.Nat.{_-_, _≤_}
 use Rattle.lengths_build.specs.Build.{Cleared}
 use Rattle.lengths_build.proofs.Making.{cleared-none, cleared-more, cleared-all}

@@ -1,4 +1,4 @@
--- The default route is the first of a sorted list. Assumes nothing.
+-- `lengths_build::default_of` meets its contract: the default route is the first of a sorted list. Assumes nothing.
 use Rattle.lengths_build.proofs.Whole.{default-empty, default-none, default-held}
 use native.Mathlib.Omega.{arith}
 use Rattle.lengths_build.proofs.default_of.Statement.{statement}

@@ -1,5 +1,5 @@
--- There already, or put with its best match. Assumes nothing.
-use Rattle.lengths_build.proofs.Laws.{head-word, enter-again, enter-bests, enter-room, enter-put}
+-- `lengths_build::enter` meets its contract: the head is there already, or is put with its best match. Assumes nothing.
+use Rattle.lengths_build.proofs.Entry.{head-word, enter-again, enter-bests, enter-room, enter-put}
 use borrow.Author.Needs.{needs}
 use native.Mathlib.Omega.{arith}
 use Rattle.lengths_build.proofs.enter.Statement.{statement}

@@ -1,4 +1,5 @@
--- Four words of the header, which no other table uses. Assumes nothing.
+-- `lengths_build::enter_header` meets its contract: it writes four words of the header, which no other table uses. Assumes
+-- nothing.
 use lib.ListN.{length-set}
 use Rattle.lengths_build.proofs.Making.{headed}
 use borrow.Author.Needs.{needs}

@@ -1,4 +1,4 @@
--- The loop keeps what the records from i on have entered. Assumes nothing.
+-- `lengths_build::fill` meets its contract. The loop keeps what the records from i on have entered. Assumes nothing.
 use mathlib.Core.Path.{sym, ap, _∙_}
 use Prim.Native.Nat.{_-_, _/_}
 use lib.ListN.{length}
@@ -31,7 +31,8 @@ is-chosen-requires : tie.Need-is-chosen-requires Inv-loop μ-loop
 is-chosen-requires c κs =
     let a = c .before .before .before .before .before .args in
     let l = c .before .before .loop in
-    fill-asks (a .marks) (a .bytes .now) (a .m) (a .o) (a .p) (l .words) (l .i) (l .i - 1) (c .bits .result) (omega arith) (l .inv .filling) (c .bits .ensures .0)
+    fill-asks (a .marks) (a .bytes .now) (a .m) (a .o) (a .p) (l .words) (l .i) (l .i - 1) (c .bits .result) (omega arith) (l .inv .filling)
+    (c .bits .ensures .0)
 
 enter-requires : tie.Need-enter-requires Inv-loop μ-loop
 enter-requires c κs =

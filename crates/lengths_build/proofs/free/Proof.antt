@@ -1,8 +1,9 @@
--- The loop keeps that the places passed are taken. Not all are, so it ends inside. Assumes nothing.
+-- `lengths_build::free` meets its contract. The loop keeps that the places passed are taken. Not all are, so it ends inside.
+-- Assumes nothing.
 use mathlib.Core.Path.{ap, _∙_}
 use Prim.Native.Nat.{ℕ, _-_, _≤_}
 use Rattle.lengths.specs.Layout.{placesOf, place}
-use Rattle.lengths_build.proofs.Laws.{Passed, passed-none, passed-more, free-here, free-none}
+use Rattle.lengths_build.proofs.Entry.{Passed, passed-none, passed-more, free-here, free-none}
 use native.Mathlib.Omega.{arith}
 use Rattle.lengths_build.proofs.free.Statement.{statement}
 use Rattle.lengths_build.proofs.free.Tie as tie

@@ -1,7 +1,7 @@
--- Three words of the first free place. Assumes nothing.
+-- `lengths_build::put` meets its contract: it writes three words at the first free place. Assumes nothing.
 use Rattle.lengths_build.specs.Filling.{putAt}
 use lib.ListN.{length-set}
-use Rattle.lengths_build.proofs.Laws.{put-law}
+use Rattle.lengths_build.proofs.Entry.{put-law}
 use borrow.Author.Needs.{needs}
 use native.Mathlib.Omega.{arith}
 use Rattle.lengths_build.proofs.put.Statement.{statement}

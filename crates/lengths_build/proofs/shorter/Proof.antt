@@ -1,9 +1,9 @@
--- The loop keeps that what is left says what the whole says. Assumes nothing.
+-- `lengths_build::shorter` meets its contract. The loop keeps that what is left says what the whole says. Assumes nothing.
 use mathlib.Core.Path.{_≡_, refl, sym, ap, _∙_}
 use Prim.Native.Nat.{_-_, _<_}
 use Rattle.lengths.specs.Answer.{lookOf}
 use Rattle.lengths_build.specs.Filling.{below}
-use Rattle.lengths_build.proofs.Laws.{below-hit, below-miss, below-outside, below-end}
+use Rattle.lengths_build.proofs.Entry.{below-hit, below-miss, below-outside, below-end}
 use borrow.Author.Needs.{needs}
 use native.Mathlib.Omega.{arith}
 use Rattle.lengths_build.proofs.shorter.Statement.{statement}

@@ -1,4 +1,4 @@
--- The header, the clearing and the two passes make the table. Assumes nothing.
+-- `lengths_build::table` meets its contract: the header, the clearing and the two passes make the table. Assumes nothing.
 use Rattle.lengths_build.proofs.Making.{make-first, make-second, make-made}
 use borrow.Author.Needs.{needs}
 use native.Mathlib.Omega.{arith}

@@ -1,4 +1,5 @@
--- The loop keeps that the tables of the lengths below m stand, and end where the next begins. Assumes nothing.
+-- `lengths_build::tables` meets its contract. The loop keeps that the tables of the lengths below m stand, and end where the next
+-- begins. Assumes nothing.
 use Prim.Native.Nat.{_-_}
 use Rattle.lengths_build.proofs.Whole.{Going, going-start, going-fits, going-makes, going-more, going-end}
 use native.Mathlib.Omega.{arith}

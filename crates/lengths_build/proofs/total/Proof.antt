@@ -1,15 +1,17 @@
--- `lengths_build::total` meets its contract. The loop keeps the entries of the lengths so far, and the default route. Assumes nothing.
+-- `lengths_build::total` meets its contract. The loop keeps the entries of the lengths so far, and the default route. Assumes
+-- nothing.
 use mathlib.Core.Path.{_≡_}
 use Prim.Native.Nat.{_+_, _*_, _-_, _≤_}
 use Rattle.lengths.specs.Entries.{entriesTo, tally}
 use Rattle.listing.specs.Listed.{listOf}
+use Rattle.listing.specs.Records.{keyBound}
 use Rattle.lengths_build.proofs.Words.{total-none, total-more, total-all}
 use native.Mathlib.Omega.{arith}
 use Rattle.lengths_build.proofs.total.Statement.{statement}
 use Rattle.lengths_build.proofs.total.Tie as tie
 
 abbrev Inv-loop : tie.InvT-loop
-Inv-loop bytes sum₀ m₀ sum m = (m ≤ 32) × (sum ≡ entriesTo m (listOf bytes) + tally 0 (listOf bytes)) × (sum ≤ 1099511627776 * m + 1099511627776)
+Inv-loop bytes sum₀ m₀ sum m = (m ≤ 32) × (sum ≡ entriesTo m (listOf bytes) + tally 0 (listOf bytes)) × (sum ≤ keyBound * m + keyBound)
 
 abbrev μ-loop : tie.MeasureT-loop
 μ-loop bytes sum₀ m₀ sum m = 32 - m

@@ -1,4 +1,5 @@
--- `listing::count` meets its contract. The loop keeps the count over the records from i on, and the head met last. Assumes nothing.
+-- `listing::count` meets its contract. The loop keeps the count over the records from i on, and the head met last. Assumes
+-- nothing.
 use mathlib.Core.Path.{_≡_, _∙_}
 use Prim.Native.Nat.{_-_, _/_, _≤_}
 use lib.ListN.{length}
@@ -78,7 +79,8 @@ returns c =
     let a = c .before .before .before .args in
     let p = c .before .before .before .pre in
     let l = c .before .loop in
-    counts-end (between (a .from) (a .to)) (a .m) (length (a .bytes .now) / 8) (l .i) (a .bytes .now) (l .seen) (l .last) (c .loop-test .left) (p .0) (l .inv .1)
+    counts-end (between (a .from) (a .to)) (a .m) (length (a .bytes .now) / 8) (l .i) (a .bytes .now) (l .seen) (l .last) (c .loop-test .left)
+    (p .0) (l .inv .1)
 
 pub count-spec : {M : Type 1} → statement M
 count-spec =

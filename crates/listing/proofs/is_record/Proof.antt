@@ -1,4 +1,4 @@
--- Each return is one law of the tests. Assumes nothing.
+-- `listing::is_record` meets its contract: each return is one law of the tests. Assumes nothing.
 use Rattle.logic.specs.Bools.{not-true, not-false}
 use Rattle.listing.proofs.Tests.{record-kind, record-route, record-bad, record-first, record-order}
 use borrow.Author.Needs.{needs}

@@ -1,4 +1,4 @@
--- Each return is one law of the tests. Assumes nothing.
+-- `listing::is_route` meets its contract: each return is one law of the tests. Assumes nothing.
 use Rattle.listing.proofs.Tests.{route-long, route-stray, route-none, route-hop}
 use borrow.Author.Needs.{needs}
 use Rattle.listing.proofs.is_route.Statement.{statement}

@@ -1,4 +1,4 @@
--- The loop keeps that every record passed is one. Assumes nothing.
+-- `listing::whole` meets its contract. The loop keeps that every record passed is one. Assumes nothing.
 use mathlib.Core.Path.{_≡_, sym, _∙_}
 use mathlib.Core.Bool.{true}
 use Prim.Native.Nat.{_-_, _≤_}

@@ -1,4 +1,4 @@
--- What each step of the code says of the definitions. Assumes nothing.
+-- One entry of a table: the first free place on its way, the words put there, and its best match. Assumes nothing.
 use mathlib.Core.Path.{_≡_, sym, ap, _∙_}
 use mathlib.Core.Logic.{_≢_}
 use mathlib.Core.Bool.{Bool, true, false, not}
@@ -17,7 +17,7 @@ use lib.Pow.{pow-mono}
 use Rattle.lengths.specs.Layout.{Places, placesOf, start, place, look, find}
 use Rattle.lengths.specs.Hash.{start-lt, place-lt, place-met, Room, Free}
 use Rattle.lengths_build.specs.Filling.{chosen, Filling, Filled, putAt, Put, isMiss, orBelow, below}
-use Rattle.lengths_build.specs.Fill.{kept-none, built-on, filling-again, filling-room, filling-new, filling-put}
+use Rattle.lengths_build.specs.Fill.{kept-none, standing-on, filling-again, filling-room, filling-new, filling-put}
 use Rattle.lengths_build.specs.Build.{Bests}
 use Rattle.lengths_build.specs.Best.{head-fits, best-own, best-marker}
 
@@ -147,7 +147,7 @@ module _ (k : Bool) (bs ws : List ℕ) (i m o p : ℕ) (f : Filling k bs ws (i +
       few = f .few;
       most = f .most;
       long = omega (arith, f .fits, f .low);
-      built = built-on (listOf bs) ws o (length ws) m (omega (arith, f .fits)) (f .built);
+      built = standing-on (listOf bs) ws o (length ws) m (omega (arith, f .fits)) (f .built);
       value = xe;
       marker = filling-new k bs ws i m o p f c x xe b e (not-false b n);
     }
