@@ -1,5 +1,5 @@
--- The copy over the calls of the C face: a table written out, and a copy built from the bytes in as many words as they need, which
--- answers every address as the table does. Assumes nothing.
+-- The copy over the calls of the C face: a table written out, and a copy built from the bytes in as many words as they need,
+-- which answers every address as the table does. Assumes nothing.
 --
 --     words ── write_out ──▶ bytes ── copy_need ──▶ how many words to lend
 --       │                      └───── copy_build ─▶ copy, its words on the card ── copy_lookup ──▶ found
@@ -19,12 +19,13 @@ use Rattle.laws.specs.Round.{written-long}
 use Rattle.arrays.specs.Table.{seen}
 use Rattle.arrays.specs.View.{no-misfit-fits}
 use Rattle.lookup.specs.Walk.{walk}
-use Rattle.way.specs.Marks.{markers, wordsFor}
-use Rattle.way.specs.Listed.{listed, listedIn, needOn}
-use Rattle.way.specs.Written.{written-listed}
-use Rattle.copy.specs.Layout as layout
-use Rattle.copy.specs.Copy.{Copy, copy-walk, copy-front}
-use Rattle.copier.specs.Build.{Leaves}
+use Rattle.lengths.specs.Marks.{markers, wordsFor}
+use Rattle.listing.specs.Listed.{listed, listedIn}
+use Rattle.lengths_build.specs.Answer.{needOn}
+use Rattle.listing.specs.Written.{written-listed}
+use Rattle.lengths.specs.Layout as layout
+use Rattle.lengths.specs.Laid.{Laid, laid-walk, laid-front}
+use Rattle.lengths_build.specs.Build.{Leaves}
 use Rattle.toggleash.specs.Face.{Writes, counted, looked, wrote}
 use Rattle.toggleash.specs.Copies.{Builds, needed}
 use Rattle.toggleash.specs.declared.Counted.{Counted}
@@ -65,8 +66,8 @@ pub record AsTable (t : Carried) : Type 0 where
   pub needs : t .need .refusal ≡ 0
   pub builds : t .built .refusal ≡ 0
   pub routes : (c : Counted) → c ≡ counted (checkOn 32 (seen 4 (t .words))) → t .built .routes ≡ c .routes
-  pub lookups : (a : ℕ) → a < 4294967296 → (f g : Found) → f ≡ looked (lookupOn 32 (seen 4 (t .words)) (walk 4 (t .words) a) a)
-      → g ≡ looked (layout.walk (t .card) a) → g ≡ f
+  pub lookups : (a : ℕ) → a < 4294967296 → (f g : Found)
+      → f ≡ looked (lookupOn 32 (seen 4 (t .words)) (walk 4 (t .words) a) a) → g ≡ looked (layout.walk (t .card) a) → g ≡ f
 
 -- ---- what was written out is the list of a table
 
@@ -82,7 +83,8 @@ out ws b c r w z = go (seen 4 ws) refl
     number : (n : ℕ) → r ≡ wrote (refuses n) → n ≡ 0
     number n e = sym (ap (λ (x : Written). x .refusal) e) ∙ z
 
-    whole : (rs : List Route) → r ≡ wrote (gives (8 * length rs + 1)) → c ≡ written rs ++ drop (length (written rs)) b → take (r .bytes) c ≡ written rs
+    whole : (rs : List Route) → r ≡ wrote (gives (8 * length rs + 1)) → c ≡ written rs ++ drop (length (written rs)) b
+        → take (r .bytes) c ≡ written rs
     whole rs e f = rw (e, ← written-long rs, f) (take-append-seam (written rs) _)
 
     go : (s : Seen) → seen 4 ws ≡ s → Out ws (take (r .bytes) c)
@@ -91,7 +93,12 @@ out ws b c r w z = go (seen 4 ws) refl
     go (table A rs) e =
         less (length b) (8 * length rs + 1)
         (λ h d. absurd (let n : _≡_ {A = ℕ} 9 0 = number 9 (rw (e, d) at (w .answer)) in omega arith))
-        (λ h d. record { arrays = A; list = rs; table = e; bytes = whole rs (rw (e, d) at (w .answer)) (rw (e, d) at (w .front)) })
+        (λ h d. record {
+          arrays = A;
+          list = rs;
+          table = e;
+          bytes = whole rs (rw (e, d) at (w .answer)) (rw (e, d) at (w .front));
+        })
 
 -- ---- so it is built, and answers
 
@@ -106,7 +113,11 @@ module _ (t : Carried) where
   is-listed =
       let h = held (o .arrays) rs (t .words) (o .table) in
       let f = no-misfit-fits (length (t .words)) (h .size) in
-      written-listed (t .bytes) rs (record { list = h .list; room = omega (arith, h .room, h .arrays, f .high); bytes = t .front ∙ o .bytes })
+      written-listed (t .bytes) rs (record {
+        list = h .list;
+        room = omega (arith, h .room, h .arrays, f .high);
+        bytes = t .front ∙ o .bytes;
+      })
 
   is-needed : t .need ≡ record { refusal = 0; words = wordsFor rs }
   is-needed = t .needs ∙ rw is-listed
@@ -120,10 +131,10 @@ module _ (t : Carried) where
   is-built : t .built ≡ record { refusal = 0; routes = length rs; markers = markers rs }
   is-built = t .builds .answer ∙ rw (is-listed, le-ltb (length (t .lent)) (wordsFor rs) room)
 
-  is-copy : Copy rs (t .card)
-  is-copy =
+  is-laid : Laid rs (t .card)
+  is-laid =
       let l : Leaves rs (t .lent) (t .copy) = rw is-listed at (t .builds .left) in
-      copy-front rs (t .copy) (t .card) (rw (← count) (t .long)) (λ i h. t .sent i (rw count h)) (l .copy room)
+      laid-front rs (t .copy) (t .card) (rw (← count) (t .long)) (λ i h. t .sent i (rw count h)) (l .laid room)
 
   pub as-table : AsTable t
   as-table =
@@ -132,5 +143,5 @@ module _ (t : Carried) where
         needs = ap (λ (x : Needed). x .refusal) is-needed;
         builds = ap (λ (x : Built). x .refusal) is-built;
         routes = λ c p. ap (λ (x : Built). x .routes) is-built ∙ sym (ap (λ (x : Counted). x .routes) (rw (o .table) at p));
-        lookups = λ a k f g p q. q ∙ ap looked (copy-walk rs (t .card) (h .list) is-copy a k) ∙ sym (rw (o .table) at p);
+        lookups = λ a k f g p q. q ∙ ap looked (laid-walk rs (t .card) (h .list) is-laid a k) ∙ sym (rw (o .table) at p);
       }

@@ -9,11 +9,12 @@ use Rattle.routes.specs.Answers.{Update, Reply, refused}
 use Rattle.routes.specs.Seen.{Answer, refuses, answerOn, lookupOn, clearOn, checkOn, runOn}
 use Rattle.arrays.specs.Table.{seen}
 use Rattle.lookup.specs.Walk.{walk}
-use Rattle.way.specs.Marks.{wordsFor}
-use Rattle.way.specs.Listed.{listed, listedIn, needOn, buildOn}
-use Rattle.way.specs.Records.{Bytes}
-use Rattle.copy.specs.Layout as copy
-use Rattle.copier.specs.Sharp.{Alike, words-sharp}
+use Rattle.lengths.specs.Marks.{wordsFor}
+use Rattle.listing.specs.Listed.{listed, listedIn}
+use Rattle.lengths_build.specs.Answer.{needOn, buildOn}
+use Rattle.listing.specs.Records.{Bytes}
+use Rattle.lengths.specs.Layout as layout
+use Rattle.lengths_build.specs.Sharp.{Alike, words-sharp}
 use Rattle.toggleash.specs.Face.{Clears, Updates, Writes, Runs, counted, looked}
 use Rattle.toggleash.specs.Copies.{Builds, needed}
 use Rattle.toggleash.specs.declared.Counted.{Counted}
@@ -74,10 +75,12 @@ run-agrees ws bytes b vs vs′ c c′ r r′ p q = (
 
 -- ---- the copy
 
-pub copy-need-agrees : (bytes : List ℕ) (r r′ : Needed) → r ≡ needed (needOn (listedIn bytes)) → r′ ≡ needed (needOn (listedIn bytes)) → r ≡ r′
+pub copy-need-agrees : (bytes : List ℕ) (r r′ : Needed) → r ≡ needed (needOn (listedIn bytes))
+    → r′ ≡ needed (needOn (listedIn bytes)) → r ≡ r′
 copy-need-agrees bytes r r′ p q = p ∙ sym q
 
-pub copy-lookup-agrees : (ws : List ℕ) (a : ℕ) (r r′ : Found) → r ≡ looked (copy.walk ws a) → r′ ≡ looked (copy.walk ws a) → r ≡ r′
+pub copy-lookup-agrees : (ws : List ℕ) (a : ℕ) (r r′ : Found) → r ≡ looked (layout.walk ws a) → r′ ≡ looked (layout.walk ws a)
+    → r ≡ r′
 copy-lookup-agrees ws a r r′ p q = p ∙ sym q
 
 -- one answer, one content of the words where the call refused, and words that no lookup tells apart
@@ -86,7 +89,8 @@ pub record AgreeBuilt (bytes ws vs vs′ : List ℕ) (r r′ : Built) : Type 0 w
   pub words : By (buildOn (listedIn bytes) (length ws)) → vs ≡ vs′
   pub alike : (rs : List Route) → listedIn bytes ≡ listed rs → Alike (wordsFor rs) vs vs′
 
-pub copy-build-agrees : (bytes ws vs vs′ : List ℕ) (r r′ : Built) → Bytes bytes → Builds bytes ws vs r → Builds bytes ws vs′ r′ → AgreeBuilt bytes ws vs vs′ r r′
+pub copy-build-agrees : (bytes ws vs vs′ : List ℕ) (r r′ : Built) → Bytes bytes → Builds bytes ws vs r → Builds bytes ws vs′ r′
+    → AgreeBuilt bytes ws vs vs′ r r′
 copy-build-agrees bytes ws vs vs′ r r′ b p q = record {
   answer = p .answer ∙ sym (q .answer);
   words = λ d. p .kept (d .number) (d .is) ∙ sym (q .kept (d .number) (d .is));

@@ -1,2 +1,2 @@
-pub mod Laws
-pub mod Path
+pub mod Tests
+pub mod Counting

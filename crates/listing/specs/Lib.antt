@@ -1,2 +1,4 @@
-pub mod Pick
-pub mod Told
+pub mod Listed
+pub mod Heads
+pub mod Records
+pub mod Written

@@ -1,29 +1,16 @@
-// The bytes of a written-out list: whether they are one, and how many words its copy needs.
+// The bytes of a written-out list: whether they are one, what each record says, and how many different heads its routes have.
+use sizes::MOST_ARRAYS;
 ghost use mathlib.Core.Path.{_≡_};
 ghost use Prim.Native.Nat.{_+_, _*_, _-_, _/_, _%_, _^_, _<_, _≤_};
 ghost use lib.ListN.{length};
 ghost use Rattle.routes.specs.Route.{key, route, IsList};
-ghost use Rattle.routes.specs.Room.{distinct, need as arraysNeeded};
-ghost use Rattle.way.specs.Way.{turnsAt};
-ghost use Rattle.way.specs.Marks.{picks, markers};
-ghost use Rattle.way.specs.Listed.{routeAt, listOf, routeB, recordB, listedIn, needOn};
-ghost use Rattle.listing.specs.Pick.{picked as pickedBy, Whole, Counted};
-ghost use Rattle.listing.specs.Told.{needAnswer};
+ghost use Rattle.routes.specs.Room.{distinct, need};
+ghost use Rattle.listing.specs.Listed.{routeAt, listOf, routeB, recordB};
+ghost use Rattle.listing.specs.Heads.{picks, between, Counted};
+ghost use Rattle.listing.specs.Records.{Whole, Reads, keyBound};
 
-// The words that a copy needs, or the number by which the bytes are refused.
-pub enum Needs {
-    Words(usize),
-    Refused(u32),
-}
-
-// Which routes have their heads counted: those longer than the head, those of its length, those whose way turns longer at it, and
-// the last two together.
-pub enum Pick {
-    Longer,
-    Own,
-    Turning,
-    Entry,
-}
+// Above every head: before the first there is none.
+const NO_HEAD: u64 = 4294967296;
 
 // ---- numbers of a record
 
@@ -120,46 +107,14 @@ fn whole(bytes: &[u8]) -> bool
 
 // ---- counting heads
 
-// Whether the way to l turns longer at m: the way itself, down from 16.
-fn turns(m: u32, l: u32) -> bool
-    ensures { λ r. ⌜ r ≡ turnsAt m l ⌝ }
+// A length from one to another, both counted.
+pub fn is_between(from: u32, to: u32, l: u32) -> bool
+    ensures { λ r. ⌜ r ≡ between from to l ⌝ }
 {
-    let mut n: u32 = 4;
-    let mut at: u32 = 16;
-    while n > 0 {
-        if at == l {
-            return false;
-        }
-        n -= 1;
-        if l < at {
-            at -= numbers::power(n);
-        } else {
-            if at == m {
-                return true;
-            }
-            at += numbers::power(n);
-        }
-    }
-    if at >= l {
+    if l < from {
         return false;
     }
-    at == m
-}
-
-pub fn picked(pick: Pick, m: u32, l: u32) -> bool
-    ensures { λ r. ⌜ r ≡ pickedBy pick m l ⌝ }
-{
-    match pick {
-        Pick::Longer => m < l,
-        Pick::Own => l == m,
-        Pick::Turning => turns(m, l),
-        Pick::Entry => {
-            if l == m {
-                return true;
-            }
-            turns(m, l)
-        }
-    }
+    l <= to
 }
 
 // One more, unless the number is the one before.
@@ -173,17 +128,18 @@ fn counted(seen: usize, v: u64, last: u64) -> usize
     seen + 1
 }
 
-// How many different heads of m bits the picked routes have. Heads rise with the records, so equal ones are neighbours.
-pub fn count(bytes: &[u8], pick: Pick, m: u32) -> usize
+// How many different heads of m bits the routes of the lengths from .. to have. Heads rise with the records, so equal ones are
+// neighbours.
+pub fn count(bytes: &[u8], from: u32, to: u32, m: u32) -> usize
     requires { ⌜ IsList 32 (listOf (now bytes)) × (m ≤ 32) ⌝ }
-    ensures { λ r. ⌜ (r ≡ distinct (picks (pickedBy pick m) m (listOf (now (bytes .entry))))) × (r ≤ 1099511627776) ⌝ }
+    ensures { λ r. ⌜ (r ≡ distinct (picks (between from to) m (listOf (now (bytes .entry))))) × (r ≤ keyBound) ⌝ }
 {
     let mut i = bytes.len() / 8;
     let mut seen: usize = 0;
-    let mut last: u64 = 4294967296;
+    let mut last = NO_HEAD;
     while i > 0 {
         i -= 1;
-        if picked(pick, m, bits(bytes, i)) {
+        if is_between(from, to, bits(bytes, i)) {
             let v = head(bytes, i, m);
             seen = counted(seen, v, last);
             last = v;
@@ -195,37 +151,19 @@ pub fn count(bytes: &[u8], pick: Pick, m: u32) -> usize
 // The arrays that a table needs for the list.
 fn arrays(bytes: &[u8]) -> usize
     requires { ⌜ IsList 32 (listOf (now bytes)) ⌝ }
-    ensures { λ r. ⌜ r ≡ arraysNeeded 32 (listOf (now (bytes .entry))) ⌝ }
+    ensures { λ r. ⌜ r ≡ need 32 (listOf (now (bytes .entry))) ⌝ }
 {
-    1
-        + count(bytes, Pick::Longer, 8)
-        + count(bytes, Pick::Longer, 16)
-        + count(bytes, Pick::Longer, 24)
+    1 + count(bytes, 9, 32, 8) + count(bytes, 17, 32, 16) + count(bytes, 25, 32, 24)
 }
 
-// The entries of all lengths, and the default route: as many as there are routes and markers.
-fn total(bytes: &[u8]) -> usize
-    requires { ⌜ IsList 32 (listOf (now bytes)) ⌝ }
-    ensures { λ r. ⌜ (r ≡ length (listOf (now (bytes .entry))) + markers (listOf (now (bytes .entry)))) × (r ≤ 36283883716608) ⌝ }
-{
-    let mut sum = count(bytes, Pick::Own, 0);
-    let mut m: u32 = 0;
-    while m < 32 {
-        m += 1;
-        sum += count(bytes, Pick::Entry, m);
-    }
-    sum
-}
+// ---- the list
 
-// The words that a copy of the bytes needs.
-pub fn need(bytes: &[u8]) -> Needs
-    ensures { λ r. ⌜ needAnswer r ≡ needOn (listedIn (now (bytes .entry))) ⌝ }
+// Whether the bytes are a list that some table writes out: no table has more than the most arrays.
+pub fn is_listed(bytes: &[u8]) -> bool
+    ensures { λ r. ⌜ Reads (now (bytes .entry)) r ⌝ }
 {
     if !whole(bytes) {
-        return Needs::Refused(2);
+        return false;
     }
-    if arrays(bytes) > 4096 {
-        return Needs::Refused(2);
-    }
-    Needs::Words(8 * total(bytes) + 1024)
+    arrays(bytes) <= MOST_ARRAYS
 }

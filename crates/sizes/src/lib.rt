@@ -2,9 +2,11 @@
 
 // The words of an array, and of the header before the first.
 pub const ARRAY_WORDS: usize = 1024;
+// The arrays of a table at most.
+pub const MOST_ARRAYS: usize = 4096;
 // The words of a table of one array.
 pub const LEAST_WORDS: usize = 2048;
-// The words of a table of the most arrays, 4,096.
+// The words of a table of the most arrays.
 pub const MOST_WORDS: usize = 4195328;
 
 // The last slot of an array: the slots are its words from 1 to this one.

@@ -19,11 +19,11 @@ use Rattle.writing.specs.Told.{toldCount, Fills, front-length, front-none}
 use Rattle.feed.specs.declared.Ran.{Ran as Outcome}
 use Rattle.feed.specs.declared.Ran.the-variants.{Stopped, Refused as Unfit}
 use Rattle.feed.specs.Runs.{runAnswer, reported, Runs as Run}
-use Rattle.way.specs.Marks.{wordsFor}
-use Rattle.way.specs.Listed.{Listed, unlisted, listed, listedIn, buildOn}
-use Rattle.copier.specs.declared.Built.{Built}
-use Rattle.copier.specs.Told.{buildAnswer}
-use Rattle.copier.specs.Build.{LeavesOn}
+use Rattle.lengths.specs.Marks.{wordsFor}
+use Rattle.listing.specs.Listed.{Listed, unlisted, listed, listedIn}
+use Rattle.lengths_build.specs.Answer.{buildOn, buildAnswer}
+use Rattle.lengths_build.specs.declared.Built.{Built}
+use Rattle.lengths_build.specs.Build.{LeavesOn}
 use Rattle.toggleash.specs.Face.{refusal, updated, wrote, ran, Clears, Updates, Writes, Runs}
 use Rattle.toggleash.specs.Copies.{built, Builds}
 use Rattle.toggleash.specs.declared.Updated.{Updated}
@@ -93,4 +93,5 @@ build-kept (listed rs) ws vs n p e =
 
 pub built-so : (bytes ws vs : List ℕ) (r : Built) (x : Numbers) → buildAnswer r ≡ buildOn (listedIn bytes) (length ws)
     → LeavesOn (listedIn bytes) ws vs → x ≡ built (buildAnswer r) → Builds bytes ws vs x
-built-so bytes ws vs r x a p e = record { answer = e ∙ ap built a; left = p; kept = λ n q. build-kept (listedIn bytes) ws vs n p q }
+built-so bytes ws vs r x a p e =
+    record { answer = e ∙ ap built a; left = p; kept = λ n q. build-kept (listedIn bytes) ws vs n p q }

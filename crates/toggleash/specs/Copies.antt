@@ -4,8 +4,9 @@ use mathlib.Core.List.{List}
 use Prim.Native.Nat.{ℕ}
 use lib.ListN.{length}
 use Rattle.routes.specs.Seen.{Answer, gives, refuses}
-use Rattle.way.specs.Listed.{Counts, listedIn, buildOn}
-use Rattle.copier.specs.Build.{LeavesOn}
+use Rattle.lengths_build.specs.Answer.{Counts, buildOn}
+use Rattle.listing.specs.Listed.{listedIn}
+use Rattle.lengths_build.specs.Build.{LeavesOn}
 use Rattle.toggleash.specs.declared.copies.Needed.{Needed}
 use Rattle.toggleash.specs.declared.copies.Built.{Built}
 

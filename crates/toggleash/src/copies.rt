@@ -6,12 +6,11 @@ ghost use mathlib.Core.List.{List};
 ghost use Rattle.routes.specs.Route.{Route, IsList};
 ghost use Rattle.routes.specs.Match.{longest};
 ghost use Rattle.routes.specs.Answers.{matched};
-ghost use Rattle.way.specs.Listed.{listedIn, needOn};
+ghost use Rattle.listing.specs.Listed.{listedIn};
+ghost use Rattle.lengths_build.specs.Answer.{needOn, needAnswer, buildAnswer};
 ghost use Rattle.replies.specs.Said.{saidMatch};
-ghost use Rattle.listing.specs.Told.{needAnswer};
-ghost use Rattle.copy.specs.Layout.{walk};
-ghost use Rattle.copy.specs.Copy.{Copy};
-ghost use Rattle.copier.specs.Told.{buildAnswer};
+ghost use Rattle.lengths.specs.Layout.{walk};
+ghost use Rattle.lengths.specs.Laid.{Laid};
 ghost use Rattle.toggleash.specs.Face.{looked};
 ghost use Rattle.toggleash.specs.Copies.{needed, built, Builds};
 
@@ -30,31 +29,31 @@ pub struct Built {
 
 // ---- answers in plain numbers
 
-fn size(answer: listing::Needs) -> Needed
+fn size(answer: lengths_build::Needs) -> Needed
     ensures { λ r. ⌜ r ≡ needed (needAnswer answer) ⌝ }
 {
     match answer {
-        listing::Needs::Words(n) => Needed {
+        lengths_build::Needs::Words(n) => Needed {
             refusal: 0,
             words: n as u64,
         },
-        listing::Needs::Refused(n) => Needed {
+        lengths_build::Needs::Refused(n) => Needed {
             refusal: n,
             words: 0,
         },
     }
 }
 
-fn counts(answer: copier::Built) -> Built
+fn counts(answer: lengths_build::Built) -> Built
     ensures { λ r. ⌜ r ≡ built (buildAnswer answer) ⌝ }
 {
     match answer {
-        copier::Built::Counts(routes, markers) => Built {
+        lengths_build::Built::Counts(routes, markers) => Built {
             refusal: 0,
             routes: routes as u64,
             markers: markers as u64,
         },
-        copier::Built::Refused(n) => Built {
+        lengths_build::Built::Refused(n) => Built {
             refusal: n,
             routes: 0,
             markers: 0,
@@ -93,20 +92,21 @@ fn finding(answer: Match) -> Found
 pub extern "C" fn toggleash_copy_need(bytes: &[u8]) -> Needed
     ensures { λ r. ⌜ r ≡ needed (needOn (listedIn (now (bytes .entry)))) ⌝ }
 {
-    size(listing::need(bytes))
+    size(lengths_build::need(bytes))
 }
 
 #[no_mangle]
 pub extern "C" fn toggleash_copy_build(bytes: &[u8], words: &mut [u32]) -> Built
     ensures { λ r. ⌜ Builds (now (bytes .entry)) (now (words .entry)) (now (words .exit)) r ⌝ }
 {
-    counts(copier::build(bytes, words))
+    counts(lengths_build::build(bytes, words))
 }
 
 #[no_mangle]
 pub extern "C" fn toggleash_copy_lookup(words: &[u32], address: u32) -> Found
     ensures { λ r. ⌜ r ≡ looked (walk (now (words .entry)) address) ⌝ }
-    ensures of_a_copy { λ r. ⌜ ((rs : List Route) → IsList 32 rs → Copy rs (now (words .entry)) → r ≡ looked (matched (longest 32 address rs))) ⌝ }
+    ensures of_a_list { λ r. ⌜ ((rs : List Route) → IsList 32 rs → Laid rs (now (words .entry))
+        → r ≡ looked (matched (longest 32 address rs))) ⌝ }
 {
-    finding(copy::lookup(words, address))
+    finding(lengths::lookup(words, address))
 }

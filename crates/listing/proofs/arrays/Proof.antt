@@ -1,6 +1,6 @@
--- The need of a list, by its heads of 8, 16 and 24 bits. Assumes nothing.
-use Rattle.way.specs.Listed.{listOf}
-use Rattle.listing.proofs.Laws.{arrays-need}
+-- `listing::arrays` meets its contract: the need of a list, by its heads of 8, 16 and 24 bits. Assumes nothing.
+use Rattle.listing.specs.Listed.{listOf}
+use Rattle.listing.proofs.Counting.{arrays-need}
 use borrow.Author.Needs.{needs}
 use Rattle.listing.proofs.arrays.Statement.{statement}
 use Rattle.listing.proofs.arrays.Tie as tie
@@ -25,10 +25,11 @@ add-result-3 c = search needs
 
 returns : tie.Need-returns
 returns c =
-    let a = c .before .before .before .before .args in
+    let s = c .before .before .before .before in
     let count = c .before .before .count in
-    arrays-need (listOf (a .bytes .now)) (count .result) (c .before .count2 .result) (c .count3 .result) (count .ensures .0) (c .before .count2 .ensures .0)
-    (c .count3 .ensures .0)
+    let count2 = c .before .count2 in
+    arrays-need (listOf (s .args .bytes .now)) (count .result) (count2 .result) (c .count3 .result) (s .pre)
+    (count .ensures .0) (count2 .ensures .0) (c .count3 .ensures .0)
 
 pub arrays-spec : {M : Type 1} → statement M
 arrays-spec =

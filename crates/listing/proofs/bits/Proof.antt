@@ -1,4 +1,4 @@
--- A byte is below 256. Assumes nothing.
+-- `listing::bits` meets its contract: a byte is below 256. Assumes nothing.
 use mathlib.Core.Path.{refl}
 use Prim.Native.Nat.{_+_, _*_}
 use borrow.Author.Needs.{needs}

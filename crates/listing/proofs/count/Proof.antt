@@ -1,25 +1,26 @@
--- The loop keeps the count over the records from i on, and the head met last. Assumes nothing.
+-- `listing::count` meets its contract. The loop keeps the count over the records from i on, and the head met last. Assumes
+-- nothing.
 use mathlib.Core.Path.{_≡_, _∙_}
 use Prim.Native.Nat.{_-_, _/_, _≤_}
 use lib.ListN.{length}
-use Rattle.way.specs.Listed.{routesFrom, routeAt}
-use Rattle.listing.specs.Pick.{picked}
-use Rattle.listing.proofs.Laws.{Counts, counts-none, counts-past, counts-more, counts-low, counts-end}
+use Rattle.listing.specs.Listed.{routesFrom, routeAt}
+use Rattle.listing.specs.Heads.{between}
+use Rattle.listing.proofs.Counting.{Counts, counts-none, counts-past, counts-more, counts-low, counts-end}
 use borrow.Author.Needs.{needs}
 use native.Mathlib.Omega.{arith}
 use Rattle.listing.proofs.count.Statement.{statement}
 use Rattle.listing.proofs.count.Tie as tie
 
 abbrev Inv-loop : tie.InvT-loop
-Inv-loop bytes pick m i₀ seen₀ last₀ i seen last = (i ≤ length bytes / 8) × Counts (picked pick m) m (routesFrom bytes (length bytes / 8 - i) i) seen last
+Inv-loop bytes from to m i₀ seen₀ last₀ i seen last = (i ≤ length bytes / 8) × Counts (between from to) m (routesFrom bytes (length bytes / 8 - i) i) seen last
 
 abbrev μ-loop : tie.MeasureT-loop
-μ-loop bytes pick m i₀ seen₀ last₀ i seen last = i
+μ-loop bytes from to m i₀ seen₀ last₀ i seen last = i
 
 loop-holds : tie.Need-loop-holds Inv-loop μ-loop
 loop-holds c =
     let a = c .before .args in
-    (omega arith, counts-none (picked (a .pick) (a .m)) (a .m) (length (a .bytes .now) / 8) (a .bytes .now))
+    (omega arith, counts-none (between (a .from) (a .to)) (a .m) (length (a .bytes .now) / 8) (a .bytes .now))
 
 sub-i : tie.Need-sub-i Inv-loop μ-loop
 sub-i c = omega arith
@@ -27,8 +28,8 @@ sub-i c = omega arith
 bits-requires : tie.Need-bits-requires Inv-loop μ-loop
 bits-requires c κs = omega arith
 
-picked-requires : tie.Need-picked-requires Inv-loop μ-loop
-picked-requires c κs = search needs
+is-between-requires : tie.Need-is-between-requires Inv-loop μ-loop
+is-between-requires c κs = search needs
 
 head-requires : tie.Need-head-requires Inv-loop μ-loop
 head-requires c κs = (omega arith, omega arith)
@@ -37,7 +38,7 @@ counted-requires : tie.Need-counted-requires Inv-loop μ-loop
 counted-requires c κs =
     let a = c .before .before .before .before .before .before .before .args in
     let l = c .before .before .before .before .before .loop in
-    omega (arith, counts-low (picked (a .pick) (a .m)) (a .m) (length (a .bytes .now) / 8) (l .i) (a .bytes .now) (l .seen) (l .last) (l .inv .1))
+    omega (arith, counts-low (between (a .from) (a .to)) (a .m) (length (a .bytes .now) / 8) (l .i) (a .bytes .now) (l .seen) (l .last) (l .inv .1))
 
 loop-less : tie.Need-loop-less Inv-loop μ-loop
 loop-less c = omega arith
@@ -48,12 +49,12 @@ loop-again c =
     let p = c .before .before .before .before .before .before .before .before .pre in
     let l = c .before .before .before .before .before .before .loop in
     let bits = c .before .before .before .before .bits in
-    let picked-call = c .before .before .before .picked in
+    let test = c .before .before .before .is-between in
     let if1 = c .before .before .if1 in
-    let e : picked-call .result ≡ picked (a .pick) (a .m) (routeAt (a .bytes .now) (l .i - 1) .len) = picked-call .ensures ∙ rw (bits .ensures .0) in (
+    let e : test .result ≡ between (a .from) (a .to) (routeAt (a .bytes .now) (l .i - 1) .len) = test .ensures ∙ rw (bits .ensures .0) in (
       omega arith,
-      counts-more (picked (a .pick) (a .m)) (a .m) (length (a .bytes .now) / 8) (l .i) (l .i - 1) (a .bytes .now) (omega arith) (omega arith) (p .0)
-          (l .seen) (l .last) (l .inv .1) (picked-call .result) (c .before .head .result) (c .counted .result) e (if1 .taken) (c .before .head .ensures)
+      counts-more (between (a .from) (a .to)) (a .m) (length (a .bytes .now) / 8) (l .i) (l .i - 1) (a .bytes .now) (omega arith) (omega arith) (p .0)
+          (l .seen) (l .last) (l .inv .1) (test .result) (c .before .head .result) (c .counted .result) e (if1 .taken) (c .before .head .ensures)
           (c .counted .ensures),
     )
 
@@ -66,11 +67,11 @@ loop-again-2 c =
     let p = c .before .before .before .before .before .before .pre in
     let l = c .before .before .before .before .loop in
     let bits = c .before .before .bits in
-    let picked-call = c .before .picked in
-    let e : picked-call .result ≡ picked (a .pick) (a .m) (routeAt (a .bytes .now) (l .i - 1) .len) = picked-call .ensures ∙ rw (bits .ensures .0) in (
+    let test = c .before .is-between in
+    let e : test .result ≡ between (a .from) (a .to) (routeAt (a .bytes .now) (l .i - 1) .len) = test .ensures ∙ rw (bits .ensures .0) in (
       omega arith,
-      counts-past (picked (a .pick) (a .m)) (a .m) (length (a .bytes .now) / 8) (l .i) (l .i - 1) (a .bytes .now) (omega arith) (omega arith) (p .0)
-          (l .seen) (l .last) (l .inv .1) (picked-call .result) e (c .if1 .left),
+      counts-past (between (a .from) (a .to)) (a .m) (length (a .bytes .now) / 8) (l .i) (l .i - 1) (a .bytes .now) (omega arith) (omega arith) (p .0)
+          (l .seen) (l .last) (l .inv .1) (test .result) e (c .if1 .left),
     )
 
 returns : tie.Need-returns Inv-loop μ-loop
@@ -78,7 +79,8 @@ returns c =
     let a = c .before .before .before .args in
     let p = c .before .before .before .pre in
     let l = c .before .loop in
-    counts-end (picked (a .pick) (a .m)) (a .m) (length (a .bytes .now) / 8) (l .i) (a .bytes .now) (l .seen) (l .last) (c .loop-test .left) (p .0) (l .inv .1)
+    counts-end (between (a .from) (a .to)) (a .m) (length (a .bytes .now) / 8) (l .i) (a .bytes .now) (l .seen) (l .last) (c .loop-test .left)
+    (p .0) (l .inv .1)
 
 pub count-spec : {M : Type 1} → statement M
 count-spec =
@@ -89,7 +91,7 @@ count-spec =
     loop-holds
     sub-i
     bits-requires
-    picked-requires
+    is-between-requires
     head-requires
     counted-requires
     loop-less

@@ -1,4 +1,4 @@
--- A shift to the right is a quotient by a power of two. Assumes nothing.
+-- `listing::head` meets its contract: a shift to the right is a quotient by a power of two. Assumes nothing.
 use borrow.Author.Needs.{needs}
 use Rattle.listing.proofs.head.Statement.{statement}
 use Rattle.listing.proofs.head.Tie as tie

@@ -1,6 +1,6 @@
--- Each return is one law of the tests. Assumes nothing.
+-- `listing::is_record` meets its contract: each return is one law of the tests. Assumes nothing.
 use Rattle.logic.specs.Bools.{not-true, not-false}
-use Rattle.listing.proofs.Laws.{record-kind, record-route, record-bad, record-first, record-order}
+use Rattle.listing.proofs.Tests.{record-kind, record-route, record-bad, record-first, record-order}
 use borrow.Author.Needs.{needs}
 use Rattle.listing.proofs.is_record.Statement.{statement}
 use Rattle.listing.proofs.is_record.Tie as tie

@@ -1,5 +1,5 @@
--- Each return is one law of the tests. Assumes nothing.
-use Rattle.listing.proofs.Laws.{route-long, route-stray, route-none, route-hop}
+-- `listing::is_route` meets its contract: each return is one law of the tests. Assumes nothing.
+use Rattle.listing.proofs.Tests.{route-long, route-stray, route-none, route-hop}
 use borrow.Author.Needs.{needs}
 use Rattle.listing.proofs.is_route.Statement.{statement}
 use Rattle.listing.proofs.is_route.Tie as tie

@@ -1,12 +1,12 @@
--- The loop keeps that every record passed is one. Assumes nothing.
+-- `listing::whole` meets its contract. The loop keeps that every record passed is one. Assumes nothing.
 use mathlib.Core.Path.{_≡_, sym, _∙_}
 use mathlib.Core.Bool.{true}
 use Prim.Native.Nat.{_-_, _≤_}
 use Rattle.logic.specs.Every.{allB}
 use Rattle.logic.specs.Tells.{all-none, all-more}
 use Rattle.logic.specs.Bools.{not-false}
-use Rattle.way.specs.Listed.{recordB}
-use Rattle.listing.proofs.Laws.{whole-odd, whole-unended, whole-broken, whole-right}
+use Rattle.listing.specs.Listed.{recordB}
+use Rattle.listing.proofs.Tests.{whole-odd, whole-unended, whole-broken, whole-right}
 use native.Mathlib.Omega.{arith}
 use Rattle.listing.proofs.whole.Statement.{statement}
 use Rattle.listing.proofs.whole.Tie as tie

@@ -14,7 +14,9 @@ same-length : tie.Need-same-length
 same-length c = search needs
 
 returns : tie.Need-returns
-returns c = built-so _ _ _ (c .before .before .before .build .result) _ (c .before .before .before .build .ensures .0) (c .before .before .before .build .ensures .1) (c .counts .ensures)
+returns c =
+    let build = c .before .before .before .build in
+    built-so _ _ _ (build .result) _ (build .ensures .0) (build .ensures .1) (c .counts .ensures)
 
 pub toggleash-copy-build-spec : {M : Type 1} → statement M
 toggleash-copy-build-spec = tie.close (tie.spec build-requires counts-requires same-length returns)

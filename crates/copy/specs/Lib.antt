@@ -1,4 +1,0 @@
-pub mod Layout
-pub mod Hash
-pub mod Copy
-pub mod Told

@@ -1,0 +1,11 @@
+pub mod Way
+pub mod Finds
+pub mod Trail
+pub mod Layout
+pub mod Marks
+pub mod Worked
+pub mod Entries
+pub mod Held
+pub mod Hash
+pub mod Laid
+pub mod Answer

@@ -1,0 +1,4 @@
+pub mod Words
+pub mod Entry
+pub mod Making
+pub mod Whole

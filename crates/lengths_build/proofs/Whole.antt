@@ -1,0 +1,209 @@
+-- All tables made, one length after the other, and what the call leaves and answers. Assumes nothing.
+use mathlib.Core.Path.{_≡_, refl, sym, _∙_}
+use mathlib.Core.Logic.{_≢_}
+use mathlib.Core.List.{List, _∷_}
+use Prim.Native.Nat.{ℕ, zero, suc, _+_, _-_, _*_, _/_, _^_, _≤_, _<_}
+use native.Mathlib.Omega.{arith}
+use lib.ListN.{length, getD, set, length-set}
+use lib.Seq.{getD-set-same, getD-set-other}
+use borrow.Author.Tests.{lt-ltb, le-ltb}
+use Rattle.routes.specs.Route.{Route, key, From, hopAt, IsList}
+use Rattle.routes.specs.Room.{distinct}
+use Rattle.routes.specs.Seen.{gives, refuses}
+use Rattle.laws.specs.Sorted.{hop-below}
+use Rattle.routes.specs.Match.{last}
+use Rattle.lengths.specs.Marks.{entries, bestAt, wordsFor, markers}
+use Rattle.lengths.specs.Entries.{entriesTo, entries-all}
+use Rattle.listing.specs.Listed.{routeAt, routesFrom, listOf, Listed, unlisted, listed, listedIn}
+use Rattle.lengths_build.specs.Answer.{needOn, buildOn}
+use Rattle.listing.specs.Records.{Bytes, records-length}
+use Rattle.listing.specs.Written.{listed-list, listed-out}
+use Rattle.laws.specs.Longest.{wfs}
+use Rattle.lengths_build.specs.Filling.{Standing}
+use Rattle.lengths_build.specs.Fill.{standing-on}
+use Rattle.lengths_build.specs.Best.{best-own, head-fits}
+use Rattle.lengths.specs.Layout.{headerWords}
+use Rattle.lengths_build.specs.Build.{LeavesOn, Makes, Made, Starts, Ends}
+
+-- ---- the entries of the lengths up to m
+
+to-step : (m : ℕ) (rs : List Route) → 1 ≤ m → entriesTo m rs ≡ entriesTo (m - 1) rs + distinct (entries m rs)
+unfolding entriesTo
+to-step zero rs h = absurd (omega arith)
+to-step (suc m) rs h = let e : suc m - 1 ≡ m = omega arith in rw e
+
+to-le : (m d : ℕ) (rs : List Route) → entriesTo m rs ≤ entriesTo (m + d) rs
+unfolding entriesTo
+to-le m zero rs = let e : m + 0 ≡ m = omega arith in rw e (omega arith)
+to-le m (suc d) rs = let e : m + suc d ≡ suc (m + d) = omega arith in rw e (omega (arith, to-le m d rs))
+
+-- those up to m fit the words needed
+to-fits : (m : ℕ) (rs : List Route) → m ≤ 32 → IsList 32 rs → headerWords + 8 * entriesTo m rs ≤ wordsFor rs
+to-fits m rs h l =
+    let e : m + (32 - m) ≡ 32 = omega arith in
+    let a : entriesTo m rs ≤ entriesTo 32 rs = rw e at (to-le m (32 - m) rs) in
+    omega (arith, entries-all rs (l .sorted) (wfs 32 rs (l .routes)))
+
+-- ---- the loop over the lengths
+
+pub record Going (bs ws us : List ℕ) (m o : ℕ) : Type 0 where
+  pub few : 1 ≤ m
+  pub most : m ≤ 33
+  pub at : o ≡ headerWords + 8 * entriesTo (m - 1) (listOf bs)
+  pub built : Standing (listOf bs) us o m
+  pub long : length us ≡ length ws
+  pub past : (i : ℕ) → wordsFor (listOf bs) ≤ i → getD us i 0 ≡ getD ws i 0
+
+pub going-start : (bs ws : List ℕ) → Starts bs ws → Going bs ws ws 1 headerWords
+unfolding entriesTo
+going-start bs ws s = record {
+  few = omega arith;
+  most = omega arith;
+  at = refl;
+  built = record { default = s .default; tables = λ l x y. absurd (omega arith) };
+  long = refl;
+  past = λ i h. refl;
+}
+
+module _ (bs ws : List ℕ) (s : Starts bs ws) (us : List ℕ) (m o : ℕ) (g : Going bs ws us m o) where
+  module _ (h : m ≤ 32) (size : ℕ) (e : size ≡ distinct (entries m (listOf bs))) where
+    next : o + 8 * size ≡ headerWords + 8 * entriesTo m (listOf bs)
+    next = omega (arith, g .at, to-step m (listOf bs) (g .few))
+
+    pub going-fits : o + 8 * size ≤ length us
+    going-fits = omega (arith, next, to-fits m (listOf bs) h (s .list), s .room, g .long)
+
+    pub going-makes : Makes bs us m o size
+    going-makes = record {
+      list = s .list;
+      few = g .few;
+      most = h;
+      low = omega (arith, g .at);
+      fits = going-fits;
+      counts = e;
+      built = g .built;
+    }
+
+    pub going-more : (vs : List ℕ) → Made bs us vs m (o + 8 * size) → Going bs ws vs (m + 1) (o + 8 * size)
+    going-more vs t = record {
+      few = omega arith;
+      most = omega arith;
+      at = let q : m + 1 - 1 ≡ m = omega arith in rw q next;
+      built = t .built;
+      long = t .long ∙ g .long;
+      past = λ i k. t .past i (omega (arith, next, to-fits m (listOf bs) h (s .list))) (omega arith) ∙ g .past i k;
+    }
+
+  pub going-end : 32 < m → Ends bs ws us
+  going-end h =
+      let q : m - 1 ≡ 32 = omega (arith, g .most) in
+      let z : m ≡ 33 = omega (arith, g .most) in
+      let a : o ≡ headerWords + 8 * entriesTo 32 (listOf bs) = g .at ∙ rw q in
+      let b = standing-on (listOf bs) us o (wordsFor (listOf bs)) m
+      (omega (arith, a, to-fits 32 (listOf bs) (omega arith) (s .list))) (g .built) in
+      record {
+        laid = record {
+          long = omega (arith, s .room, g .long);
+          default = b .default;
+          tables = λ l x y. b .tables l x (omega arith);
+        };
+        long = g .long;
+        past = g .past;
+      }
+
+-- ---- the default route
+
+pub default-empty : (bs : List ℕ) → length bs / 8 ≡ 0 → 0 ≡ bestAt (listOf bs) 0 0
+unfolding routesFrom last
+default-empty bs e = rw e
+
+-- keys from the first on are not 0, where its length is not
+none-held : (bs : List ℕ) (k : ℕ) → From 0 (routesFrom bs k 0) → 1 ≤ routeAt bs 0 .len → hopAt (routesFrom bs k 0) 0 ≡ 0
+unfolding routesFrom
+none-held bs zero f h = refl
+none-held bs (suc k) f h = hop-below (key (routeAt bs 0)) 0 (routeAt bs 0 ∷ routesFrom bs k 1) (omega arith, f .1) (omega arith)
+
+pub default-none : (bs : List ℕ) (l : ℕ) → IsList 32 (listOf bs) → l ≡ routeAt bs 0 .len → l ≢ 0 → 0 ≡ bestAt (listOf bs) 0 0
+unfolding last
+default-none bs l s e d = rw (none-held bs (length bs / 8) (s .sorted) (omega (arith, e)))
+
+pub default-held : (bs : List ℕ) (l h : ℕ) → IsList 32 (listOf bs) → length bs / 8 ≢ 0 → l ≡ routeAt bs 0 .len → l ≡ 0
+    → h ≡ routeAt bs 0 .hop → h * 256 ≡ bestAt (listOf bs) 0 0
+default-held bs l h s n e z q =
+    let k : 0 < length bs / 8 = omega arith in
+    let a : 0 ≡ routeAt bs 0 .addr / 2 ^ (32 - 0) = omega (arith, head-fits bs s 0 k 0 (omega arith)) in
+    omega (arith, q, best-own bs s 0 k 0 0 (omega arith) (sym e ∙ z) a)
+
+-- ---- the call
+
+-- the need was given: the bytes are a list
+pub record Given (bs : List ℕ) (n : ℕ) : Type 0 where
+  pub is : listedIn bs ≡ listed (listOf bs)
+  pub words : n ≡ wordsFor (listOf bs)
+
+apart : {n k : ℕ} {P : Type 0} → gives n ≡ refuses k → P
+apart e = let z : _≡_ {A = ℕ} 0 1 = cc in absurd (omega arith)
+
+pub given : (bs : List ℕ) (n : ℕ) → gives n ≡ needOn (listedIn bs) → Given bs n
+given bs n e = go (listedIn bs) refl e
+  where
+    go : (L : Listed) → listedIn bs ≡ L → gives n ≡ needOn L → Given bs n
+    go unlisted q e = apart e
+    go (listed rs) q e =
+        let z : listOf bs ≡ rs = listed-list bs rs q in
+        let w : n ≡ wordsFor rs = cc in
+        record { is = rw z q; words = rw z w }
+
+not-listed : (L : Listed) (k : ℕ) → refuses k ≡ needOn L → L ≡ unlisted
+not-listed unlisted k e = refl
+not-listed (listed rs) k e = apart (sym e)
+
+-- refused by 2
+pub build-unlisted : (bs ws : List ℕ) (k : ℕ) → refuses k ≡ needOn (listedIn bs)
+    → (refuses 2 ≡ buildOn (listedIn bs) (length ws)) × LeavesOn (listedIn bs) ws ws
+build-unlisted bs ws k e = rw (not-listed (listedIn bs) k e) (refl, refl)
+
+module _ (bs ws : List ℕ) (n : ℕ) (g : Given bs n) where
+  -- refused by 9
+  pub build-short : length ws < n → (refuses 9 ≡ buildOn (listedIn bs) (length ws)) × LeavesOn (listedIn bs) ws ws
+  build-short h =
+      rw (g .is, lt-ltb (length ws) (wordsFor (listOf bs)) (omega (arith, g .words))) (
+        refl,
+        record {
+          refused = λ _. refl;
+          laid = λ k. absurd (omega (arith, g .words));
+          long = refl;
+          past = λ i k. refl;
+        },
+      )
+
+  pub build-list : Bytes bs → IsList 32 (listOf bs)
+  build-list b = listed-out bs b (listOf bs) (g .is) .list
+
+  pub build-starts : Bytes bs → (d : ℕ) → n ≤ length ws → d ≡ bestAt (listOf bs) 0 0 → Starts bs (set ws 0 d)
+  build-starts b d h e = record {
+    list = build-list b;
+    room = simp length-set (omega (arith, g .words));
+    default = getD-set-same ws 0 d 0 (omega (arith, g .words)) ∙ e;
+  }
+
+  pub build-built : (d : ℕ) (us : List ℕ) → n ≤ length ws → Ends bs (set ws 0 d) us
+      → (gives (record { routes = length bs / 8; markers = (n - headerWords) / 8 - length bs / 8 })
+      ≡ buildOn (listedIn bs) (length ws))
+      × LeavesOn (listedIn bs) ws us
+  build-built d us h e =
+      let r : length (listOf bs) ≡ length bs / 8 = records-length bs (length bs / 8) 0 in
+      let m : (n - headerWords) / 8 - length bs / 8 ≡ markers (listOf bs) = omega (arith, g .words) in
+      rw (g .is, le-ltb (length ws) (wordsFor (listOf bs)) (omega (arith, g .words)), m, r) (
+        refl,
+        record {
+          refused = λ k. absurd (omega (arith, g .words));
+          laid = λ k. e .laid;
+          long = e .long ∙ length-set ws 0 d;
+          past = λ i k. e .past i k ∙ getD-set-other ws 0 i d 0 (λ z. omega arith);
+        },
+      )
+
+  pub build-sub : (headerWords ≤ n) × (length bs / 8 ≤ (n - headerWords) / 8)
+  build-sub = let r : length (listOf bs) ≡ length bs / 8 = records-length bs (length bs / 8) 0 in
+      (omega (arith, g .words), omega (arith, g .words))

@@ -1,0 +1,33 @@
+-- `lengths_build::absent` meets its contract: by what the probe gives. Assumes nothing.
+use mathlib.Core.Path.{sym, ap, _∙_}
+use Rattle.lengths.specs.Answer.{lookOf}
+use Rattle.lengths_build.specs.Filling.{isMiss}
+use borrow.Author.Needs.{needs}
+use Rattle.lengths_build.proofs.absent.Statement.{statement}
+use Rattle.lengths_build.proofs.absent.Tie as tie
+
+probe-requires : tie.Need-probe-requires
+probe-requires c κs = search needs
+
+enum-told : tie.Need-enum-told
+enum-told c = search needs
+
+enum-told-2 : tie.Need-enum-told-2
+enum-told-2 c = search needs
+
+enum-told-3 : tie.Need-enum-told-3
+enum-told-3 c = search needs
+
+returns : tie.Need-returns
+returns c = sym (ap isMiss (sym (c .before .before .probe .ensures) ∙ ap lookOf (c .enum-told .given .1)))
+
+returns-2 : tie.Need-returns-2
+returns-2 c = sym (ap isMiss (sym (c .before .before .probe .ensures) ∙ ap lookOf (c .enum-told2 .given .1)))
+
+returns-3 : tie.Need-returns-3
+returns-3 c = sym (ap isMiss (sym (c .before .before .probe .ensures) ∙ ap lookOf (c .enum-told3 .given .1)))
+
+pub absent-spec : {M : Type 1} → statement M
+absent-spec =
+    tie.close
+    (tie.spec probe-requires enum-told enum-told-2 enum-told-3 returns returns-2 returns-3)

@@ -1,0 +1,103 @@
+-- `lengths_build::shorter` meets its contract. The loop keeps that what is left says what the whole says. Assumes nothing.
+use mathlib.Core.Path.{_≡_, refl, sym, ap, _∙_}
+use Prim.Native.Nat.{_-_, _<_}
+use Rattle.lengths.specs.Answer.{lookOf}
+use Rattle.lengths_build.specs.Filling.{below}
+use Rattle.lengths_build.proofs.Entry.{below-hit, below-miss, below-outside, below-end}
+use borrow.Author.Needs.{needs}
+use native.Mathlib.Omega.{arith}
+use Rattle.lengths_build.proofs.shorter.Statement.{statement}
+use Rattle.lengths_build.proofs.shorter.Tie as tie
+
+abbrev Inv-loop : tie.InvT-loop
+Inv-loop words m v l₀ l = (l < m) × (below words m v l ≡ below words m v (m - 1))
+
+abbrev μ-loop : tie.MeasureT-loop
+μ-loop words m v l₀ l = l
+
+sub-l : tie.Need-sub-l Inv-loop μ-loop
+sub-l c = omega arith
+
+loop-holds : tie.Need-loop-holds Inv-loop μ-loop
+loop-holds c = (omega arith, refl)
+
+sub-l-2 : tie.Need-sub-l-2 Inv-loop μ-loop
+sub-l-2 c = omega arith
+
+sub-look-in : tie.Need-sub-look-in Inv-loop μ-loop
+sub-look-in c = omega arith
+
+shr-look-in : tie.Need-shr-look-in Inv-loop μ-loop
+shr-look-in c = omega arith
+
+look-in-requires : tie.Need-look-in-requires Inv-loop μ-loop
+look-in-requires c κs = (c .before .before .before .pre .0, omega arith)
+
+enum-known-b : tie.Need-enum-known-b Inv-loop μ-loop
+enum-known-b c = search needs
+
+returns : tie.Need-returns Inv-loop μ-loop
+returns c =
+    let a = c .before .before .before .before .before .before .before .args in
+    let l = c .before .before .before .before .before .loop in
+    let look-in = c .before .before .before .look-in in
+    below-hit (a .words .now) (a .m) (a .v) (l .l) (c .before .b .given .0 .0) (omega arith) (sym (look-in .ensures) ∙ ap lookOf (c .before .b .given .1))
+    ∙ l .inv .1
+
+enum-told : tie.Need-enum-told Inv-loop μ-loop
+enum-told c = search needs
+
+loop-less : tie.Need-loop-less Inv-loop μ-loop
+loop-less c = omega arith
+
+loop-again : tie.Need-loop-again Inv-loop μ-loop
+loop-again c =
+    let a = c .before .before .before .before .before .before .args in
+    let l = c .before .before .before .before .loop in
+    let look-in = c .before .before .look-in in
+    (omega arith, below-miss (a .words .now) (a .m) (a .v) (l .l) (omega arith) (sym (look-in .ensures) ∙ ap lookOf (c .enum-told .given .1)) ∙ l .inv .1)
+
+enum-told-2 : tie.Need-enum-told-2 Inv-loop μ-loop
+enum-told-2 c = search needs
+
+loop-less-2 : tie.Need-loop-less-2 Inv-loop μ-loop
+loop-less-2 c = omega arith
+
+loop-again-2 : tie.Need-loop-again-2 Inv-loop μ-loop
+loop-again-2 c =
+    let a = c .before .before .before .before .before .before .args in
+    let l = c .before .before .before .before .loop in
+    let look-in = c .before .before .look-in in
+    (omega arith, below-outside (a .words .now) (a .m) (a .v) (l .l) (omega arith) (sym (look-in .ensures) ∙ ap lookOf (c .enum-told2 .given .1)) ∙ l .inv .1)
+
+shared-slice-read-result : tie.Need-shared-slice-read-result Inv-loop μ-loop
+shared-slice-read-result c = omega (arith, c .before .before .before .before .pre .0)
+
+returns-2 : tie.Need-returns-2 Inv-loop μ-loop
+returns-2 c =
+    let a = c .before .before .before .before .args in
+    let l = c .before .before .loop in
+    below-end (a .words .now) (a .m) (a .v) (l .l) (c .before .loop-test .left) ∙ l .inv .1
+
+pub shorter-spec : {M : Type 1} → statement M
+shorter-spec =
+    tie.close
+    (tie.spec
+    Inv-loop
+    μ-loop
+    sub-l
+    loop-holds
+    sub-l-2
+    sub-look-in
+    shr-look-in
+    look-in-requires
+    enum-known-b
+    returns
+    enum-told
+    loop-less
+    loop-again
+    enum-told-2
+    loop-less-2
+    loop-again-2
+    shared-slice-read-result
+    returns-2)

@@ -1,0 +1,69 @@
+-- `lengths_build::table` meets its contract: the header, the clearing and the two passes make the table. Assumes nothing.
+use Rattle.lengths_build.proofs.Making.{make-first, make-second, make-made}
+use borrow.Author.Needs.{needs}
+use native.Mathlib.Omega.{arith}
+use Rattle.lengths_build.proofs.table.Statement.{statement}
+use Rattle.lengths_build.proofs.table.Tie as tie
+
+enter-header-requires : tie.Need-enter-header-requires
+enter-header-requires c κs = search needs
+
+mul-end : tie.Need-mul-end
+mul-end c = search needs
+
+add-end : tie.Need-add-end
+add-end c = search needs
+
+clear-requires : tie.Need-clear-requires
+clear-requires c κs = search needs
+
+mul-fill : tie.Need-mul-fill
+mul-fill c = search needs
+
+fill-requires : tie.Need-fill-requires
+fill-requires c κs =
+    let s = c .before .before .before .before .before .before .before .before .before .before .before in
+    let h = c .before .before .before .before .before .before .before .enter-header in
+    let k = c .before .before .before .clear in
+    make-first (s .args .bytes .now) (s .args .words .now) (s .args .m) (s .args .o) (s .args .size) (s .pre) (h .last .0) (h .ensures)
+    (k .last .0) _ (omega arith) (k .ensures)
+
+mul-fill-2 : tie.Need-mul-fill-2
+mul-fill-2 c = search needs
+
+fill-requires-2 : tie.Need-fill-requires-2
+fill-requires-2 c κs =
+    let s = c .before .before .before .before .before .before .before .before .before .before .before .before .before .before .before in
+    let h = c .before .before .before .before .before .before .before .before .before .before .before .enter-header in
+    let k = c .before .before .before .before .before .before .before .clear in
+    let f = c .before .before .before .fill in
+    make-second (s .args .bytes .now) (s .args .words .now) (s .args .m) (s .args .o) (s .args .size) (s .pre) (h .last .0) (h .ensures)
+    (k .last .0) _ (omega arith) (k .ensures) (f .last .1 .0) (f .ensures)
+
+same-length : tie.Need-same-length
+same-length c = search needs
+
+returns : tie.Need-returns
+returns c =
+    let s = c .before .before .before .before .before .before .before .before .before .before .before .before .before .before .before .before .before .before in
+    let h = c .before .before .before .before .before .before .before .before .before .before .before .before .before .before .enter-header in
+    let k = c .before .before .before .before .before .before .before .before .before .before .clear in
+    let f = c .before .before .before .before .before .before .fill in
+    let g = c .before .before .fill2 in
+    make-made (s .args .bytes .now) (s .args .words .now) (s .args .m) (s .args .o) (s .args .size) (s .pre) (h .last .0) (h .ensures)
+    (k .last .0) _ (omega arith) (k .ensures) (f .last .1 .0) (f .ensures) (omega arith) (g .last .1 .0) (g .ensures)
+
+pub table-spec : {M : Type 1} → statement M
+table-spec =
+    tie.close
+    (tie.spec
+    enter-header-requires
+    mul-end
+    add-end
+    clear-requires
+    mul-fill
+    fill-requires
+    mul-fill-2
+    fill-requires-2
+    same-length
+    returns)

@@ -1,0 +1,132 @@
+-- The best match of an entry: a route's own, or what the shorter tables say of a marker. Assumes nothing.
+use mathlib.Core.Path.{_≡_, refl, sym, ap, _∙_}
+use mathlib.Core.Bool.{true, false, cond, true≢false}
+use mathlib.Core.List.{List}
+use Prim.Native.Nat.{ℕ, zero, suc, _+_, _-_, _*_, _/_, _^_, _≤_, _<_}
+use native.Mathlib.Omega.{arith}
+use lib.ListN.{length, getD}
+use lib.Dec.{eqb}
+use native.Mathlib.Nat.{div-eq-of-lt}
+use lib.Pow.{shr-shr, shr-lt}
+use borrow.Author.Tests.{le-leb}
+use Rattle.routes.specs.Route.{Route, key, From, hopAt, IsRoute, IsList, All}
+use Rattle.routes.specs.Room.{mem}
+use Rattle.logic.specs.Cases.{bool, same}
+use Rattle.laws.specs.Sorted.{hop-head, hop-skip}
+use Rattle.laws.specs.Longest.{Wfs, last-found, last-past}
+use Rattle.lengths.specs.Way.{miss, hit, turnsAt, code, best}
+use Rattle.listing.specs.Heads.{picks}
+use Rattle.lengths.specs.Marks.{heldAt, entries, bestAt}
+use Rattle.logic.specs.Bools.{or-left}
+use Rattle.lengths.specs.Entries.{own, own-held, key-own, mem-either}
+use Rattle.lengths.specs.Held.{best-same}
+use Rattle.listing.specs.Listed.{routeAt, routesFrom, listOf}
+use Rattle.lengths.specs.Layout.{beginOf, sizeOf, look}
+use Rattle.lengths_build.specs.Filling.{Standing, below}
+
+-- ---- a record's route is held
+
+record-held : (bs : List ℕ) (n i k lo : ℕ) → From lo (routesFrom bs n i) → k < n
+    → (lo ≤ key (routeAt bs (i + k))) × (hopAt (routesFrom bs n i) (key (routeAt bs (i + k))) ≡ routeAt bs (i + k) .hop)
+unfolding routesFrom
+record-held bs zero i k lo f h = absurd (omega arith)
+record-held bs (suc n) i zero lo f h =
+    let e : i + 0 ≡ i = omega arith in
+    rw e (f .0, hop-head (routeAt bs i) (routesFrom bs n (suc i)) (key (routeAt bs i)) refl)
+record-held bs (suc n) i (suc k) lo f h =
+    let e : suc i + k ≡ i + suc k = omega arith in
+    let ih = record-held bs n (suc i) k (suc (key (routeAt bs i))) (f .1) (omega arith) in
+    let a : suc (key (routeAt bs i)) ≤ key (routeAt bs (i + suc k)) = rw e at (ih .0) in (
+      omega (arith, f .0),
+      hop-skip (routeAt bs i) (routesFrom bs n (suc i)) (key (routeAt bs (i + suc k))) (λ q. omega arith)
+          ∙ (rw e at (ih .1)),
+    )
+
+record-is : (bs : List ℕ) (n i k : ℕ) → All (IsRoute 32) (routesFrom bs n i) → k < n → IsRoute 32 (routeAt bs (i + k))
+unfolding routesFrom
+record-is bs zero i k f h = absurd (omega arith)
+record-is bs (suc n) i zero f h = let e : i + 0 ≡ i = omega arith in rw e (f .0)
+record-is bs (suc n) i (suc k) f h = let e : suc i + k ≡ i + suc k = omega arith in
+    rw e at (record-is bs n (suc i) k (f .1) (omega arith))
+
+module _ (bs : List ℕ) (l : IsList 32 (listOf bs)) (i : ℕ) (h : i < length bs / 8) where
+  pub route-of : IsRoute 32 (routeAt bs i)
+  route-of = let e : 0 + i ≡ i = omega arith in rw e at (record-is bs (length bs / 8) 0 i (l .routes) h)
+
+  hop-of : hopAt (listOf bs) (key (routeAt bs i)) ≡ routeAt bs i .hop
+  hop-of = let e : 0 + i ≡ i = omega arith in rw e at (record-held bs (length bs / 8) 0 i 0 (l .sorted) h .1)
+
+  -- the head of m bits is below 2 ^ m
+  pub head-fits : (m : ℕ) → m ≤ 32 → routeAt bs i .addr / 2 ^ (32 - m) < 2 ^ m
+  head-fits m k = let e : m + (32 - m) ≡ 32 = omega arith in shr-lt m (32 - m) (rw e (route-of .wf .inside))
+
+  -- a route's best match is its own
+  pub best-own : (m v : ℕ) → m ≤ 32 → routeAt bs i .len ≡ m → v ≡ routeAt bs i .addr / 2 ^ (32 - m)
+      → routeAt bs i .hop * 256 + m ≡ bestAt (listOf bs) m v
+  best-own m v k e q =
+      let z : m - m ≡ 0 = omega arith in
+      let y : v / 2 ^ 0 ≡ v = omega arith in
+      let g : heldAt (listOf bs) m (v / 2 ^ (m - m)) ≡ routeAt bs i .hop =
+      rw (z, y, q, key-own m (routeAt bs i) (route-of .wf) e) hop-of in
+      sym (ap code (last-found (λ x. heldAt (listOf bs) x (v / 2 ^ (m - x))) m (routeAt bs i .hop) m g (route-of .wf .some)
+      (omega arith) (λ x a b. absurd (omega arith))))
+
+-- ---- a marker's best match
+
+-- no entry, so no route
+own-entered : (rs : List Route) (m x : ℕ) → mem x (own m rs) ≡ true → mem x (entries m rs) ≡ true
+own-entered rs m x e = mem-either (λ l. eqb l m) (turnsAt m) m x rs
+    ∙ or-left (mem x (own m rs)) (mem x (picks (turnsAt m) m rs)) e
+
+pub unentered : (rs : List Route) (m x : ℕ) → m ≤ 32 → Wfs 32 rs → mem x (own m rs) ≡ false → heldAt rs m x ≡ 0
+unentered rs m x h w e = same (heldAt rs m x) 0 (λ q _. q) (λ q d. absurd (true≢false (sym (own-held m x rs h w ∙ rw d) ∙ e)))
+
+module _ (rs : List Route) (w : Wfs 32 rs) (ws : List ℕ) (o m v : ℕ) (long : o ≤ length ws) (k : m ≤ 32) (b : Standing rs ws o m)
+    (low : v < 2 ^ m) where
+  abbrev G : ℕ → ℕ
+  G l = heldAt rs l (v / 2 ^ (m - l))
+
+  part : (l j : ℕ) → j ≤ l → l ≤ m → v / 2 ^ (m - l) / 2 ^ (l - j) ≡ v / 2 ^ (m - j)
+  part l j h q = let e : (m - l) + (l - j) ≡ m - j = omega arith in rw (← e) (shr-shr v (m - l) (l - j))
+
+  best-part : (l : ℕ) → l ≤ m → bestAt rs l (v / 2 ^ (m - l)) ≡ best G l
+  best-part l h = best-same (λ j. heldAt rs j (v / 2 ^ (m - l) / 2 ^ (l - j))) G l (λ j q. ap (heldAt rs j) (part l j q h))
+
+  look-at : (l x : ℕ) → 1 ≤ l → l < m → look ws l x ≡ cond (mem x (entries l rs)) (hit (bestAt rs l x)) miss
+  unfolding look
+  look-at l x h q =
+      let t = b .tables l h q in
+      rw (le-leb (beginOf ws l + 8 * sizeOf ws l) (length ws) (omega (arith, t .ends))) (t .finds x)
+
+  below-none : getD ws 0 0 ≡ best G 0
+  below-none =
+      let z : v / 2 ^ m ≡ 0 = div-eq-of-lt low in
+      let e : m - 0 ≡ m = omega arith in
+      b .default ∙ best-same (λ j. heldAt rs j (0 / 2 ^ (0 - j))) G 0 (λ j h. (let q : j ≡ 0 = omega arith in rw (q, e, z)))
+
+  -- a length without an entry adds nothing
+  best-skip : (l : ℕ) → heldAt rs (suc l) (v / 2 ^ (m - suc l)) ≡ 0 → best G (suc l) ≡ best G l
+  best-skip l e = ap code (last-past G l (suc l) (omega arith) (λ j h q. (let z : j ≡ suc l = omega arith in rw z e)))
+
+  below-best : (l : ℕ) → l < m → below ws m v l ≡ best G l
+  unfolding below
+  below-best zero h = below-none
+  below-best (suc l) h =
+      bool (mem (v / 2 ^ (m - suc l)) (entries (suc l) rs))
+      (λ e. rw (look-at (suc l) (v / 2 ^ (m - suc l)) (omega arith) h, e) (best-part (suc l) (omega arith)))
+      (λ e. rw (look-at (suc l) (v / 2 ^ (m - suc l)) (omega arith) h, e)
+      (below-best l (omega arith) ∙ sym
+      (best-skip l (unentered rs (suc l) (v / 2 ^ (m - suc l)) (omega arith) w
+      (outside-own (suc l) (v / 2 ^ (m - suc l)) e)))))
+    where
+      outside-own : (l x : ℕ) → mem x (entries l rs) ≡ false → mem x (own l rs) ≡ false
+      outside-own l x e = bool (mem x (own l rs)) (λ q. absurd (true≢false (sym (own-entered rs l x q) ∙ e))) (λ q. q)
+
+  -- a marker that is no route has the best match of the shorter lengths
+  pub best-marker : 1 ≤ m → heldAt rs m v ≡ 0 → below ws m v (m - 1) ≡ bestAt rs m v
+  best-marker h e =
+      let s : m ≡ suc (m - 1) = omega arith in
+      let z : m - m ≡ 0 = omega arith in
+      let y : v / 2 ^ 0 ≡ v = omega arith in
+      below-best (m - 1) (omega arith)
+      ∙ sym (ap code (last-past G (m - 1) m (omega arith) (λ j p q. (let t : j ≡ m = omega arith in rw (t, z, y) e))))

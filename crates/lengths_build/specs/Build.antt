@@ -1,0 +1,75 @@
+-- What a build leaves in the words, and what its parts promise. Assumes nothing.
+use mathlib.Core.Path.{_≡_}
+use mathlib.Core.Logic.{_≢_}
+use mathlib.Core.List.{List}
+use Prim.Native.Nat.{ℕ, _+_, _*_, _/_, _^_, _-_, _≤_, _<_}
+use lib.ListN.{length, getD}
+use Rattle.routes.specs.Route.{Route, IsList}
+use Rattle.routes.specs.Room.{distinct}
+use Rattle.lengths.specs.Marks.{heldAt, entries, bestAt, wordsFor}
+use Rattle.listing.specs.Listed.{routeAt, listOf, Listed, unlisted, listed}
+use Rattle.lengths.specs.Layout.{headerWords, beginOf, sizeOf}
+use Rattle.lengths.specs.Laid.{Laid}
+use Rattle.lengths_build.specs.Filling.{Kept, Standing}
+
+-- ---- the call
+
+-- the list laid out, where there are words enough; the words past those that it needs stay
+pub record Leaves (rs : List Route) (ws us : List ℕ) : Type 0 where
+  pub refused : length ws < wordsFor rs → us ≡ ws
+  pub laid : wordsFor rs ≤ length ws → Laid rs us
+  pub long : length us ≡ length ws
+  pub past : (i : ℕ) → wordsFor rs ≤ i → getD us i 0 ≡ getD ws i 0
+
+-- a refusal changes no word
+abbrev pub LeavesOn : Listed → List ℕ → List ℕ → Type 0
+LeavesOn unlisted ws us = us ≡ ws
+LeavesOn (listed rs) ws us = Leaves rs ws us
+
+-- ---- its parts
+
+-- a record of which the best match is asked: its head v is a route of m bits, or is held by none
+pub record Bests (bs ws : List ℕ) (i m v : ℕ) : Type 0 where
+  pub list : IsList 32 (listOf bs)
+  pub here : i < length bs / 8
+  pub few : 1 ≤ m
+  pub most : m ≤ 32
+  pub long : headerWords ≤ length ws
+  pub built : Standing (listOf bs) ws (length ws) m
+  pub value : v ≡ routeAt bs i .addr / 2 ^ (32 - m)
+  pub marker : routeAt bs i .len ≢ m → heldAt (listOf bs) m v ≡ 0
+
+pub record Cleared (ws us : List ℕ) (from to : ℕ) : Type 0 where
+  pub zero : (i : ℕ) → from ≤ i → i < to → getD us i 0 ≡ 0
+  pub kept : Kept ws us from to
+
+pub record Headed (ws us : List ℕ) (m o size : ℕ) : Type 0 where
+  pub begins : beginOf us m ≡ o
+  pub sizes : sizeOf us m ≡ size
+  pub kept : Kept ws us (8 * m) (8 * m + 4)
+
+-- the table of length m is to be made at word o
+pub record Makes (bs ws : List ℕ) (m o size : ℕ) : Type 0 where
+  pub list : IsList 32 (listOf bs)
+  pub few : 1 ≤ m
+  pub most : m ≤ 32
+  pub low : headerWords ≤ o
+  pub fits : o + 8 * size ≤ length ws
+  pub counts : size ≡ distinct (entries m (listOf bs))
+  pub built : Standing (listOf bs) ws o m
+
+pub record Made (bs ws us : List ℕ) (m to : ℕ) : Type 0 where
+  pub built : Standing (listOf bs) us to (m + 1)
+  pub long : length us ≡ length ws
+  pub past : (i : ℕ) → to ≤ i → headerWords ≤ i → getD us i 0 ≡ getD ws i 0
+
+-- all tables are to be made
+pub record Starts (bs ws : List ℕ) : Type 0 where
+  pub list : IsList 32 (listOf bs)
+  pub room : wordsFor (listOf bs) ≤ length ws
+  pub default : getD ws 0 0 ≡ bestAt (listOf bs) 0 0
+
+pub record Ends (bs ws us : List ℕ) : Type 0 where
+  pub laid : Laid (listOf bs) us
+  pub long : length us ≡ length ws
+  pub past : (i : ℕ) → wordsFor (listOf bs) ≤ i → getD us i 0 ≡ getD ws i 0

@@ -1,0 +1,282 @@
+-- The steps of filling a table: an entry more, one that is there already, a record passed over; and its begin and end.
+-- Assumes nothing.
+use mathlib.Core.Path.{_≡_, refl, sym, ap, _∙_}
+use mathlib.Core.Logic.{_≢_, ⊎-elim}
+use mathlib.Core.Bool.{Bool, true, false, cond, _||_, true≢false, false≢true}
+use mathlib.Core.List.{List, [], _∷_, _++_}
+use Prim.Native.Nat.{ℕ, zero, suc, _+_, _-_, _*_, _/_, _^_, _≤_, _<_}
+use native.Mathlib.Omega.{arith}
+use lib.ListN.{length, getD}
+use lib.Dec.{eqb}
+use borrow.Author.Tests.{eqb-true, eq-eqb}
+use Rattle.routes.specs.Route.{Route, IsList}
+use Rattle.routes.specs.Room.{mem, distinct}
+use Rattle.logic.specs.Cases.{bool, same}
+use Rattle.logic.specs.Bools.{or-left, or-right, or-to}
+use Rattle.laws.specs.Room.{distinct-le}
+use Rattle.lengths.specs.Way.{miss, hit, turnsAt}
+use Rattle.listing.specs.Heads.{picks}
+use Rattle.lengths.specs.Marks.{heldAt, entries, bestAt}
+use Rattle.lengths.specs.Entries.{own, mem-append, mem-either}
+use Rattle.listing.specs.Listed.{routeAt, routesFrom, listOf}
+use Rattle.listing.specs.Records.{tail-step, tail-end}
+use Rattle.laws.specs.Longest.{wfs}
+use Rattle.lengths.specs.Layout.{headerWords, beginOf, sizeOf, placesOf, find}
+use Rattle.lengths.specs.Hash.{Room, room-left, Holds, holds-none, holds-again, holds-put}
+use Rattle.lengths.specs.Laid.{Table, table-same, best-fine}
+use Rattle.lengths_build.specs.Filling.{Kept, Standing, chosen, tail, base, sofar, Filling, Filled, Put, isMiss}
+use Rattle.lengths_build.specs.Best.{unentered}
+
+-- ---- words kept
+
+pub kept-none : (ws : List ℕ) (lo hi : ℕ) → Kept ws ws lo hi
+kept-none ws lo hi = record { long = refl; below = λ i h. refl; above = λ i h. refl }
+
+pub kept-join : (ws us vs : List ℕ) (lo hi : ℕ) → Kept ws us lo hi → Kept us vs lo hi → Kept ws vs lo hi
+kept-join ws us vs lo hi k l = record {
+  long = l .long ∙ k .long;
+  below = λ i h. l .below i h ∙ k .below i h;
+  above = λ i h. l .above i h ∙ k .above i h;
+}
+
+pub standing-kept : (rs : List Route) (ws us : List ℕ) (o m hi : ℕ) → headerWords ≤ o → m ≤ 33 → Kept ws us o hi
+    → Standing rs ws o m → Standing rs us o m
+standing-kept rs ws us o m hi h k s b = record {
+  default = s .below 0 (omega arith) ∙ b .default;
+  tables = λ l x y. table-same rs ws us o l (λ i p q. s .below i (omega arith)) (λ i p q. s .below i q) (b .tables l x y);
+}
+
+-- ---- what is entered is among the entries
+
+picks-on : (P : ℕ → Bool) (m z d k i : ℕ) (bs : List ℕ) → mem z (picks P m (routesFrom bs k (d + i))) ≡ true
+    → mem z (picks P m (routesFrom bs (d + k) i)) ≡ true
+unfolding routesFrom
+picks-on P m z zero k i bs e = let a : 0 + i ≡ i = omega arith in let b : 0 + k ≡ k = omega arith in rw b (rw a at e)
+picks-on P m z (suc d) k i bs e =
+    let a : d + suc i ≡ suc d + i = omega arith in
+    let b : suc d + k ≡ suc (d + k) = omega arith in
+    rw b (more (P (routeAt bs i .len)) (routeAt bs i .addr / 2 ^ (32 - m)) (picks P m (routesFrom bs (d + k) (suc i)))
+    (picks-on P m z d k (suc i) bs (rw a e)))
+  where
+    more : (c : Bool) (y : ℕ) (ys : List ℕ) → mem z ys ≡ true → mem z (cond c (y ∷ ys) ys) ≡ true
+    more true y ys e = or-right (eqb y z) (mem z ys) e
+    more false y ys e = e
+
+picks-tail : (P : ℕ → Bool) (m z i : ℕ) (bs : List ℕ) → i ≤ length bs / 8 → mem z (picks P m (tail bs i)) ≡ true
+    → mem z (picks P m (listOf bs)) ≡ true
+picks-tail P m z i bs h e =
+    let a : i + 0 ≡ i = omega arith in
+    let b : i + (length bs / 8 - i) ≡ length bs / 8 = omega arith in
+    rw b at (picks-on P m z i (length bs / 8 - i) 0 bs (rw a e))
+
+chosen-entry : (k : Bool) (m z : ℕ) (rs : List Route) → mem z (picks (chosen k m) m rs) ≡ true → mem z (entries m rs) ≡ true
+chosen-entry false m z rs e = mem-either (λ l. eqb l m) (turnsAt m) m z rs
+    ∙ or-left (mem z (own m rs)) (mem z (picks (turnsAt m) m rs)) e
+chosen-entry true m z rs e = mem-either (λ l. eqb l m) (turnsAt m) m z rs
+    ∙ or-right (mem z (own m rs)) (mem z (picks (turnsAt m) m rs)) e
+
+base-entry : (k : Bool) (bs : List ℕ) (m z : ℕ) → mem z (base k bs m) ≡ true → mem z (entries m (listOf bs)) ≡ true
+base-entry false bs m z e = absurd (false≢true e)
+base-entry true bs m z e =
+    ⊎-elim
+    (λ (q : mem z (picks (chosen false m) m (tail bs 0)) ≡ true). chosen-entry false m z (listOf bs)
+    (picks-tail (chosen false m) m z 0 bs (omega arith) q))
+    (λ (q : false ≡ true). absurd (false≢true q))
+    (or-to (mem z (picks (chosen false m) m (tail bs 0))) false
+    (sym (mem-append z (picks (chosen false m) m (tail bs 0)) []) ∙ e))
+
+sofar-entry : (k : Bool) (bs : List ℕ) (m i z : ℕ) → i ≤ length bs / 8 → mem z (sofar k bs m i) ≡ true
+    → mem z (entries m (listOf bs)) ≡ true
+sofar-entry k bs m i z h e =
+    ⊎-elim
+    (λ (q : mem z (picks (chosen k m) m (tail bs i)) ≡ true). chosen-entry k m z (listOf bs)
+    (picks-tail (chosen k m) m z i bs h q))
+    (λ (q : mem z (base k bs m) ≡ true). base-entry k bs m z q)
+    (or-to (mem z (picks (chosen k m) m (tail bs i))) (mem z (base k bs m))
+    (sym (mem-append z (picks (chosen k m) m (tail bs i)) (base k bs m)) ∙ e))
+
+-- ---- one record
+
+module _ (k : Bool) (bs : List ℕ) (i m : ℕ) (h : i < length bs / 8) where
+  abbrev v : ℕ
+  v = routeAt bs i .addr / 2 ^ (32 - m)
+
+  step : tail bs i ≡ routeAt bs i ∷ tail bs (i + 1)
+  step = tail-step bs (length bs / 8) (i + 1) i refl (omega arith)
+
+  sofar-skip : chosen k m (routeAt bs i .len) ≡ false → sofar k bs m i ≡ sofar k bs m (i + 1)
+  sofar-skip e = rw (step, e)
+
+  sofar-more : chosen k m (routeAt bs i .len) ≡ true → sofar k bs m i ≡ v ∷ sofar k bs m (i + 1)
+  sofar-more e = rw (step, e)
+
+  head-entry : chosen k m (routeAt bs i .len) ≡ true → mem v (entries m (listOf bs)) ≡ true
+  head-entry e = sofar-entry k bs m i v (omega arith)
+      (rw (sofar-more e) (or-left (eqb v v) (mem v (sofar k bs m (i + 1))) (eq-eqb v v refl)))
+
+-- a new value leaves room for itself
+room-for : (k : Bool) (bs : List ℕ) (i m v p : ℕ) → i ≤ length bs / 8 → mem v (entries m (listOf bs)) ≡ true
+    → mem v (sofar k bs m i) ≡ false → p ≡ 2 * distinct (entries m (listOf bs))
+    → distinct (sofar k bs m i) < p
+room-for k bs i m v p h e f q =
+    let d : distinct (v ∷ sofar k bs m i) ≤ distinct (entries m (listOf bs)) =
+    distinct-le (v ∷ sofar k bs m i) (entries m (listOf bs)) all in
+    let s : distinct (v ∷ sofar k bs m i) ≡ suc (distinct (sofar k bs m i)) = rw f in
+    omega arith
+  where
+    all : (z : ℕ) → mem z (v ∷ sofar k bs m i) ≡ true → mem z (entries m (listOf bs)) ≡ true
+    all z y = same v z (λ a d. rw (← a) e) (λ a d. sofar-entry k bs m i z h (rw d at y))
+
+-- in the second pass, a value that is not there is no route
+no-route : (k : Bool) (bs : List ℕ) (i m v l : ℕ) → m ≤ 32 → IsList 32 (listOf bs) → mem v (sofar k bs m i) ≡ false
+    → chosen k m l ≡ true → l ≢ m → heldAt (listOf bs) m v ≡ 0
+no-route false bs i m v l h s e c n = absurd (n (eqb-true l m c))
+no-route true bs i m x l h s e c n =
+    let a = mem-append x (picks (chosen true m) m (tail bs i)) (base true bs m) in
+    let b = mem-append x (picks (chosen false m) m (tail bs 0)) [] in
+    let z : length bs / 8 - 0 ≡ length bs / 8 = omega arith in
+    let o : mem x (picks (chosen false m) m (tail bs 0)) ≡ false =
+    out (mem x (picks (chosen true m) m (tail bs i))) (mem x (picks (chosen false m) m (tail bs 0))) (rw (a, b) at e) in
+    unentered (listOf bs) m x h (wfs 32 (listOf bs) (s .routes)) (rw z at o)
+  where
+    out : (a b : Bool) → (a || (b || false)) ≡ false → b ≡ false
+    out true b q = absurd (true≢false q)
+    out false true q = absurd (true≢false q)
+    out false false q = refl
+
+-- ---- the steps
+
+module _ (k : Bool) (bs ws : List ℕ) (i m o p : ℕ) (f : Filling k bs ws (i + 1) m o p) where
+  here : i < length bs / 8
+  here = omega (arith, f .upto)
+
+  -- another list of what is held, for the record before
+  before : (us : List ℕ) → length us ≡ length ws → Standing (listOf bs) us o m
+      → Holds (placesOf us o) m p (bestAt (listOf bs) m) (sofar k bs m i) → Filling k bs us i m o p
+  before us e b h = record {
+    list = f .list;
+    few = f .few;
+    most = f .most;
+    upto = omega (arith, f .upto);
+    low = f .low;
+    fits = rw e (f .fits);
+    size = f .size;
+    built = b;
+    holds = h;
+  }
+
+  pub filling-skip : (c : Bool) → c ≡ chosen k m (routeAt bs i .len) → c ≡ false → Filling k bs ws i m o p
+  filling-skip c e q = before ws refl (f .built) (rw (sofar-skip k bs i m here (sym e ∙ q)) (f .holds))
+
+  module _ (c : chosen k m (routeAt bs i .len) ≡ true) (x : ℕ) (xe : x ≡ routeAt bs i .addr / 2 ^ (32 - m)) where
+    -- the probe tells whether the head is there
+    there : (b : Bool) → b ≡ isMiss (find (placesOf ws o) m p x) → b ≡ false → mem x (sofar k bs m (i + 1)) ≡ true
+    there b e q = bool (mem x (sofar k bs m (i + 1))) (λ z. z)
+        (λ z. (let y : find (placesOf ws o) m p x ≡ miss = f .holds .finds x ∙ rw z in
+        absurd (false≢true (sym q ∙ e ∙ ap isMiss y))))
+
+    away : (b : Bool) → b ≡ isMiss (find (placesOf ws o) m p x) → b ≡ true → mem x (sofar k bs m (i + 1)) ≡ false
+    away b e q = bool (mem x (sofar k bs m (i + 1)))
+        (λ z. (let y : find (placesOf ws o) m p x ≡ hit (bestAt (listOf bs) m x) = f .holds .finds x ∙ rw z in
+        absurd (true≢false (sym q ∙ e ∙ ap isMiss y)))) (λ z. z)
+
+    pub filling-again : (b : Bool) → b ≡ isMiss (find (placesOf ws o) m p x) → b ≡ false → Filling k bs ws i m o p
+    filling-again b e q = before ws refl (f .built)
+        (rw (sofar-more k bs i m here c, ← xe)
+        (holds-again (placesOf ws o) m p (bestAt (listOf bs) m) (sofar k bs m (i + 1)) x (f .holds) (there b e q)))
+
+    pub filling-room : (b : Bool) → b ≡ isMiss (find (placesOf ws o) m p x) → b ≡ true → Room (placesOf ws o) p
+    filling-room b e q =
+        room-left (placesOf ws o) p
+        (rw (f .holds .count) (room-for k bs (i + 1) m x p (f .upto) (rw xe (head-entry k bs i m here c)) (away b e q) (f .size)))
+
+    pub filling-new : (b : Bool) → b ≡ isMiss (find (placesOf ws o) m p x) → b ≡ true → routeAt bs i .len ≢ m
+        → heldAt (listOf bs) m x ≡ 0
+    filling-new b e q n = no-route k bs (i + 1) m x (routeAt bs i .len) (f .most) (f .list) (away b e q) c n
+
+    pub filling-put : (us : List ℕ) (b : Bool) (y : ℕ) → b ≡ isMiss (find (placesOf ws o) m p x) → b ≡ true
+        → y ≡ bestAt (listOf bs) m x → Put ws us o p x y → Filled k bs ws us i m o p
+    filling-put us b y e q w s = record {
+      filling = before us (s .kept .long)
+          (standing-kept (listOf bs) ws us o m (o + 4 * p) (f .low) (omega (arith, f .most)) (s .kept) (f .built))
+          (rw (sofar-more k bs i m here c, ← xe)
+          (holds-put (placesOf ws o) (placesOf us o) m p (s .at) (bestAt (listOf bs) m) (sofar k bs m (i + 1)) x (f .holds)
+          (away b e q)
+          (best-fine (listOf bs) m x (f .most) (f .list .routes)) (s .free) (rw (← w) (s .puts))));
+      kept = s .kept;
+    }
+
+-- ---- its begin, its turn and its end
+
+-- an empty table, before the first pass
+pub filling-start : (bs ws : List ℕ) (m o p : ℕ) → IsList 32 (listOf bs) → 1 ≤ m → m ≤ 32 → headerWords ≤ o
+    → o + 4 * p ≤ length ws → p ≡ 2 * distinct (entries m (listOf bs))
+    → Standing (listOf bs) ws o m → ((i : ℕ) → o ≤ i → i < o + 4 * p → getD ws i 0 ≡ 0)
+    → Filling false bs ws (length bs / 8) m o p
+filling-start bs ws m o p l a b c d e f z = record {
+  list = l;
+  few = a;
+  most = b;
+  upto = omega arith;
+  low = c;
+  fits = d;
+  size = e;
+  built = f;
+  holds = rw (tail-end bs (length bs / 8))
+      (holds-none (placesOf ws o) m p (bestAt (listOf bs) m) (λ i h. z (o + 4 * i) (omega arith) (omega arith)));
+}
+
+-- the end of the first pass begins the second
+pub filling-turn : (bs ws : List ℕ) (m o p : ℕ) → Filling false bs ws 0 m o p → Filling true bs ws (length bs / 8) m o p
+filling-turn bs ws m o p f = record {
+  list = f .list;
+  few = f .few;
+  most = f .most;
+  upto = omega arith;
+  low = f .low;
+  fits = f .fits;
+  size = f .size;
+  built = f .built;
+  holds = rw (tail-end bs (length bs / 8)) (f .holds);
+}
+
+-- both passes together enter what the list has
+sofar-all : (bs : List ℕ) (m z : ℕ) → mem z (sofar true bs m 0) ≡ mem z (entries m (listOf bs))
+sofar-all bs m z =
+    let q : length bs / 8 - 0 ≡ length bs / 8 = omega arith in
+    rw (
+      mem-append z (picks (turnsAt m) m (tail bs 0)) (picks (λ l. eqb l m) m (tail bs 0) ++ []),
+      mem-append z (picks (λ l. eqb l m) m (tail bs 0)) [],
+      q,
+      mem-either (λ l. eqb l m) (turnsAt m) m z (listOf bs),
+    )
+    (swap (mem z (picks (turnsAt m) m (listOf bs))) (mem z (own m (listOf bs))))
+  where
+    swap : (a b : Bool) → (a || (b || false)) ≡ (b || a)
+    swap true true = refl
+    swap true false = refl
+    swap false true = refl
+    swap false false = refl
+
+-- and then the table stands
+pub filling-end : (bs ws : List ℕ) (m o p e : ℕ) → p ≡ 2 * e → beginOf ws m ≡ o → sizeOf ws m ≡ e → Filling true bs ws 0 m o p
+    → Table (listOf bs) ws (o + 8 * e) m
+filling-end bs ws m o p e q b s f = record {
+  begins = rw b (f .low);
+  ends = rw (b, s) (omega arith);
+  finds = λ v. rw (b, s, ← q) (f .holds .finds v ∙ rw (sofar-all bs m v));
+}
+
+table-on : (rs : List Route) (ws : List ℕ) (o to m : ℕ) → o ≤ to → Table rs ws o m → Table rs ws to m
+table-on rs ws o to m h t = record { begins = t .begins; ends = omega (arith, t .ends); finds = t .finds }
+
+-- one table more
+pub standing-more : (rs : List Route) (ws : List ℕ) (o to m : ℕ) → o ≤ to → Standing rs ws o m → Table rs ws to m
+    → Standing rs ws to (m + 1)
+standing-more rs ws o to m h b t = record {
+  default = b .default;
+  tables = λ l x y. same l m (λ q _. rw q t) (λ q _. table-on rs ws o to l h (b .tables l x (omega arith)));
+}
+
+pub standing-on : (rs : List Route) (ws : List ℕ) (o to m : ℕ) → o ≤ to → Standing rs ws o m → Standing rs ws to m
+standing-on rs ws o to m h b = record { default = b .default; tables = λ l x y. table-on rs ws o to l h (b .tables l x y) }
