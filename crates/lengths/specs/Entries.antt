@@ -15,7 +15,7 @@ use Rattle.routes.specs.Room.{mem, distinct}
 use Rattle.logic.specs.Cases.{bool, same}
 use Rattle.laws.specs.Sorted.{hop-head, hop-skip, hop-below}
 use Rattle.laws.specs.Longest.{Wfs, whole}
-use Rattle.logic.specs.Bools.{or-left, or-right}
+use Rattle.logic.specs.Bools.{or-left, or-right, or-assoc, or-swap}
 use Rattle.laws.specs.Room.{distinct-mem}
 use Rattle.lengths.specs.Way.{turnsAt}
 use Rattle.listing.specs.Heads.{picks}
@@ -57,23 +57,14 @@ mem-either P Q m z (r ∷ rs) =
     bool (P (r .len))
     (λ p. bool (Q (r .len))
     (λ q. rw (p, q, ih) (both (eqb (r .addr / 2 ^ (32 - m)) z) (mem z (picks P m rs)) (mem z (picks Q m rs))))
-    (λ q. rw (p, q, ih) (left (eqb (r .addr / 2 ^ (32 - m)) z) (mem z (picks P m rs)) (mem z (picks Q m rs)))))
+    (λ q. rw (p, q, ih) (sym (or-assoc (eqb (r .addr / 2 ^ (32 - m)) z) (mem z (picks P m rs)) (mem z (picks Q m rs))))))
     (λ p. bool (Q (r .len))
-    (λ q. rw (p, q, ih) (right (eqb (r .addr / 2 ^ (32 - m)) z) (mem z (picks P m rs)) (mem z (picks Q m rs))))
+    (λ q. rw (p, q, ih) (or-swap (eqb (r .addr / 2 ^ (32 - m)) z) (mem z (picks P m rs)) (mem z (picks Q m rs))))
     (λ q. rw (p, q, ih)))
   where
     both : (a b c : Bool) → (a || (b || c)) ≡ ((a || b) || (a || c))
     both true b c = refl
     both false b c = refl
-
-    left : (a b c : Bool) → (a || (b || c)) ≡ ((a || b) || c)
-    left true b c = refl
-    left false b c = refl
-
-    right : (a b c : Bool) → (a || (b || c)) ≡ (b || (a || c))
-    right true true c = refl
-    right true false c = refl
-    right false b c = refl
 
 -- ---- the routes of a length
 

@@ -17,7 +17,7 @@ use Rattle.laws.specs.Longest.{Wfs, keyAt, along, longest-last, last-same}
 use Rattle.logic.specs.Bools.{or-left, or-right}
 use Rattle.lengths.specs.Way.{Look, miss, hit, search, turns, turnsAt, code, best}
 use Rattle.lengths.specs.Finds.{Marked, way-finds}
-use Rattle.listing.specs.Heads.{picks}
+use Rattle.listing.specs.Heads.{picks, picks-more}
 use Rattle.lengths.specs.Marks.{heldAt, isEntry, entries, bestAt}
 use Rattle.lengths.specs.Entries.{key-other}
 
@@ -36,12 +36,8 @@ pick-held P x L a (r ∷ rs) w h k p n =
     ∙ head-head a x L h k in
     rw (o .0, p) (or-left (eqb (r .addr / 2 ^ (32 - x)) (a / 2 ^ (32 - x))) (mem (a / 2 ^ (32 - x)) (picks P x rs))
     (eq-eqb _ _ e))))
-    (λ q _. (let ih = pick-held P x L a rs (w .1) h k p (λ z. n (hop-skip r rs (keyAt 32 a L) q ∙ z)) in
-    more (P (r .len)) (r .addr / 2 ^ (32 - x)) (a / 2 ^ (32 - x)) (picks P x rs) ih))
-  where
-    more : (b : Bool) (y z : ℕ) (ys : List ℕ) → mem z ys ≡ true → mem z (cond b (y ∷ ys) ys) ≡ true
-    more true y z ys e = or-right (eqb y z) (mem z ys) e
-    more false y z ys e = e
+    (λ q _. picks-more P x (a / 2 ^ (32 - x)) r rs (pick-held P x L a rs (w .1) h k p
+    (λ z. n (hop-skip r rs (keyAt 32 a L) q ∙ z))))
 
 turn-below : (n m L x : ℕ) → mem x (turns n m L) ≡ true → x < L
 unfolding turns

@@ -19,7 +19,8 @@ use Rattle.lengths.specs.Hash.{start-lt, place-lt, place-met, Room, Free}
 use Rattle.lengths_build.specs.Filling.{chosen, Filling, Filled, putAt, Put, isMiss, orBelow, below}
 use Rattle.lengths_build.specs.Fill.{kept-none, standing-on, filling-again, filling-room, filling-new, filling-put}
 use Rattle.lengths_build.specs.Build.{Bests}
-use Rattle.lengths_build.specs.Best.{head-fits, best-own, best-marker}
+use Rattle.lengths_build.specs.Best.{best-own, best-marker}
+use Rattle.listing.specs.Records.{head-fits}
 
 -- ---- the first free place
 

@@ -14,7 +14,7 @@ use Rattle.lengths.specs.Laid.{table-same}
 use Rattle.lengths_build.specs.Filling.{Kept, Standing, chosen, Filling, Filled}
 use Rattle.lengths_build.specs.Fill.{kept-none, kept-join, standing-kept, standing-more, filling-skip, filling-start}
 use Rattle.lengths_build.specs.Fill.{filling-turn, filling-end}
-use Rattle.lengths_build.specs.Best.{route-of}
+use Rattle.listing.specs.Records.{route-of}
 use Rattle.lengths_build.specs.Build.{Cleared, Headed, Makes, Made}
 
 -- ---- four words of the header

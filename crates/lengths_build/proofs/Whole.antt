@@ -16,12 +16,12 @@ use Rattle.lengths.specs.Marks.{entries, bestAt, wordsFor, markers}
 use Rattle.lengths.specs.Entries.{entriesTo, entries-all}
 use Rattle.listing.specs.Listed.{routeAt, routesFrom, listOf, Listed, unlisted, listed, listedIn}
 use Rattle.lengths_build.specs.Answer.{needOn, buildOn}
-use Rattle.listing.specs.Records.{Bytes, records-length}
+use Rattle.listing.specs.Records.{Bytes, records-length, head-fits}
 use Rattle.listing.specs.Written.{listed-list, listed-out}
 use Rattle.laws.specs.Longest.{wfs}
 use Rattle.lengths_build.specs.Filling.{Standing}
 use Rattle.lengths_build.specs.Fill.{standing-on}
-use Rattle.lengths_build.specs.Best.{best-own, head-fits}
+use Rattle.lengths_build.specs.Best.{best-own}
 use Rattle.lengths.specs.Layout.{headerWords}
 use Rattle.lengths_build.specs.Build.{LeavesOn, Makes, Made, Starts, Ends}
 

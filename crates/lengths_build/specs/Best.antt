@@ -1,5 +1,5 @@
 -- The best match of an entry: a route's own, or what the shorter tables say of a marker. Assumes nothing.
-use mathlib.Core.Path.{_≡_, refl, sym, ap, _∙_}
+use mathlib.Core.Path.{_≡_, sym, ap, _∙_}
 use mathlib.Core.Bool.{true, false, cond, true≢false}
 use mathlib.Core.List.{List}
 use Prim.Native.Nat.{ℕ, zero, suc, _+_, _-_, _*_, _/_, _^_, _≤_, _<_}
@@ -7,12 +7,11 @@ use native.Mathlib.Omega.{arith}
 use lib.ListN.{length, getD}
 use lib.Dec.{eqb}
 use native.Mathlib.Nat.{div-eq-of-lt}
-use lib.Pow.{shr-shr, shr-lt}
+use lib.Pow.{shr-shr}
 use borrow.Author.Tests.{le-leb}
-use Rattle.routes.specs.Route.{Route, key, From, hopAt, IsRoute, IsList, All}
+use Rattle.routes.specs.Route.{Route, IsList}
 use Rattle.routes.specs.Room.{mem}
 use Rattle.logic.specs.Cases.{bool, same}
-use Rattle.laws.specs.Sorted.{hop-head, hop-skip}
 use Rattle.laws.specs.Longest.{Wfs, last-found, last-past}
 use Rattle.lengths.specs.Way.{miss, hit, turnsAt, code, best}
 use Rattle.listing.specs.Heads.{picks}
@@ -20,61 +19,29 @@ use Rattle.lengths.specs.Marks.{heldAt, entries, bestAt}
 use Rattle.logic.specs.Bools.{or-left}
 use Rattle.lengths.specs.Entries.{own, own-held, key-own, mem-either}
 use Rattle.lengths.specs.Held.{best-same}
-use Rattle.listing.specs.Listed.{routeAt, routesFrom, listOf}
+use Rattle.listing.specs.Listed.{routeAt, listOf}
+use Rattle.listing.specs.Records.{route-of, hop-of}
 use Rattle.lengths.specs.Layout.{beginOf, sizeOf, look}
 use Rattle.lengths_build.specs.Filling.{Standing, below}
 
--- ---- a record's route is held
-
-record-held : (bs : List ℕ) (n i k lo : ℕ) → From lo (routesFrom bs n i) → k < n
-    → (lo ≤ key (routeAt bs (i + k))) × (hopAt (routesFrom bs n i) (key (routeAt bs (i + k))) ≡ routeAt bs (i + k) .hop)
-unfolding routesFrom
-record-held bs zero i k lo f h = absurd (omega arith)
-record-held bs (suc n) i zero lo f h =
-    let e : i + 0 ≡ i = omega arith in
-    rw e (f .0, hop-head (routeAt bs i) (routesFrom bs n (suc i)) (key (routeAt bs i)) refl)
-record-held bs (suc n) i (suc k) lo f h =
-    let e : suc i + k ≡ i + suc k = omega arith in
-    let ih = record-held bs n (suc i) k (suc (key (routeAt bs i))) (f .1) (omega arith) in
-    let a : suc (key (routeAt bs i)) ≤ key (routeAt bs (i + suc k)) = rw e at (ih .0) in (
-      omega (arith, f .0),
-      hop-skip (routeAt bs i) (routesFrom bs n (suc i)) (key (routeAt bs (i + suc k))) (λ q. omega arith)
-          ∙ (rw e at (ih .1)),
-    )
-
-record-is : (bs : List ℕ) (n i k : ℕ) → All (IsRoute 32) (routesFrom bs n i) → k < n → IsRoute 32 (routeAt bs (i + k))
-unfolding routesFrom
-record-is bs zero i k f h = absurd (omega arith)
-record-is bs (suc n) i zero f h = let e : i + 0 ≡ i = omega arith in rw e (f .0)
-record-is bs (suc n) i (suc k) f h = let e : suc i + k ≡ i + suc k = omega arith in
-    rw e at (record-is bs n (suc i) k (f .1) (omega arith))
+-- ---- a route's best match is its own
 
 module _ (bs : List ℕ) (l : IsList 32 (listOf bs)) (i : ℕ) (h : i < length bs / 8) where
-  pub route-of : IsRoute 32 (routeAt bs i)
-  route-of = let e : 0 + i ≡ i = omega arith in rw e at (record-is bs (length bs / 8) 0 i (l .routes) h)
-
-  hop-of : hopAt (listOf bs) (key (routeAt bs i)) ≡ routeAt bs i .hop
-  hop-of = let e : 0 + i ≡ i = omega arith in rw e at (record-held bs (length bs / 8) 0 i 0 (l .sorted) h .1)
-
-  -- the head of m bits is below 2 ^ m
-  pub head-fits : (m : ℕ) → m ≤ 32 → routeAt bs i .addr / 2 ^ (32 - m) < 2 ^ m
-  head-fits m k = let e : m + (32 - m) ≡ 32 = omega arith in shr-lt m (32 - m) (rw e (route-of .wf .inside))
-
-  -- a route's best match is its own
   pub best-own : (m v : ℕ) → m ≤ 32 → routeAt bs i .len ≡ m → v ≡ routeAt bs i .addr / 2 ^ (32 - m)
       → routeAt bs i .hop * 256 + m ≡ bestAt (listOf bs) m v
   best-own m v k e q =
+      let r = route-of bs l i h in
       let z : m - m ≡ 0 = omega arith in
       let y : v / 2 ^ 0 ≡ v = omega arith in
       let g : heldAt (listOf bs) m (v / 2 ^ (m - m)) ≡ routeAt bs i .hop =
-      rw (z, y, q, key-own m (routeAt bs i) (route-of .wf) e) hop-of in
-      sym (ap code (last-found (λ x. heldAt (listOf bs) x (v / 2 ^ (m - x))) m (routeAt bs i .hop) m g (route-of .wf .some)
+      rw (z, y, q, key-own m (routeAt bs i) (r .wf) e) (hop-of bs l i h) in
+      sym (ap code (last-found (λ x. heldAt (listOf bs) x (v / 2 ^ (m - x))) m (routeAt bs i .hop) m g (r .wf .some)
       (omega arith) (λ x a b. absurd (omega arith))))
 
 -- ---- a marker's best match
 
 -- no entry, so no route
-own-entered : (rs : List Route) (m x : ℕ) → mem x (own m rs) ≡ true → mem x (entries m rs) ≡ true
+pub own-entered : (rs : List Route) (m x : ℕ) → mem x (own m rs) ≡ true → mem x (entries m rs) ≡ true
 own-entered rs m x e = mem-either (λ l. eqb l m) (turnsAt m) m x rs
     ∙ or-left (mem x (own m rs)) (mem x (picks (turnsAt m) m rs)) e
 

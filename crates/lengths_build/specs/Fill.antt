@@ -2,7 +2,7 @@
 -- Assumes nothing.
 use mathlib.Core.Path.{_≡_, refl, sym, ap, _∙_}
 use mathlib.Core.Logic.{_≢_, ⊎-elim}
-use mathlib.Core.Bool.{Bool, true, false, cond, _||_, true≢false, false≢true}
+use mathlib.Core.Bool.{Bool, true, false, _||_, true≢false, false≢true}
 use mathlib.Core.List.{List, [], _∷_, _++_}
 use Prim.Native.Nat.{ℕ, zero, suc, _+_, _-_, _*_, _/_, _^_, _≤_, _<_}
 use native.Mathlib.Omega.{arith}
@@ -15,7 +15,7 @@ use Rattle.logic.specs.Cases.{bool, same}
 use Rattle.logic.specs.Bools.{or-left, or-right, or-to}
 use Rattle.laws.specs.Room.{distinct-le}
 use Rattle.lengths.specs.Way.{miss, hit, turnsAt}
-use Rattle.listing.specs.Heads.{picks}
+use Rattle.listing.specs.Heads.{picks, picks-more}
 use Rattle.lengths.specs.Marks.{heldAt, entries, bestAt}
 use Rattle.lengths.specs.Entries.{own, mem-append, mem-either}
 use Rattle.listing.specs.Listed.{routeAt, routesFrom, listOf}
@@ -25,7 +25,7 @@ use Rattle.lengths.specs.Layout.{headerWords, beginOf, sizeOf, placesOf, find}
 use Rattle.lengths.specs.Hash.{Room, room-left, Holds, holds-none, holds-again, holds-put}
 use Rattle.lengths.specs.Laid.{Table, table-same, best-fine}
 use Rattle.lengths_build.specs.Filling.{Kept, Standing, chosen, tail, base, sofar, Filling, Filled, Put, isMiss}
-use Rattle.lengths_build.specs.Best.{unentered}
+use Rattle.lengths_build.specs.Best.{own-entered, unentered}
 
 -- ---- words kept
 
@@ -55,12 +55,7 @@ picks-on P m z zero k i bs e = let a : 0 + i ≡ i = omega arith in let b : 0 + 
 picks-on P m z (suc d) k i bs e =
     let a : d + suc i ≡ suc d + i = omega arith in
     let b : suc d + k ≡ suc (d + k) = omega arith in
-    rw b (more (P (routeAt bs i .len)) (routeAt bs i .addr / 2 ^ (32 - m)) (picks P m (routesFrom bs (d + k) (suc i)))
-    (picks-on P m z d k (suc i) bs (rw a e)))
-  where
-    more : (c : Bool) (y : ℕ) (ys : List ℕ) → mem z ys ≡ true → mem z (cond c (y ∷ ys) ys) ≡ true
-    more true y ys e = or-right (eqb y z) (mem z ys) e
-    more false y ys e = e
+    rw b (picks-more P m z (routeAt bs i) (routesFrom bs (d + k) (suc i)) (picks-on P m z d k (suc i) bs (rw a e)))
 
 picks-tail : (P : ℕ → Bool) (m z i : ℕ) (bs : List ℕ) → i ≤ length bs / 8 → mem z (picks P m (tail bs i)) ≡ true
     → mem z (picks P m (listOf bs)) ≡ true
@@ -70,8 +65,7 @@ picks-tail P m z i bs h e =
     rw b at (picks-on P m z i (length bs / 8 - i) 0 bs (rw a e))
 
 chosen-entry : (k : Bool) (m z : ℕ) (rs : List Route) → mem z (picks (chosen k m) m rs) ≡ true → mem z (entries m rs) ≡ true
-chosen-entry false m z rs e = mem-either (λ l. eqb l m) (turnsAt m) m z rs
-    ∙ or-left (mem z (own m rs)) (mem z (picks (turnsAt m) m rs)) e
+chosen-entry false m z rs e = own-entered rs m z e
 chosen-entry true m z rs e = mem-either (λ l. eqb l m) (turnsAt m) m z rs
     ∙ or-right (mem z (own m rs)) (mem z (picks (turnsAt m) m rs)) e
 

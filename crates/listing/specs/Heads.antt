@@ -14,6 +14,7 @@ use borrow.Author.Tests.{le-leb, lt-leb, eq-eqb, ne-eqb}
 use Rattle.routes.specs.Route.{Route, key, From, IsList}
 use Rattle.routes.specs.Room.{mem, distinct, heads}
 use Rattle.logic.specs.Cases.{bool, same, less}
+use Rattle.logic.specs.Bools.{or-right}
 use Rattle.laws.specs.Longest.{Wfs, wfs}
 
 -- the first m bits of the routes whose length P takes
@@ -40,6 +41,12 @@ pub picks-same : (P Q : ℕ → Bool) (m : ℕ) (rs : List Route) → ((l : ℕ)
     → picks P m rs ≡ picks Q m rs
 picks-same P Q m [] e w = refl
 picks-same P Q m (r ∷ rs) e w = rw (e (r .len) (w .0 .fits), picks-same P Q m rs e (w .1))
+
+-- a route more takes no head away
+pub picks-more : (P : ℕ → Bool) (m z : ℕ) (r : Route) (rs : List Route) → mem z (picks P m rs) ≡ true
+    → mem z (picks P m (r ∷ rs)) ≡ true
+picks-more P m z r rs e =
+    bool (P (r .len)) (λ d. rw d (or-right (eqb (r .addr / 2 ^ (32 - m)) z) (mem z (picks P m rs)) e)) (λ d. rw d e)
 
 -- the heads of document 01's room are those of longer routes
 pub heads-picks : (n : ℕ) (rs : List Route) → Wfs 32 rs → heads 32 n rs ≡ picks (between (n + 1) 32) n rs

@@ -41,6 +41,6 @@ pub data Listed : Type 0 where
   unlisted : Listed
   listed : List Route → Listed
 
--- no table has more arrays
+-- whole bytes, of a list that a table has room for: none has more arrays
 unfoldable pub listedIn : List ℕ → Listed
 listedIn bs = cond (wholeB bs && leb (need 32 (listOf bs)) mostArrays) (listed (listOf bs)) unlisted

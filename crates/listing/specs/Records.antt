@@ -1,6 +1,6 @@
--- The records of a written-out list: what the tests on each of them say of the whole list, and its part from a record on.
--- Assumes nothing.
-use mathlib.Core.Path.{_≡_, refl, ap}
+-- The records of a written-out list: what the tests on each of them say of the whole list, its part from a record on, and what
+-- one record says of the list. Assumes nothing.
+use mathlib.Core.Path.{_≡_, refl, ap, _∙_}
 use mathlib.Core.Logic.{_≢_}
 use mathlib.Core.Bool.{Bool, true, false, cond, not, _||_, false≢true}
 use mathlib.Core.List.{List, [], _∷_}
@@ -8,10 +8,11 @@ use Prim.Native.Nat.{ℕ, zero, suc, _+_, _-_, _*_, _/_, _%_, _^_, _≤_, _<_}
 use native.Mathlib.Omega.{arith}
 use lib.ListN.{length, getD}
 use lib.Dec.{ltb, eqb}
+use lib.Pow.{shr-lt}
 use borrow.Author.Tests.{ltb-true, ltb-false, eqb-true, eqb-false, ne-eqb}
-use Rattle.routes.specs.Route.{Route, key, From, All, IsRoute, IsList}
+use Rattle.routes.specs.Route.{Route, key, From, All, hopAt, IsRoute, IsList}
 use Rattle.numbers.specs.Digits.{twoAt, fourAt}
-use Rattle.laws.specs.Sorted.{from-weaken}
+use Rattle.laws.specs.Sorted.{from-weaken, hop-head, hop-skip}
 use Rattle.laws.specs.Longest.{Wfs}
 use Rattle.logic.specs.Bools.{and-to, not-true, not-false}
 use Rattle.logic.specs.Every.{allB}
@@ -162,3 +163,58 @@ list-short lo (r ∷ rs) f w h =
     let a : r .addr < 4294967296 = w .0 .inside in
     let i = list-short (suc (key r)) rs (f .1) (w .1) (omega (arith, w .0 .fits)) in
     omega (arith, f .0)
+
+-- ---- one record of a list
+
+record-low : (bs : List ℕ) (n i k lo : ℕ) → From lo (routesFrom bs n i) → k < n → lo ≤ key (routeAt bs (i + k))
+unfolding routesFrom
+record-low bs zero i k lo f h = absurd (omega arith)
+record-low bs (suc n) i zero lo f h = let e : i + 0 ≡ i = omega arith in rw e (f .0)
+record-low bs (suc n) i (suc k) lo f h =
+    let e : suc i + k ≡ i + suc k = omega arith in
+    omega (arith, f .0, rw e at (record-low bs n (suc i) k (suc (key (routeAt bs i))) (f .1) (omega arith)))
+
+-- each comes after the one before
+pub record-next : (bs : List ℕ) (n i k lo : ℕ) → From lo (routesFrom bs n i) → k + 1 < n
+    → key (routeAt bs (i + k)) < key (routeAt bs (i + (k + 1)))
+unfolding routesFrom
+record-next bs zero i k lo f h = absurd (omega arith)
+record-next bs (suc n) i zero lo f h =
+    let a : i + 0 ≡ i = omega arith in
+    let b : suc i + 0 ≡ i + (0 + 1) = omega arith in
+    rw (a, ← b) (record-low bs n (suc i) 0 (suc (key (routeAt bs i))) (f .1) (omega arith))
+record-next bs (suc n) i (suc k) lo f h =
+    let a : suc i + k ≡ i + suc k = omega arith in
+    let b : suc i + (k + 1) ≡ i + (suc k + 1) = omega arith in
+    rw (← a, ← b) (record-next bs n (suc i) k (suc (key (routeAt bs i))) (f .1) (omega arith))
+
+pub record-is : (bs : List ℕ) (n i k : ℕ) → All (IsRoute 32) (routesFrom bs n i) → k < n → IsRoute 32 (routeAt bs (i + k))
+unfolding routesFrom
+record-is bs zero i k f h = absurd (omega arith)
+record-is bs (suc n) i zero f h = let e : i + 0 ≡ i = omega arith in rw e (f .0)
+record-is bs (suc n) i (suc k) f h = let e : suc i + k ≡ i + suc k = omega arith in
+    rw e at (record-is bs n (suc i) k (f .1) (omega arith))
+
+record-hop : (bs : List ℕ) (n i k lo : ℕ) → From lo (routesFrom bs n i) → k < n
+    → hopAt (routesFrom bs n i) (key (routeAt bs (i + k))) ≡ routeAt bs (i + k) .hop
+unfolding routesFrom
+record-hop bs zero i k lo f h = absurd (omega arith)
+record-hop bs (suc n) i zero lo f h =
+    let e : i + 0 ≡ i = omega arith in
+    rw e (hop-head (routeAt bs i) (routesFrom bs n (suc i)) (key (routeAt bs i)) refl)
+record-hop bs (suc n) i (suc k) lo f h =
+    let e : suc i + k ≡ i + suc k = omega arith in
+    let a = rw e at (record-low bs n (suc i) k (suc (key (routeAt bs i))) (f .1) (omega arith)) in
+    hop-skip (routeAt bs i) (routesFrom bs n (suc i)) (key (routeAt bs (i + suc k))) (λ q. omega arith)
+    ∙ (rw e at (record-hop bs n (suc i) k (suc (key (routeAt bs i))) (f .1) (omega arith)))
+
+module _ (bs : List ℕ) (l : IsList 32 (listOf bs)) (i : ℕ) (h : i < length bs / 8) where
+  pub route-of : IsRoute 32 (routeAt bs i)
+  route-of = let e : 0 + i ≡ i = omega arith in rw e at (record-is bs (length bs / 8) 0 i (l .routes) h)
+
+  pub hop-of : hopAt (listOf bs) (key (routeAt bs i)) ≡ routeAt bs i .hop
+  hop-of = let e : 0 + i ≡ i = omega arith in rw e at (record-hop bs (length bs / 8) 0 i 0 (l .sorted) h)
+
+  -- the head of m bits is below 2 ^ m
+  pub head-fits : (m : ℕ) → m ≤ 32 → routeAt bs i .addr / 2 ^ (32 - m) < 2 ^ m
+  head-fits m k = let e : m + (32 - m) ≡ 32 = omega arith in shr-lt m (32 - m) (rw e (route-of .wf .inside))

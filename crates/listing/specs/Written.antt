@@ -9,7 +9,7 @@ use lib.Seq.{getD-append-add, drop-cons}
 use lib.Dec.{ltb, leb, eqb}
 use borrow.Author.Tests.{lt-ltb, le-ltb, le-leb, leb-true, eq-eqb, ne-eqb, eqb-true}
 use Rattle.sizes.specs.Sizes.{mostArrays}
-use Rattle.routes.specs.Route.{Route, key, From, All, IsRoute, IsList}
+use Rattle.routes.specs.Route.{Route, key, All, IsRoute, IsList}
 use Rattle.routes.specs.Room.{need}
 use Rattle.routes.specs.Answers.{announce, update}
 use Rattle.numbers.specs.Digits.{two, four, twoAt, fourAt}
@@ -20,7 +20,7 @@ use Rattle.logic.specs.Tells.{all-to, all-from}
 use Rattle.laws.specs.Encoded.{record-back}
 use Rattle.laws.specs.Round.{written-long}
 use Rattle.listing.specs.Listed.{routeAt, routesFrom, listOf, routeB, recordB, wholeB, unlisted, listed, listedIn}
-use Rattle.listing.specs.Records.{Bytes, whole-list, two-low}
+use Rattle.listing.specs.Records.{Bytes, whole-list, two-low, record-is, record-next}
 
 -- one whole list, written out by a table that has room for it
 pub record WrittenOut (bs : List ℕ) (rs : List Route) : Type 0 where
@@ -87,33 +87,10 @@ route-passes r w =
       le-ltb 65535 (r .hop) (w .low),
     )
 
-at-record : (bs : List ℕ) (n i k lo : ℕ) → From lo (routesFrom bs n i) → All (IsRoute 32) (routesFrom bs n i) → k < n
-    → IsRoute 32 (routeAt bs (i + k)) × (lo ≤ key (routeAt bs (i + k)))
-unfolding routesFrom
-at-record bs zero i k lo f p h = absurd (omega arith)
-at-record bs (suc n) i zero lo f p h = let e : i + 0 ≡ i = omega arith in rw e (p .0, f .0)
-at-record bs (suc n) i (suc k) lo f p h =
-    let e : suc i + k ≡ i + suc k = omega arith in
-    let x = at-record bs n (suc i) k (suc (key (routeAt bs i))) (f .1) (p .1) (omega arith) in
-    (rw e at (x .0), omega (arith, f .0, rw e at (x .1)))
-
-in-order : (bs : List ℕ) (n i k lo : ℕ) → From lo (routesFrom bs n i) → All (IsRoute 32) (routesFrom bs n i) → k + 1 < n
-    → key (routeAt bs (i + k)) < key (routeAt bs (i + (k + 1)))
-unfolding routesFrom
-in-order bs zero i k lo f p h = absurd (omega arith)
-in-order bs (suc n) i zero lo f p h =
-    let a : i + 0 ≡ i = omega arith in
-    let b : suc i + 0 ≡ i + (0 + 1) = omega arith in
-    rw (a, ← b) (at-record bs n (suc i) 0 (suc (key (routeAt bs i))) (f .1) (p .1) (omega arith) .1)
-in-order bs (suc n) i (suc k) lo f p h =
-    let a : suc i + k ≡ i + suc k = omega arith in
-    let b : suc i + (k + 1) ≡ i + (suc k + 1) = omega arith in
-    rw (← a, ← b) (in-order bs n (suc i) k (suc (key (routeAt bs i))) (f .1) (p .1) (omega arith))
-
 record-passes : (bs : List ℕ) (n i : ℕ) → IsList 32 (routesFrom bs n 0) → i < n → getD bs (8 * i) 0 ≡ 1 → recordB bs i ≡ true
 record-passes bs n i l h k =
     let e : 0 + i ≡ i = omega arith in
-    let w : IsRoute 32 (routeAt bs i) = rw e at (at-record bs n 0 i 0 (l .sorted) (l .routes) h .0) in
+    let w : IsRoute 32 (routeAt bs i) = rw e at (record-is bs n 0 i (l .routes) h) in
     rw (k, route-passes (routeAt bs i) w) (order i h)
   where
     order : (i : ℕ) → i < n → (eqb i 0 || ltb (key (routeAt bs (i - 1))) (key (routeAt bs i))) ≡ true
@@ -122,7 +99,7 @@ record-passes bs n i l h k =
         let a : 0 + i ≡ suc i - 1 = omega arith in
         let b : 0 + (i + 1) ≡ suc i = omega arith in
         let o : key (routeAt bs (suc i - 1)) < key (routeAt bs (suc i)) =
-        rw (a, b) at (in-order bs n 0 i 0 (l .sorted) (l .routes) (omega arith)) in
+        rw (a, b) at (record-next bs n 0 i 0 (l .sorted) (omega arith)) in
         rw (lt-ltb (key (routeAt bs (suc i - 1))) (key (routeAt bs (suc i))) o) (or-true (eqb (suc i) 0))
 
 -- ---- so a list written out is listed

@@ -4,7 +4,6 @@ use Prim.Native.Nat.{_-_, _/_}
 use lib.ListN.{length}
 use Rattle.lengths_build.specs.Filling.{chosen, Filled}
 use Rattle.lengths_build.proofs.Making.{fill-none, fill-at, fill-asks, fill-join, fill-skip, fill-end}
-use borrow.Author.Needs.{needs}
 use native.Mathlib.Omega.{arith}
 use Rattle.lengths_build.proofs.fill.Statement.{statement}
 use Rattle.lengths_build.proofs.fill.Tie as tie
