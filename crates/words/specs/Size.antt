@@ -20,3 +20,7 @@ pub sized : (ws : List ℕ) → misfits (length ws) ≡ false → Sized ws (arra
 sized ws e =
     let f = no-misfit-fits (length ws) e in
     record { whole = omega (arith, f .whole, f .low); some = omega (arith, f .low); most = omega (arith, f .high) }
+
+-- by another name for the number
+pub sized-by : (ws : List ℕ) (n : ℕ) → misfits (length ws) ≡ false → n ≡ arrayCount ws → Sized ws n
+sized-by ws n e q = rw q (sized ws e)

@@ -1,17 +1,24 @@
 // All lent words as arrays: a header, then arrays of 1,024 words that hang below cells.
 pub mod size; // how many words a table has, and how many arrays
+pub mod part; // where an array stands, and what is read of it
 
 use array::tag::cell_in;
 use array::tag::level_in;
 use array::tag::parent_in;
 use array::tag::tag_of;
+use part::block;
+use part::cell;
+use part::tag;
+use size::arrays_in;
 use sizes::ARRAY_WORDS;
 use sizes::CELLS_AT;
+use sizes::GROUP_STRIDE;
 use sizes::PER_GROUP;
+use sizes::STRIDE_ARRAYS;
 ghost use mathlib.Core.Path.{_≡_};
 ghost use Prim.Native.Nat.{_+_, _*_, _-_, _<_, _≤_};
 ghost use lib.ListN.{length};
-ghost use Rattle.sizes.specs.Sizes.{mostArrays, leastWords, mostWords, cellCount, arrayAt, perGroup, groupCount};
+ghost use Rattle.sizes.specs.Sizes.{mostArrays, leastWords, mostWords, cellCount, arrayAt, perGroup, groupCount, groupStride};
 ghost use Rattle.array.specs.Check.{emptyB};
 ghost use Rattle.words.specs.Words.{arraysOf, arrayCount, slotsOf};
 ghost use Rattle.words.specs.Almost.{Header};
@@ -25,8 +32,7 @@ fn first_free(words: &[u32], from: usize, to: usize) -> usize
 {
     let mut a = from;
     while a < to {
-        let at = ARRAY_WORDS * a;
-        if words[at] == 0 {
+        if tag(words, a) == 0 {
             return a;
         }
         a += 1;
@@ -34,44 +40,44 @@ fn first_free(words: &[u32], from: usize, to: usize) -> usize
     0
 }
 
-// How many arrays are used in the 8 groups from g on. No early way out: so the loop reads several counts at once.
+// How many arrays are used in GROUP_STRIDE groups from g on. No early way out: so the loop reads several counts at once.
 fn used_from(words: &[u32], g: usize) -> u32
-    requires { ⌜ (g + 8 ≤ groupCount) × (leastWords ≤ length (now words)) × Header (now words) ⌝ }
-    ensures { λ r. ⌜ r ≡ usedFrom (arraysOf (now (words .entry))) g 8 ⌝ }
+    requires { ⌜ (g + groupStride ≤ groupCount) × (leastWords ≤ length (now words)) × Header (now words) ⌝ }
+    ensures { λ r. ⌜ r ≡ usedFrom (arraysOf (now (words .entry))) g groupStride ⌝ }
 {
     let mut used: u32 = 0;
     let mut k = 0;
-    while k < 8 {
+    while k < GROUP_STRIDE {
         used += words[g + 1 + k];
         k += 1;
     }
     used
 }
 
-// The group from which to search: those before it are full, 8 at a time.
+// The group from which to search: those before it are full, GROUP_STRIDE at a time.
 fn passed(words: &[u32]) -> usize
     requires { ⌜ (leastWords ≤ length (now words)) × (length (now words) ≤ mostWords) × Header (now words) ⌝ }
     ensures { λ r. ⌜ (perGroup * r ≤ arrayCount (now (words .entry)))
         × (firstFree (arraysOf (now (words .entry))) (perGroup * r + 1) (arrayCount (now (words .entry)) - perGroup * r)
         ≡ firstFree (arraysOf (now (words .entry))) 1 (arrayCount (now (words .entry)))) ⌝ }
 {
-    let n = words.len() / ARRAY_WORDS - 1;
+    let n = arrays_in(words);
     let mut g = 0;
-    while PER_GROUP * g + 64 <= n {
-        if used_from(words, g) != 64 {
+    while PER_GROUP * g + STRIDE_ARRAYS <= n {
+        if used_from(words, g) != STRIDE_ARRAYS as u32 {
             return g;
         }
-        g += 8;
+        g += GROUP_STRIDE;
     }
     g
 }
 
-// The first free array, 0 where there is none: full groups of 8 are passed over.
+// The first free array, 0 where there is none: full groups are passed over.
 pub fn find_free(words: &[u32]) -> usize
     requires { ⌜ (leastWords ≤ length (now words)) × (length (now words) ≤ mostWords) × Header (now words) ⌝ }
     ensures { λ r. ⌜ r ≡ firstFree (arraysOf (now (words .entry))) 1 (arrayCount (now (words .entry))) ⌝ }
 {
-    let n = words.len() / ARRAY_WORDS - 1;
+    let n = arrays_in(words);
     let mut g = passed(words);
     while PER_GROUP * g + PER_GROUP <= n {
         let h = g + 1;
@@ -91,7 +97,7 @@ pub fn below(words: &[u32], a: usize, i: usize) -> usize
     requires { ⌜ (arrayAt (a + 1) ≤ length (now words)) × (length (now words) ≤ mostWords) × (i < cellCount) ⌝ }
     ensures { λ r. ⌜ (r ≡ arraysOf (now (words .entry)) .link a i) × (r ≤ mostArrays) ⌝ }
 {
-    array::cell::link_in(words[ARRAY_WORDS * a + CELLS_AT + i])
+    array::cell::link_in(cell(words, a, i))
 }
 
 // Array a holds no route and no link, length 0 aside.
@@ -99,9 +105,7 @@ pub fn empty(words: &[u32], a: usize) -> bool
     requires { ⌜ (arrayAt (a + 1) ≤ length (now words)) × (length (now words) ≤ mostWords) ⌝ }
     ensures { λ r. ⌜ r ≡ emptyB (slotsOf (now (words .entry)) a) (arraysOf (now (words .entry)) .link a) ⌝ }
 {
-    let from = ARRAY_WORDS * a;
-    let to = from + ARRAY_WORDS;
-    array::check::empty(&words[from..to])
+    array::check::empty(block(words, a))
 }
 
 // The free array a, hung below cell i of p.

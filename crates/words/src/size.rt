@@ -3,11 +3,11 @@ use sizes::ARRAY_WORDS;
 use sizes::LEAST_WORDS;
 use sizes::MOST_WORDS;
 ghost use mathlib.Core.Path.{_≡_};
-ghost use mathlib.Core.Bool.{false};
 ghost use lib.ListN.{length};
+ghost use Prim.Native.Nat.{_≤_};
+ghost use Rattle.sizes.specs.Sizes.{leastWords};
 ghost use Rattle.routes.specs.Seen.{misfits};
 ghost use Rattle.words.specs.Words.{arrayCount};
-ghost use Rattle.words.specs.Size.{Sized};
 
 // The number of words is not that of a table.
 pub fn misfit(n: usize) -> bool
@@ -24,8 +24,8 @@ pub fn misfit(n: usize) -> bool
 
 // How many arrays the words hold besides the header.
 pub fn arrays_in(words: &[u32]) -> usize
-    requires { ⌜ misfits (length (now words)) ≡ false ⌝ }
-    ensures { λ r. ⌜ (r ≡ arrayCount (now (words .entry))) × Sized (now (words .entry)) r ⌝ }
+    requires { ⌜ leastWords ≤ length (now words) ⌝ }
+    ensures { λ r. ⌜ r ≡ arrayCount (now (words .entry)) ⌝ }
 {
     words.len() / ARRAY_WORDS - 1
 }

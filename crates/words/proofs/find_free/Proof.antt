@@ -11,16 +11,18 @@ use Rattle.words.proofs.find_free.Statement.{statement}
 use Rattle.words.proofs.find_free.Tie as tie
 
 abbrev Inv-loop : tie.InvT-loop
-Inv-loop words n g₀ g = (perGroup * g ≤ n) × (firstFree (arraysOf words) (perGroup * g + 1) (n - perGroup * g) ≡ firstFree (arraysOf words) 1 n)
+Inv-loop words n g₀ g =
+    let all = arrayCount words in
+    (perGroup * g ≤ all) × (firstFree (arraysOf words) (perGroup * g + 1) (all - perGroup * g) ≡ firstFree (arraysOf words) 1 all)
 
 abbrev μ-loop : tie.MeasureT-loop
 μ-loop words n g₀ g = n - perGroup * g
 
-sub-n : tie.Need-sub-n Inv-loop μ-loop
-sub-n c = omega arith
+arrays-in-requires : tie.Need-arrays-in-requires Inv-loop μ-loop
+arrays-in-requires c κs = omega arith
 
 passed-requires : tie.Need-passed-requires Inv-loop μ-loop
-passed-requires c κs = c .before .pre
+passed-requires c κs = c .before .before .pre
 
 loop-holds : tie.Need-loop-holds Inv-loop μ-loop
 loop-holds c = c .passed .ensures
@@ -64,7 +66,7 @@ first-free-requires c κs = omega arith
 returns : tie.Need-returns Inv-loop μ-loop
 returns c =
     let l = c .before .before .before .before .before .loop in
-    let a = c .before .before .before .before .before .before .before .before .args in
+    let a = c .before .before .before .before .before .before .before .before .before .args in
     group-found (arraysOf (a .words .now)) (l .g) (arrayCount (a .words .now)) (c .before .first-free .result) (omega arith) (c .before .first-free .ensures) (c .if2 .taken) ∙ l .inv .1
 
 add-g : tie.Need-add-g Inv-loop μ-loop
@@ -76,8 +78,8 @@ loop-less c = omega arith
 loop-again : tie.Need-loop-again Inv-loop μ-loop
 loop-again c =
     let l = c .before .before .before .loop in
-    let a = c .before .before .before .before .before .before .args in
-    let a′ = c .before .before .before .before .before .before .pre .2 in (
+    let a = c .before .before .before .before .before .before .before .args in
+    let a′ = c .before .before .before .before .before .before .before .pre .2 in (
       omega arith,
       ⊎-elim
           (λ w. group-past (arraysOf (a .words .now)) (l .g) (arrayCount (a .words .now)) (w .1 .result) (omega arith) (w .1 .ensures) (w .2 .left) ∙ l .inv .1)
@@ -101,8 +103,10 @@ first-free-requires-2 c κs = omega arith
 returns-2 : tie.Need-returns-2 Inv-loop μ-loop
 returns-2 c =
     let l = c .before .before .loop in
-    let a = c .before .before .before .before .before .args in
-    let e : arrayCount (a .words .now) + 1 - (perGroup * l .g + 1) ≡ arrayCount (a .words .now) - perGroup * l .g = omega arith in
+    let a = c .before .before .before .before .before .before .args in
+    let n = c .before .before .before .before .arrays-in in
+    let all = arrayCount (a .words .now) in
+    let e : n .result + 1 - (perGroup * l .g + 1) ≡ all - perGroup * l .g = omega (arith, n .ensures) in
     c .first-free2 .ensures ∙ rw e (l .inv .1)
 
 pub find-free-spec : {M : Type 1} → statement M
@@ -111,7 +115,7 @@ find-free-spec =
     (tie.spec
     Inv-loop
     μ-loop
-    sub-n
+    arrays-in-requires
     passed-requires
     loop-holds
     mul-loop

@@ -17,20 +17,14 @@ abbrev μ-loop : tie.MeasureT-loop
 loop-holds : tie.Need-loop-holds Inv-loop μ-loop
 loop-holds c = (omega arith, omega arith, refl)
 
-mul-at : tie.Need-mul-at Inv-loop μ-loop
-mul-at c = omega arith
-
-mul-if1 : tie.Need-mul-if1 Inv-loop μ-loop
-mul-if1 c = omega arith
-
-shared-slice-read-if1 : tie.Need-shared-slice-read-if1 Inv-loop μ-loop
-shared-slice-read-if1 c = omega arith
+tag-requires : tie.Need-tag-requires Inv-loop μ-loop
+tag-requires c κs = omega arith
 
 returns : tie.Need-returns Inv-loop μ-loop
 returns c =
     let l = c .before .before .before .loop in
-    let a = c .before .before .before .before .args in
-    free-hit (arraysOf (a .words .now)) (l .a) (a .to) (omega arith) (c .if1 .taken) ∙ l .inv .2
+    let a = c .before .before .before .before .before .args in
+    free-hit (arraysOf (a .words .now)) (l .a) (a .to) (omega arith) (sym (c .before .tag .ensures) ∙ c .if1 .taken) ∙ l .inv .2
 
 add-a : tie.Need-add-a Inv-loop μ-loop
 add-a c = omega arith
@@ -41,13 +35,15 @@ loop-less c = omega arith
 loop-again : tie.Need-loop-again Inv-loop μ-loop
 loop-again c =
     let l = c .before .before .before .loop in
-    let a = c .before .before .before .before .args in
-    (omega arith, omega arith, sym (free-miss (arraysOf (a .words .now)) (l .a) (a .to) (omega arith) (c .if1 .left)) ∙ l .inv .2)
+    let a = c .before .before .before .before .before .args in
+    let t = arraysOf (a .words .now) in
+    let next = free-miss t (l .a) (a .to) (omega arith) (λ z. c .if1 .left (c .before .tag .ensures ∙ z)) in
+    (omega arith, omega arith, sym next ∙ l .inv .2)
 
 returns-2 : tie.Need-returns-2 Inv-loop μ-loop
 returns-2 c =
     let l = c .before .loop in
-    let a = c .before .before .args in
+    let a = c .before .before .before .args in
     sym (free-none (arraysOf (a .words .now)) (l .a) (a .to) (omega arith)) ∙ l .inv .2
 
 pub first-free-spec : {M : Type 1} → statement M
@@ -57,9 +53,7 @@ first-free-spec =
     Inv-loop
     μ-loop
     loop-holds
-    mul-at
-    mul-if1
-    shared-slice-read-if1
+    tag-requires
     returns
     add-a
     loop-less
