@@ -13,7 +13,7 @@ use Rattle.tree.specs.Shape.{Child, Hung}
 use Rattle.logic.specs.Tells.{Tells, tells-eq, tells-le, tells-lt, tells-and, tells-or, tells-as, tells-all}
 use Rattle.logic.specs.Every.{allB}
 
-abbrev pub childB : ℕ → ℕ → Arrays → ℕ → ℕ → ℕ → Bool
+abbrev childB : ℕ → ℕ → Arrays → ℕ → ℕ → ℕ → Bool
 childB A L t a i b = (leb b A && (leb 1 (lev t a) && ltb (lev t a) L)) && eqb (t .tag b) (tagOf a i (lev t a + 1))
 
 unfoldable pub linkB : ℕ → ℕ → Arrays → ℕ → ℕ → Bool
@@ -37,7 +37,13 @@ unfolding linkB
 link-tells A L t a i =
     tells-as
     (λ z. same b 0 (λ q _. inl q) (λ n _. ⊎-elim (λ (x : b ≡ 0). inl x)
-    (λ (x : ChildP A L t a i b). inr (record { some = omega arith; within = x .0 .0; used = x .0 .1 .0; deep = x .0 .1 .1; named = x .1 })) z))
+    (λ (x : ChildP A L t a i b). inr (record {
+      some = omega arith;
+      within = x .0 .0;
+      used = x .0 .1 .0;
+      deep = x .0 .1 .1;
+      named = x .1;
+    })) z))
     (λ z. ⊎-elim (λ (x : b ≡ 0). inl x) (λ (x : Child A L t a i b). inr ((x .within, (x .used, x .deep)), x .named)) z)
     (tells-or (tells-eq b 0)
     (tells-and (tells-and (tells-le b A) (tells-and (tells-le 1 (lev t a)) (tells-lt (lev t a) L)))
@@ -50,9 +56,11 @@ pub hung-tells : (A : ℕ) (t : Arrays) (a : ℕ) → Tells (hungB A t a) ((t .t
 unfolding hungB
 hung-tells A t a =
     tells-as
-    (λ z. ⊎-elim (λ (x : t .tag a ≡ 0). inl x) (λ (x : HungP A t a). inr (record { some = x .0 .0; within = x .0 .1; back = x .1 })) z)
+    (λ z. ⊎-elim (λ (x : t .tag a ≡ 0). inl x)
+    (λ (x : HungP A t a). inr (record { some = x .0 .0; within = x .0 .1; back = x .1 })) z)
     (λ z. ⊎-elim (λ (x : t .tag a ≡ 0). inl x) (λ (x : Hung A t a). inr ((x .some, x .within), x .back)) z)
-    (tells-or (tells-eq (t .tag a) 0) (tells-and (tells-and (tells-le 1 (par t a)) (tells-le (par t a) A)) (tells-eq (t .link (par t a) (cell t a)) a)))
+    (tells-or (tells-eq (t .tag a) 0) (tells-and (tells-and (tells-le 1 (par t a)) (tells-le (par t a) A))
+    (tells-eq (t .link (par t a) (cell t a)) a)))
 
 pub links-tells : (A L : ℕ) (t : Arrays) (a : ℕ)
     → Tells (linksB A L t a) ((i : ℕ) → i < cellCount → (t .link a i ≡ 0) ⊎ Child A L t a i (t .link a i))

@@ -10,10 +10,10 @@ use Rattle.logic.specs.Cases.{same}
 use Rattle.sizes.specs.Sizes.{slotEnd, cellCount, levelBound}
 use Rattle.routes.specs.Room.{level}
 use Rattle.array.specs.Tag.{tagOf, levelIn}
-use Rattle.tree.specs.Arrays.{Arrays, par, cell, lev, down, at, node, depthOf, held, usedIn}
+use Rattle.tree.specs.Arrays.{Arrays, par, cell, lev, down, at, node, depthOf, slotOf, held, usedIn}
 use Rattle.tree.specs.Shape.{Child, Hung, Shape, HasSlot, HasLink, Filled}
 use Rattle.tree.specs.Tree.{decode, down-some, down-zero}
-use Rattle.tree.specs.Need.{at-some}
+use Rattle.tree.specs.Need.{at-some, slot-some, slot-within}
 
 -- u is t with the empty array a hung below cell i of p
 pub record Hang (A L : ℕ) (t u : Arrays) (p i a : ℕ) : Type 0 where
@@ -65,20 +65,23 @@ module _ (A L : ℕ) (t u : Arrays) (p i a : ℕ) (h : Hang A L t u p i a) where
           deep = rw (lev-same p (h .parent) other) (h .deep);
           named = rw (lev-same p (h .parent) other) (h .named);
         })))
-        (λ n. rw (h .links c j k b n) (⊎-elim (λ (z : t .link c j ≡ 0). inl z) (λ (z : Child A L t c j (t .link c j)). inr (keeps c j k z)) (s .links c j k w b)));
+        (λ n. rw (h .links c j k b n) (⊎-elim (λ (z : t .link c j ≡ 0). inl z)
+        (λ (z : Child A L t c j (t .link c j)). inr (keeps c j k z)) (s .links c j k w b)));
     tags = λ c k w. same c a
         (λ e _. rw e (inr (record {
           some = rw (par-is (s .levels)) (h .parent);
           within = rw (par-is (s .levels)) (h .inside);
           back = rw (par-is (s .levels), cell-is (s .levels)) (h .on);
         })))
-        (λ n _. ⊎-elim (λ (z : t .tag c ≡ 0). inl (h .tags c (omega arith) n ∙ z)) (λ (z : Hung A t c). inr (hung-keeps c k n z)) (s .tags c k w));
+        (λ n _. ⊎-elim (λ (z : t .tag c ≡ 0). inl (h .tags c (omega arith) n ∙ z)) (λ (z : Hung A t c). inr (hung-keeps c k n z))
+        (s .tags c k w));
   }
     where
       keeps : (c j : ℕ) → 1 ≤ c → Child A L t c j (t .link c j) → Child A L u c j (t .link c j)
       keeps c j k z =
           let n : c ≢ a = λ e. (let q : t .tag c ≡ t .tag a = ap (t .tag) e in omega (arith, z .used, h .free)) in
-          let m : t .link c j ≢ a = λ e. (let q : t .tag (t .link c j) ≡ t .tag a = ap (t .tag) e in omega (arith, z .named, h .free)) in
+          let m : t .link c j ≢ a = λ e. (let q : t .tag (t .link c j) ≡ t .tag a = ap (t .tag) e in
+          omega (arith, z .named, h .free)) in
           record {
             some = z .some;
             within = z .within;
@@ -107,17 +110,21 @@ module _ (A L : ℕ) (t u : Arrays) (p i a : ℕ) (h : Hang A L t u p i a) where
     root = sym (h .tags 1 (omega arith) (omega (arith, h .some))) ∙ s .root;
     links = λ c j k w b. cell-cases c j p i
         (λ e d. rw (e, d) (inl (h .off)))
-        (λ n. rw (← (h .links c j k b n)) (⊎-elim (λ (z : u .link c j ≡ 0). inl z) (λ (z : Child A L u c j (u .link c j)). inr (keeps c j k b n z)) (s .links c j k w b)));
+        (λ n. rw (← (h .links c j k b n)) (⊎-elim (λ (z : u .link c j ≡ 0). inl z)
+        (λ (z : Child A L u c j (u .link c j)). inr (keeps c j k b n z)) (s .links c j k w b)));
     tags = λ c k w. same c a
         (λ e _. rw e (inl (h .free)))
-        (λ n _. ⊎-elim (λ (z : u .tag c ≡ 0). inl (sym (h .tags c (omega arith) n) ∙ z)) (λ (z : Hung A u c). inr (hung-keeps c k n z)) (s .tags c k w));
+        (λ n _. ⊎-elim (λ (z : u .tag c ≡ 0). inl (sym (h .tags c (omega arith) n) ∙ z))
+        (λ (z : Hung A u c). inr (hung-keeps c k n z)) (s .tags c k w));
   }
     where
       keeps : (c j : ℕ) → 1 ≤ c → j < cellCount → (c ≢ p) ⊎ (j ≢ i) → Child A L u c j (u .link c j)
           → Child A L t c j (u .link c j)
       keeps c j k b ne z =
-          let n : c ≢ a = λ e. (let q : u .link c j ≡ 0 = h .links c j k b ne ∙ rw e (h .no-link j b) in omega (arith, z .some)) in
-          let m : u .link c j ≢ a = λ e. (let q : u .tag (u .link c j) ≡ u .tag a = ap (u .tag) e in away (sym (z .named) ∙ q ∙ h .named)) in
+          let n : c ≢ a = λ e. (let q : u .link c j ≡ 0 = h .links c j k b ne ∙ rw e (h .no-link j b) in
+          omega (arith, z .some)) in
+          let m : u .link c j ≢ a = λ e. (let q : u .tag (u .link c j) ≡ u .tag a = ap (u .tag) e in
+          away (sym (z .named) ∙ q ∙ h .named)) in
           record {
             some = z .some;
             within = z .within;
@@ -128,7 +135,8 @@ module _ (A L : ℕ) (t u : Arrays) (p i a : ℕ) (h : Hang A L t u p i a) where
         where
           away : tagOf c j (lev u c + 1) ≡ tagOf p i (lev t p + 1) → ⊥
           away e =
-              let d = decode c p j i (lev u c + 1) (lev t p + 1) b (h .cells) (omega (arith, z .deep, s .levels)) (omega (arith, h .deep, s .levels)) e in
+              let d = decode c p j i (lev u c + 1) (lev t p + 1) b (h .cells) (omega (arith, z .deep, s .levels))
+              (omega (arith, h .deep, s .levels)) e in
               ⊎-elim (λ (m : c ≢ p). m (d .0)) (λ (m : j ≢ i). m (d .1)) ne
 
       hung-keeps : (c : ℕ) → 2 ≤ c → c ≢ a → Hung A u c → Hung A t c
@@ -151,7 +159,8 @@ module _ (A L : ℕ) (t u : Arrays) (p i a : ℕ) (h : Hang A L t u p i a) where
   node-cases s v (suc k) = ⊎-elim
       (λ (e : node u (v / 256) k ≡ node t (v / 256) k). rw e (keep (node t (v / 256) k) (v % 256) (omega arith)))
       (λ (e : (node u (v / 256) k ≡ a) × (node t (v / 256) k ≡ 0)).
-      rw (e .0, e .1) (inl (down-some u a (v % 256) (omega (arith, h .some)) ∙ h .links a (v % 256) (omega (arith, h .some)) (omega arith) (inl (λ q. other (sym q))) ∙ h .no-link (v % 256) (omega arith) ∙ sym (down-zero t 0 (v % 256) refl))))
+      rw (e .0, e .1) (inl (down-some u a (v % 256) (omega (arith, h .some)) ∙ h .links a (v % 256) (omega (arith, h .some))
+      (omega arith) (inl (λ q. other (sym q))) ∙ h .no-link (v % 256) (omega arith) ∙ sym (down-zero t 0 (v % 256) refl))))
       (node-cases s (v / 256) k)
     where
       keep : (b j : ℕ) → j < cellCount → (down u b j ≡ down t b j) ⊎ ((down u b j ≡ a) × (down t b j ≡ 0))
@@ -159,7 +168,8 @@ module _ (A L : ℕ) (t u : Arrays) (p i a : ℕ) (h : Hang A L t u p i a) where
           same b 0
           (λ z _. inl (down-zero u b j z ∙ sym (down-zero t b j z)))
           (λ n _. (let g : 1 ≤ b = omega arith in
-          rw (down-some u b j g, down-some t b j g) (cell-cases b j p i (λ x y. rw (x, y) (inr (h .on, h .off))) (λ m. inl (h .links b j g w m)))))
+          rw (down-some u b j g, down-some t b j g)
+          (cell-cases b j p i (λ x y. rw (x, y) (inr (h .on, h .off))) (λ m. inl (h .links b j g w m)))))
 
   at-same : (b s : ℕ) → 1 ≤ s → s < slotEnd → at u b s ≡ at t b s
   unfolding at
@@ -173,9 +183,9 @@ module _ (A L : ℕ) (t u : Arrays) (p i a : ℕ) (h : Hang A L t u p i a) where
   unfolding held at
   hang-held s v l =
       let d = depthOf l in
-      let x = 2 ^ d + v % 2 ^ d in
-      let lo : 1 ≤ x = omega (arith, pow-pos d) in
-      let hi : x < slotEnd = omega (arith, mod-lt v (pow-pos d), pow-mono {i = d} {j = 8} (omega arith)) in
+      let x = slotOf v l in
+      let lo = slot-some v l in
+      let hi = slot-within v l in
       ⊎-elim
       (λ (e : node u (v / 2 ^ d) (level l) ≡ node t (v / 2 ^ d) (level l)). rw e (at-same (node t (v / 2 ^ d) (level l)) x lo hi))
       (λ (e : (node u (v / 2 ^ d) (level l) ≡ a) × (node t (v / 2 ^ d) (level l) ≡ 0)). rw (e .0, e .1) (at-empty x lo hi))
@@ -188,16 +198,34 @@ module _ (A L : ℕ) (t u : Arrays) (p i a : ℕ) (h : Hang A L t u p i a) where
       same c p
       (λ e _. rw e (inr (record { i = i; high = h .cells; some = omega (arith, h .on, h .some) })))
       (λ m _. ⊎-elim
-      (λ (z : HasSlot t c). inl (record { s = z .s; low = z .low; high = z .high; some = rw (h .slots c (z .s) (omega arith) (omega (arith, z .low)) (z .high)) (z .some) }))
-      (λ (z : HasLink t c). inr (record { i = z .i; high = z .high; some = rw (h .links c (z .i) (omega arith) (z .high) (inl m)) (z .some) }))
+      (λ (z : HasSlot t c). inl (record {
+        s = z .s;
+        low = z .low;
+        high = z .high;
+        some = rw (h .slots c (z .s) (omega arith) (omega (arith, z .low)) (z .high)) (z .some);
+      }))
+      (λ (z : HasLink t c). inr (record {
+        i = z .i;
+        high = z .high;
+        some = rw (h .links c (z .i) (omega arith) (z .high) (inl m)) (z .some);
+      }))
       (f c k w m (rw (← (h .tags c (omega arith) n)) x)))
 
   pub unhang-filled : Filled A u a → Filled A t p
   unhang-filled f c k w m x =
       let n : c ≢ a = λ e. (let q : t .tag c ≡ t .tag a = ap (t .tag) e in omega (arith, h .free)) in
       ⊎-elim
-      (λ (z : HasSlot u c). inl (record { s = z .s; low = z .low; high = z .high; some = rw (← (h .slots c (z .s) (omega arith) (omega (arith, z .low)) (z .high))) (z .some) }))
-      (λ (z : HasLink u c). inr (record { i = z .i; high = z .high; some = rw (← (h .links c (z .i) (omega arith) (z .high) (inl m))) (z .some) }))
+      (λ (z : HasSlot u c). inl (record {
+        s = z .s;
+        low = z .low;
+        high = z .high;
+        some = rw (← (h .slots c (z .s) (omega arith) (omega (arith, z .low)) (z .high))) (z .some);
+      }))
+      (λ (z : HasLink u c). inr (record {
+        i = z .i;
+        high = z .high;
+        some = rw (← (h .links c (z .i) (omega arith) (z .high) (inl m))) (z .some);
+      }))
       (f c k w n (rw (h .tags c (omega arith) n) x))
 
   -- of the arrays lo + 1 .. lo + n

@@ -44,7 +44,8 @@ module _ (A L : ℕ) (t : Arrays) (s : Shape A L t) (full : Filled A t 0) where
       (λ q e. rw (e, heads-in (8 * L) (8 * k) z (held t) wide (below A L t s full (L - k) k z h (omega arith) (omega arith) b)))
 
   -- a route of level k, its first 8 * k bits being q
-  module _ (q k d x h : ℕ) (deep : d ≤ 8) (own : (1 ≤ d) ⊎ (k ≡ 0)) (top : k < L) (head : q < 2 ^ (8 * k)) (small : x < 2 ^ d) where
+  module _ (q k d x h : ℕ) (deep : d ≤ 8) (own : (1 ≤ d) ⊎ (k ≡ 0)) (top : k < L) (head : q < 2 ^ (8 * k))
+      (small : x < 2 ^ d) where
     abbrev r : Route
     r = routeOf (8 * L - (8 * k + d)) (q * 2 ^ d + x) (8 * k + d) h
 
@@ -63,7 +64,8 @@ module _ (A L : ℕ) (t : Arrays) (s : Shape A L t) (full : Filled A t 0) where
     new-to (suc j) w =
         let z = q / 2 ^ (8 * (k - suc j)) in
         let e : 8 * (k - suc j) + 8 ≡ 8 * (k - j) = omega arith in
-        let f : q / 2 ^ (8 * (k - suc j)) / 256 ≡ q / 2 ^ (8 * (k - j)) = shr-shr q (8 * (k - suc j)) 8 ∙ ap (λ (n : ℕ). q / 2 ^ n) e in
+        let f : q / 2 ^ (8 * (k - suc j)) / 256 ≡ q / 2 ^ (8 * (k - j)) = shr-shr q (8 * (k - suc j)) 8
+        ∙ ap (λ (n : ℕ). q / 2 ^ n) e in
         let o : 1 ≤ d = ⊎-elim (λ (y : 1 ≤ d). y) (λ (y : k ≡ 0). absurd (omega arith)) own in
         let g : 8 * suc j + 8 * (k - suc j) ≡ 8 * k = omega arith in
         let b : z < 2 ^ (8 * suc j) = shr-lt (8 * suc j) (8 * (k - suc j)) (rw g head) in
@@ -106,13 +108,16 @@ module _ (A L : ℕ) (t : Arrays) (s : Shape A L t) where
       let f : 8 * suc m ≡ 8 + 8 * m = omega arith in
       let g : v / 2 ^ (8 * suc m) ≡ v / 256 / 2 ^ (8 * m) = ap (λ (n : ℕ). v / 2 ^ n) f ∙ sym (shr-shr v 8 (8 * m)) in
       let y : node t (v / 256 / 2 ^ (8 * m)) k ≡ 0 = rw g at z in
-      let o : node t v (suc (m + k)) ≡ 0 = same (node t v (suc (m + k))) 0 (λ q _. q) (λ q _. absurd (omega (arith, node-above A L t s m (v / 256) k (node-up A L t s v (m + k) (omega arith))))) in
+      let o : node t v (suc (m + k)) ≡ 0 = same (node t v (suc (m + k))) 0 (λ q _. q)
+      (λ q _. absurd (omega (arith, node-above A L t s m (v / 256) k (node-up A L t s v (m + k) (omega arith))))) in
       rw (e, g, eq-eqb (node t v (suc (m + k))) 0 o) (omega (arith, missing-past m k (v / 256) y))
 
   -- all levels down to j are there, and none below
-  pub missing-depth : (m j v : ℕ) → 1 ≤ node t (v / 2 ^ (8 * suc m)) j → node t (v / 2 ^ (8 * m)) (suc j) ≡ 0 → missing t v (m + suc j) ≡ suc m
+  pub missing-depth : (m j v : ℕ) → 1 ≤ node t (v / 2 ^ (8 * suc m)) j → node t (v / 2 ^ (8 * m)) (suc j) ≡ 0
+      → missing t v (m + suc j) ≡ suc m
   unfolding missing
   missing-depth m j v p z =
       let f : 8 * suc m ≡ 8 * m + 8 = omega arith in
       let g : v / 2 ^ (8 * suc m) ≡ v / 2 ^ (8 * m) / 256 = ap (λ (n : ℕ). v / 2 ^ n) f ∙ sym (shr-shr v (8 * m) 8) in
-      missing-past m (suc j) v z ∙ rw (eq-eqb (node t (v / 2 ^ (8 * m)) (suc j)) 0 z) (omega (arith, missing-none j (v / 2 ^ (8 * m) / 256) (rw g at p)))
+      missing-past m (suc j) v z ∙ rw (eq-eqb (node t (v / 2 ^ (8 * m)) (suc j)) 0 z)
+      (omega (arith, missing-none j (v / 2 ^ (8 * m) / 256) (rw g at p)))

@@ -4,19 +4,20 @@ use mathlib.Core.Logic.{⊎-elim}
 use mathlib.Core.Bool.{Bool, true, false, cond, false≢true}
 use mathlib.Core.List.{List, [], _∷_}
 use Prim.Native.Nat.{ℕ, zero, suc, _+_, _-_, _*_, _/_, _%_, _^_, _≤_, _<_}
-use native.Mathlib.Nat.{pow-succ', mul-le-mul-right, le-refl}
+use native.Mathlib.Nat.{pow-succ', mul-le-mul-right, le-refl, mod-lt}
 use native.Mathlib.Omega.{arith}
 use lib.Dec.{eqb}
-use lib.Pow.{pow-add, pow-mono, shr-shr, shr-lt, high, low}
+use lib.Pow.{pow-pos, pow-add, pow-mono, shr-shr, shr-lt, high, low}
 use borrow.Author.Tests.{eq-eqb, ne-eqb}
 use Rattle.logic.specs.Cases.{same, bool, less}
 use Rattle.sizes.specs.Sizes.{slotEnd, cellCount}
 use Rattle.routes.specs.Collect.{routes}
+use Rattle.array.specs.Place.{slot-low, slot-high}
 use Rattle.routes.specs.Room.{level, mem, distinct, heads, needTo}
 use Rattle.logic.specs.Bools.{or-left, or-right}
 use Rattle.laws.specs.Room.{distinct-mem}
 use Rattle.laws.specs.Heads.{Below, heads-in, heads-out}
-use Rattle.tree.specs.Arrays.{Arrays, lev, at, node, depthOf, held, usedIn}
+use Rattle.tree.specs.Arrays.{Arrays, lev, at, node, depthOf, slotOf, held, usedIn}
 use Rattle.tree.specs.Shape.{Shape, HasSlot, HasLink, Filled}
 use Rattle.tree.specs.Tree.{path, node-level, node-suc, node-up, node-inj, down-some, reach, used-level, pow8}
 
@@ -34,7 +35,12 @@ binary (suc m) s h w =
     same s 1
     (λ e _. record { d = 0; x = 0; whole = e; less = omega arith })
     (λ n _. (let u = binary m (s / 2) (omega arith) (omega arith) in
-    record { d = suc (u .d); x = 2 * u .x + s % 2; whole = omega (arith, u .whole, pow-succ' 2 (u .d)); less = omega (arith, u .less, pow-succ' 2 (u .d)) }))
+    record {
+      d = suc (u .d);
+      x = 2 * u .x + s % 2;
+      whole = omega (arith, u .whole, pow-succ' 2 (u .d));
+      less = omega (arith, u .less, pow-succ' 2 (u .d));
+    }))
 
 depth-low : (d x s : ℕ) → s ≡ 2 ^ d + x → x < 2 ^ d → 2 ≤ s → 1 ≤ d
 depth-low zero x s e h w = absurd (omega arith)
@@ -43,7 +49,8 @@ depth-low (suc d) x s e h w = omega arith
 pub depth-high : (d x s : ℕ) → s ≡ 2 ^ d + x → s < slotEnd → d ≤ 8
 depth-high d x s e h = less d 9 (λ l _. omega arith) (λ l _. absurd (omega (arith, pow-mono {i = 9} {j = d} l)))
 
-pub held-at : (t : Arrays) (v k d x : ℕ) → 1 ≤ d → d ≤ 8 → x < 2 ^ d → held t (v * 2 ^ d + x) (8 * k + d) ≡ at t (node t v k) (2 ^ d + x)
+pub held-at : (t : Arrays) (v k d x : ℕ) → 1 ≤ d → d ≤ 8 → x < 2 ^ d
+    → held t (v * 2 ^ d + x) (8 * k + d) ≡ at t (node t v k) (2 ^ d + x)
 unfolding held
 held-at t v k d x h w b =
     let e : 8 * k + d - 8 * ((8 * k + d - 1) / 8) ≡ d = omega arith in
@@ -54,6 +61,13 @@ pub at-some : (t : Arrays) (a s : ℕ) → 1 ≤ a → at t a s ≡ t .slot a s
 unfolding at
 at-some t zero s h = absurd (omega arith)
 at-some t (suc a) s h = refl
+
+-- the slot of a prefix is one of those that an array has
+pub slot-some : (v l : ℕ) → 1 ≤ slotOf v l
+slot-some v l = slot-low (depthOf l) (v % 2 ^ depthOf l) (omega arith) (mod-lt v (pow-pos (depthOf l)))
+
+pub slot-within : (v l : ℕ) → slotOf v l < slotEnd
+slot-within v l = slot-high (depthOf l) (v % 2 ^ depthOf l) (omega arith) (mod-lt v (pow-pos (depthOf l)))
 
 at-pos : (t : Arrays) (a s : ℕ) → 1 ≤ at t a s → 1 ≤ a
 unfolding at
@@ -78,7 +92,8 @@ below-up W k v i f h b =
     }
 
 -- a slot of the array of the first 8 * k bits v
-below-slot : (L : ℕ) (t : Arrays) (k v : ℕ) → k < L → 1 ≤ node t v k → v < 2 ^ (8 * k) → HasSlot t (node t v k) → Below (8 * L) (8 * k) v (held t)
+below-slot : (L : ℕ) (t : Arrays) (k v : ℕ) → k < L → 1 ≤ node t v k → v < 2 ^ (8 * k) → HasSlot t (node t v k)
+    → Below (8 * L) (8 * k) v (held t)
 below-slot L t k v w p b z =
     let n = binary slotEnd (z .s) (omega (arith, z .low)) (omega (arith, z .high)) in
     let d = n .d in
@@ -109,12 +124,14 @@ module _ (A L : ℕ) (t : Arrays) (s : Shape A L t) (full : Filled A t 0) where
       absurd (omega (arith, u .level, used-level A L t s (node t v k) (u .some) (u .within) (omega (arith, u .level)) .1))
   below (suc m) k v h e p b =
       let u = node-level A L t s v k p in
-      let g : 2 ≤ node t v k = same (node t v k) 1 (λ q _. absurd (omega (arith, s .root, u .level, ap (t .tag) q))) (λ n _. omega arith) in
+      let g : 2 ≤ node t v k = same (node t v k) 1 (λ q _. absurd (omega (arith, s .root, u .level, ap (t .tag) q)))
+      (λ n _. omega arith) in
       ⊎-elim
       (λ (z : HasSlot t (node t v k)). below-slot L t k v (omega arith) p b z)
       (λ (z : HasLink t (node t v k)).
       below-up (8 * L) k v (z .i) (held t) (z .high)
-      (below m (suc k) (v * 256 + z .i) (omega arith) (omega arith) (rw (node-child t v k (z .i) (z .high) p) (z .some)) (omega (arith, pow8 k, z .high))))
+      (below m (suc k) (v * 256 + z .i) (omega arith) (omega arith) (rw (node-child t v k (z .i) (z .high) p) (z .some))
+      (omega (arith, pow8 k, z .high))))
       (full (node t v k) g (u .within) (omega arith) (omega (arith, u .level)))
 
 -- ---- a held prefix has the arrays above it
@@ -210,7 +227,8 @@ path-in t k (suc n) a h w e =
     same a (suc n)
     (λ q _. rw (q, eq-eqb (lev t (suc n)) (suc k) (rw q at e), eq-eqb (path t k (suc n)) (path t k (suc n)) refl))
     (λ q _. bool (eqb (lev t (suc n)) (suc k))
-    (λ d. rw d (or-right (eqb (path t k (suc n)) (path t k a)) (mem (path t k a) (pathsAt t k n)) (path-in t k n a h (omega arith) e)))
+    (λ d. rw d (or-right (eqb (path t k (suc n)) (path t k a)) (mem (path t k a) (pathsAt t k n))
+    (path-in t k n a h (omega arith) e)))
     (λ d. rw d (path-in t k n a h (omega arith) e)))
 
 iff : (a b : Bool) → (a ≡ true → b ≡ true) → (b ≡ true → a ≡ true) → a ≡ b
@@ -271,7 +289,8 @@ module _ (A L : ℕ) (t : Arrays) (s : Shape A L t) where
             let p = path-out t k A z m in
             let r = reach A L t s k (p .a) (p .some) (p .within) (p .level) in
             let n : 1 ≤ node t z k = rw (← (p .is), r .leads) (p .some) in
-            heads-in (8 * L) (8 * k) z (held t) wide (below A L t s full (L - k) k z h (omega arith) n (rw (← (p .is)) (r .small)))
+            heads-in (8 * L) (8 * k) z (held t) wide
+            (below A L t s full (L - k) k z h (omega arith) n (rw (← (p .is)) (r .small)))
 
         from : mem z (heads (8 * L) (8 * k) (routes (8 * L) (held t))) ≡ true → mem z (pathsAt t k A) ≡ true
         from m =
@@ -288,7 +307,8 @@ module _ (A L : ℕ) (t : Arrays) (s : Shape A L t) where
     unfolding needTo
     need-to zero h = omega (arith, root-count)
     need-to (suc j) h =
-        let e = distinct-mem (pathsAt t (suc j) A) (heads (8 * L) (8 * suc j) (routes (8 * L) (held t))) (λ z. heads-paths (suc j) z (omega arith) h) in
+        let e = distinct-mem (pathsAt t (suc j) A) (heads (8 * L) (8 * suc j) (routes (8 * L) (held t)))
+        (λ z. heads-paths (suc j) z (omega arith) h) in
         omega (arith, need-to j (omega arith), distinct-paths (suc j) A (le-refl A), e)
 
     -- the arrays used are as many as the list needs

@@ -4,11 +4,11 @@ use mathlib.Core.Logic.{_≢_, inl, inr, ⊎-elim}
 use mathlib.Core.Bool.{cond}
 use mathlib.Core.List.{List, [], _∷_}
 use Prim.Native.Nat.{ℕ, zero, suc, _+_, _-_, _*_, _/_, _%_, _^_, _≤_, _<_}
-use native.Mathlib.Nat.{mod-lt, mul-le-mul-right}
+use native.Mathlib.Nat.{mul-le-mul-right}
 use native.Mathlib.Omega.{arith}
 use lib.Dec.{eqb}
 use lib.ListN.{length}
-use lib.Pow.{pow-pos, pow-mono, pow-add}
+use lib.Pow.{pow-add}
 use borrow.Author.Tests.{eq-eqb, ne-eqb}
 use Rattle.sizes.specs.Sizes.{lastSlot, slotEnd}
 use Rattle.routes.specs.Route.{Route, key, hopAt, remove}
@@ -17,12 +17,11 @@ use Rattle.laws.specs.Sorted.{hop-skip}
 use Rattle.laws.specs.Collect.{collect-none, routes-hop}
 use Rattle.routes.specs.Collect.{routes, routeOf}
 use Rattle.array.specs.Taken.{taken}
-use Rattle.routes.specs.Room.{level}
-use Rattle.tree.specs.Arrays.{Arrays, lev, node, at, held, depthOf}
+use Rattle.tree.specs.Arrays.{Arrays, lev, held}
 use Rattle.tree.specs.Shape.{Shape}
-use Rattle.tree.specs.Tree.{node-level, used-level, reach, path}
-use Rattle.tree.specs.Need.{Binary, binary, depth-high, at-some}
-use Rattle.tree.specs.Slot.{Slotted, Place, same-shape, at-none, held-place, slotted-remove}
+use Rattle.tree.specs.Tree.{used-level, reach, path}
+use Rattle.tree.specs.Need.{Binary, binary, depth-high}
+use Rattle.tree.specs.Slot.{Slotted, Place, same-shape, held-cases, held-place, slotted-remove}
 
 -- how many slots of array a are taken, if it is used, and how many of the arrays 1 .. n
 abbrev pub takenIn : Arrays → ℕ → ℕ
@@ -36,7 +35,8 @@ takenTo t (suc n) = takenTo t n + takenIn t (suc n)
 
 length-remove : (k : ℕ) (rs : List Route) → hopAt rs k ≢ 0 → length rs ≡ suc (length (remove k rs))
 length-remove k [] n = absurd (n refl)
-length-remove k (r ∷ rs) n = same (key r) k (λ e q. rw q) (λ m q. rw q (ap suc (length-remove k rs (λ z. n (hop-skip r rs k m ∙ z)))))
+length-remove k (r ∷ rs) n =
+    same (key r) k (λ e q. rw q) (λ m q. rw q (ap suc (length-remove k rs (λ z. n (hop-skip r rs k m ∙ z)))))
 
 -- ---- a taken slot
 
@@ -51,7 +51,8 @@ unfolding taken
 one f zero h = absurd (h refl)
 one f (suc n) h =
     same (f (n + 1)) 0
-    (λ z e. let o = one f n (λ q. h (rw (e, q))) in record { s = o .s; low = o .low; high = omega (arith, o .high); some = o .some })
+    (λ z e. let o = one f n (λ q. h (rw (e, q))) in
+    record { s = o .s; low = o .low; high = omega (arith, o .high); some = o .some })
     (λ z e. record { s = n + 1; low = omega arith; high = omega arith; some = z })
 
 taken-none : (f : ℕ → ℕ) (n s : ℕ) → taken f n ≡ 0 → 1 ≤ s → s ≤ n → f s ≡ 0
@@ -153,19 +154,13 @@ First A t = (a : ℕ) → 1 ≤ a → a ≤ A → 2 ≤ lev t a → t .slot a 1 
 
 module _ (A L : ℕ) where
   held-none : (t : Arrays) → Shape A L t → takenTo t A ≡ 0 → (v l : ℕ) → held t v l ≡ 0
-  unfolding held
-  held-none t sh e v l =
-      let d = depthOf l in
-      let a = node t (v / 2 ^ d) (level l) in
-      let s = 2 ^ d + v % 2 ^ d in
-      same a 0
-      (λ z _. at-none t a s z)
-      (λ n _. (let p = node-level A L t sh (v / 2 ^ d) (level l) (omega arith) in
-      let hi : s < slotEnd = omega (arith, mod-lt v (pow-pos d), pow-mono {i = d} {j = 8} (omega arith)) in
-      at-some t a s (p .some) ∙ none t A a s e (p .some) (p .within) (λ z. omega (arith, p .level)) (omega (arith, pow-pos d)) hi))
+  held-none t sh e =
+      held-cases A L t sh (λ h. h ≡ 0) refl
+      (λ a s some within used low high. none t A a s e some within (λ z. omega arith) low high)
 
   -- where a taken slot stands
-  place : (t : Arrays) → Shape A L t → First A t → (o : Some t A) → (b : Binary (o .slot .s)) → Place A L t (o .a) (path t (lev t (o .a) - 1) (o .a)) (lev t (o .a) - 1) (b .d) (b .x)
+  place : (t : Arrays) → Shape A L t → First A t → (o : Some t A) → (b : Binary (o .slot .s))
+      → Place A L t (o .a) (path t (lev t (o .a) - 1) (o .a)) (lev t (o .a) - 1) (b .d) (b .x)
   place t sh fi o b =
       let lv = used-level A L t sh (o .a) (o .low) (o .high) (omega (arith, o .used)) in
       let r = reach A L t sh (lev t (o .a) - 1) (o .a) (o .low) (o .high) (omega arith) in
@@ -191,21 +186,30 @@ module _ (A L : ℕ) where
   taken-routes zero t sh fi e = rw (collect-none (held t) (held-none t sh e) (8 * L) 0 0)
   taken-routes (suc m) t sh fi e =
       let o = some t A (λ z. omega arith) in
-      let b = binary slotEnd (o .slot .s) (o .slot .low) (omega (arith, o .slot .high)) in
+      let a = o .a in
+      let s = o .slot .s in
+      let u = emptied t a s in
+      let b = binary slotEnd s (o .slot .low) (omega (arith, o .slot .high)) in
+      let d = b .d in
+      let x = b .x in
       let p = place t sh fi o b in
-      let k = lev t (o .a) - 1 in
-      let q = path t k (o .a) in
-      let lv = used-level A L t sh (o .a) (o .low) (o .high) (omega (arith, o .used)) in
+      let k = lev t a - 1 in
+      let q = path t k a in
+      let lv = used-level A L t sh a (o .low) (o .high) (omega (arith, o .used)) in
       let w : 8 * L < 256 = omega (arith, sh .levels) in
-      let f : 8 * k + b .d ≤ 8 * L = omega (arith, p .deep) in
-      let g : Slotted t (emptied t (o .a) (o .slot .s)) (o .a) (2 ^ b .d + b .x) 0 = rw (← (b .whole)) (slotted t (o .a) (o .slot .s)) in
-      let x = slotted-remove A L t (emptied t (o .a) (o .slot .s)) (o .a) q k (b .d) (b .x) 0 sh p g (8 * L) w f refl in
-      let fits : q * 2 ^ b .d + b .x < 2 ^ (8 * k + b .d) = omega (arith, pow-add 2 (8 * k) (b .d), mul-le-mul-right (2 ^ b .d) (p .head), p .small) in
-      let y = routes-hop (8 * L) w (held t) (q * 2 ^ b .d + b .x) (8 * k + b .d) f fits ∙ held-place A L t (o .a) q k (b .d) (b .x) p in
-      let z : t .slot (o .a) (2 ^ b .d + b .x) ≢ 0 = rw (← (b .whole)) (o .slot .some) in
-      let i = taken-routes m (emptied t (o .a) (o .slot .s)) (same-shape t (emptied t (o .a) (o .slot .s)) (λ c h. refl) (λ c i h v. refl) A L sh) (first t o fi)
-      (omega (arith, total-freed t (o .a) (o .slot .s) A (o .low) (o .high) (o .used) (o .slot .low) (o .slot .high) (o .slot .some))) in
-      ap suc (i ∙ ap length x) ∙ sym (length-remove (key (routeOf (8 * L - (8 * k + b .d)) (q * 2 ^ b .d + b .x) (8 * k + b .d) 0)) (routes (8 * L) (held t)) (λ n. z (sym y ∙ n)))
+      let f : 8 * k + d ≤ 8 * L = omega (arith, p .deep) in
+      let g : Slotted t u a (2 ^ d + x) 0 = rw (← (b .whole)) (slotted t a s) in
+      let less = slotted-remove A L t u a q k d x 0 sh p g (8 * L) w f refl in
+      let fits : q * 2 ^ d + x < 2 ^ (8 * k + d) =
+      omega (arith, pow-add 2 (8 * k) d, mul-le-mul-right (2 ^ d) (p .head), p .small) in
+      let y = routes-hop (8 * L) w (held t) (q * 2 ^ d + x) (8 * k + d) f fits ∙ held-place A L t a q k d x p in
+      let z : t .slot a (2 ^ d + x) ≢ 0 = rw (← (b .whole)) (o .slot .some) in
+      let shape = same-shape t u (λ c h. refl) (λ c i h v. refl) A L sh in
+      let one = total-freed t a s A (o .low) (o .high) (o .used) (o .slot .low) (o .slot .high) (o .slot .some) in
+      let i = taken-routes m u shape (first t o fi) (omega (arith, one)) in
+      ap suc (i ∙ ap length less)
+      ∙ sym (length-remove (key (routeOf (8 * L - (8 * k + d)) (q * 2 ^ d + x) (8 * k + d) 0)) (routes (8 * L) (held t))
+      (λ n. z (sym y ∙ n)))
     where
       first : (t : Arrays) (o : Some t A) → First A t → First A (emptied t (o .a) (o .slot .s))
       first t o fi c h w l =

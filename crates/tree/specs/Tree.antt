@@ -40,7 +40,8 @@ pub record Level (A : ℕ) (t : Arrays) (a k : ℕ) : Type 0 where
 module _ (A L : ℕ) (t : Arrays) (s : Shape A L t) where
   -- a link that leads somewhere
   child : (a i : ℕ) → 1 ≤ a → a ≤ A → i < cellCount → 1 ≤ t .link a i → Child A L t a i (t .link a i)
-  child a i h w j p = ⊎-elim (λ (z : t .link a i ≡ 0). absurd (omega arith)) (λ (c : Child A L t a i (t .link a i)). c) (s .links a i h w j)
+  child a i h w j p =
+      ⊎-elim (λ (z : t .link a i ≡ 0). absurd (omega arith)) (λ (c : Child A L t a i (t .link a i)). c) (s .links a i h w j)
 
   pub hung : (a : ℕ) → 2 ≤ a → a ≤ A → 1 ≤ t .tag a → Hung A t a
   hung a h w p = ⊎-elim (λ (z : t .tag a ≡ 0). absurd (omega arith)) (λ (c : Hung A t a). c) (s .tags a h w)
@@ -73,7 +74,8 @@ module _ (A L : ℕ) (t : Arrays) (s : Shape A L t) where
   pub node-tag : (v k : ℕ) → 1 ≤ node t v (suc k) → t .tag (node t v (suc k)) ≡ tagOf (node t (v / 256) k) (v % 256) (k + 2)
   node-tag v k p =
       let u = node-level (v / 256) k (node-up v k p) in
-      let e : node t v (suc k) ≡ t .link (node t (v / 256) k) (v % 256) = node-suc t v k ∙ down-some t (node t (v / 256) k) (v % 256) (u .some) in
+      let e : node t v (suc k) ≡ t .link (node t (v / 256) k) (v % 256) = node-suc t v k ∙ down-some t (node t (v / 256) k)
+      (v % 256) (u .some) in
       let c = child (node t (v / 256) k) (v % 256) (u .some) (u .within) (omega arith) (omega arith) in
       rw e (omega (arith, c .named, u .level))
 
@@ -85,7 +87,8 @@ module _ (A L : ℕ) (t : Arrays) (s : Shape A L t) where
       let y = node-tag w k (omega arith) in
       let z : t .tag (node t v (suc k)) ≡ t .tag (node t w (suc k)) = ap (t .tag) e in
       let l = node-level v (suc k) p .level in
-      let d = decode (node t (v / 256) k) (node t (w / 256) k) (v % 256) (w % 256) (k + 2) (k + 2) (omega arith) (omega arith) (omega arith) (omega arith) (sym x ∙ z ∙ y) in
+      let d = decode (node t (v / 256) k) (node t (w / 256) k) (v % 256) (w % 256) (k + 2) (k + 2) (omega arith) (omega arith)
+      (omega arith) (omega arith) (sym x ∙ z ∙ y) in
       let q = meet k (v / 256) (w / 256) (node-up v k p) (d .0) (omega (arith, pow8 k)) (omega (arith, pow8 k)) in
       omega (arith, d .1)
 

@@ -5,7 +5,6 @@ use mathlib.Core.Bool.{false}
 use mathlib.Core.List.{List, []}
 use Prim.Native.Nat.{ℕ, zero, suc, _+_, _-_, _*_, _/_, _%_, _^_, _≤_, _<_}
 use native.Mathlib.Omega.{arith}
-use lib.Pow.{pow-pos}
 use lib.ListN.{length, getD, set, replicate, length-set, length-replicate, getD-replicate, List·getD-eq-default}
 use lib.Seq.{getD-set-same, getD-set-other}
 use Rattle.logic.specs.Cases.{same, less}
@@ -15,8 +14,8 @@ use Rattle.laws.specs.Collect.{collect-none}
 use Rattle.routes.specs.Room.{level}
 use Rattle.array.specs.Cell.{bestIn, link-blank}
 use Rattle.array.specs.Right.{right-none}
-use Rattle.tree.specs.Arrays.{Arrays, lev, node, held, depthOf, usedIn}
-use Rattle.tree.specs.Need.{at-some}
+use Rattle.tree.specs.Arrays.{Arrays, lev, node, held, depthOf, slotOf, usedIn}
+use Rattle.tree.specs.Need.{at-some, slot-some}
 use Rattle.tree.specs.Slot.{at-none}
 use Rattle.words.specs.Words.{arraysOf, slotsOf, bestsOf}
 use Rattle.words.specs.Almost.{Almost, Table}
@@ -33,7 +32,9 @@ module _ (n : ℕ) (low : leastWords ≤ n) where
   z = replicate n 0
 
   zero-word : (k : ℕ) → _≡_ {A = ℕ} (getD (replicate n 0) k 0) 0
-  zero-word k = less k n (λ h _. getD-replicate n k 0 0 h) (λ h _. List·getD-eq-default (replicate n 0) 0 {n = k} (rw (length-replicate {A = ℕ} n 0) h))
+  zero-word k =
+      less k n (λ h _. getD-replicate n k 0 0 h)
+      (λ h _. List·getD-eq-default (replicate n 0) 0 {n = k} (rw (length-replicate {A = ℕ} n 0) h))
 
   pub cleared-length : length (cleared n) ≡ n
   unfolding cleared
@@ -113,13 +114,14 @@ module _ (n : ℕ) (low : leastWords ≤ n) where
     rest = λ k h b. cleared-word k (λ q. omega arith) (λ q. omega arith) (λ q. omega arith);
   }
 
-  pub cleared-held : (v l : ℕ) → held t v l ≡ 0
+  cleared-held : (v l : ℕ) → held t v l ≡ 0
   unfolding held
   cleared-held v l =
-      let d = depthOf l in
-      same (node t (v / 2 ^ d) (level l)) 0
-      (λ e _. at-none t (node t (v / 2 ^ d) (level l)) (2 ^ d + v % 2 ^ d) e)
-      (λ m _. at-some t (node t (v / 2 ^ d) (level l)) (2 ^ d + v % 2 ^ d) (omega arith) ∙ slot-none (node t (v / 2 ^ d) (level l)) (2 ^ d + v % 2 ^ d) (omega arith) (omega (arith, pow-pos d)))
+      let a = node t (v / 2 ^ depthOf l) (level l) in
+      let s = slotOf v l in
+      same a 0
+      (λ e _. at-none t a s e)
+      (λ m _. at-some t a s (omega arith) ∙ slot-none a s (omega arith) (slot-some v l))
 
 pub cleared-routes : (n W : ℕ) → leastWords ≤ n → routes W (held (arraysOf (cleared n))) ≡ []
 unfolding routes

@@ -72,9 +72,11 @@ module _ (L : ℕ) (ws : List ℕ) (a : ℕ) where
 
   used-from : Used L ws a → usedB ≡ true
   used-from x =
-      and-from (rightB (lev t a) (slotsOf ws a) (bestsOf ws a)) (linksB A L t a && (eqb a 1 || placed)) (right-tells (lev t a) (slotsOf ws a) (bestsOf ws a) .from (x .right))
+      and-from (rightB (lev t a) (slotsOf ws a) (bestsOf ws a)) (linksB A L t a && (eqb a 1 || placed))
+      (right-tells (lev t a) (slotsOf ws a) (bestsOf ws a) .from (x .right))
       (and-from (linksB A L t a) (eqb a 1 || placed) (links-tells A L t a .from (x .links))
-      (same a 1 (λ q e. rw e) (λ n e. rw e (and-from (hungB A t a) (not (emptyB (slotsOf ws a) (t .link a))) (hung-tells A t a .from (inr (x .hung n))) (some-tells t a .from (x .some n))))))
+      (same a 1 (λ q e. rw e) (λ n e. rw e (and-from (hungB A t a) (not (emptyB (slotsOf ws a) (t .link a)))
+      (hung-tells A t a .from (inr (x .hung n))) (some-tells t a .from (x .some n))))))
 
   array-tells : Tells (arrayB L ws a) (Free ws a ⊎ Used L ws a)
   unfolding arrayB
@@ -138,9 +140,13 @@ module _ (L : ℕ) (ws : List ℕ) (some : 1 ≤ L) (levels : L < levelBound) (s
           (λ (x : Free ws a). let e : cellAt a i ≡ wordAt a (cellsAt + i) = omega arith in
           inl (link-blank _ (rw e (x .blank (cellsAt + i) (omega arith)))))
           (λ (x : Used L ws a). x .links i b) (one f a h w);
-      tags = λ a h w. ⊎-elim (λ (x : Free ws a). inl (x .tag)) (λ (x : Used L ws a). inr (x .hung (λ e. omega arith))) (one f a (omega arith) w);
+      tags =
+          λ a h w. ⊎-elim (λ (x : Free ws a). inl (x .tag)) (λ (x : Used L ws a). inr (x .hung (λ e. omega arith)))
+          (one f a (omega arith) w);
     };
-    filled = λ a h w m p. ⊎-elim (λ (x : Free ws a). absurd (omega (arith, x .tag))) (λ (x : Used L ws a). x .some (λ e. omega arith)) (one f a (omega arith) w);
+    filled =
+        λ a h w m p. ⊎-elim (λ (x : Free ws a). absurd (omega (arith, x .tag))) (λ (x : Used L ws a). x .some (λ e. omega arith))
+        (one f a (omega arith) w);
     blank = λ a h w z. ⊎-elim (λ (x : Free ws a). x .blank) (λ (x : Used L ws a). absurd (x .tag z)) (one f a h w);
     right = λ a h w p. ⊎-elim (λ (x : Free ws a). absurd (omega (arith, x .tag))) (λ (x : Used L ws a). x .right) (one f a h w);
     header = hd .0;
@@ -155,7 +161,9 @@ module _ (L : ℕ) (ws : List ℕ) (some : 1 ≤ L) (levels : L < levelBound) (s
         tag = m;
         right = k .right (j + 1) (omega arith) (omega arith) (omega arith);
         links = λ i b. k .shape .links (j + 1) i (omega arith) (omega arith) b;
-        hung = λ e. ⊎-elim (λ (z : arraysOf ws .tag (j + 1) ≡ 0). absurd (m z)) (λ (z : Hung (arrayCount ws) (arraysOf ws) (j + 1)). z) (k .shape .tags (j + 1) (omega arith) (omega arith));
+        hung =
+            λ e. ⊎-elim (λ (z : arraysOf ws .tag (j + 1) ≡ 0). absurd (m z))
+            (λ (z : Hung (arrayCount ws) (arraysOf ws) (j + 1)). z) (k .shape .tags (j + 1) (omega arith) (omega arith));
         some = λ e. k .filled (j + 1) (omega arith) (omega arith) (λ q. omega arith) (omega arith);
       }))
 
@@ -168,4 +176,5 @@ module _ (L : ℕ) (ws : List ℕ) (some : 1 ≤ L) (levels : L < levelBound) (s
       (λ k. (k .shape .root, ((k .header, k .rest), from-table k)))
       (tells-and (tells-eq (getD ws arrayWords 0) 1)
       (tells-and (header-tells ws)
-      (tells-all (λ j. arrayB L ws (j + 1)) (λ j. Free ws (j + 1) ⊎ Used L ws (j + 1)) (arrayCount ws) (λ j h. array-tells L ws (j + 1)))))
+      (tells-all (λ j. arrayB L ws (j + 1)) (λ j. Free ws (j + 1) ⊎ Used L ws (j + 1)) (arrayCount ws)
+      (λ j h. array-tells L ws (j + 1)))))

@@ -94,7 +94,10 @@ module _ (L : ℕ) (ws : List ℕ) (p i a : ℕ) (ok : Almost L p ws) (gn : Gain
     links = λ c j h b n. ap linkIn (other-cell c j h b n);
     slots = λ c s h l b. other-word (wordAt c s) (slot-tag c s a l b) (slot-cell c s p i b (gn .cells)) (λ e. omega arith)
         (λ e. omega (arith, fits, ok .high));
-    no-link = λ j b. ⊎-elim (λ (z : t .link a j ≡ 0). z) (λ (z : Child (arrayCount ws) L t a j (t .link a j)). absurd (omega (arith, z .used, gn .free))) (ok .shape .links a j (gn .some) (gn .within) b);
+    no-link =
+        λ j b. ⊎-elim (λ (z : t .link a j ≡ 0). z)
+        (λ (z : Child (arrayCount ws) L t a j (t .link a j)). absurd (omega (arith, z .used, gn .free)))
+        (ok .shape .links a j (gn .some) (gn .within) b);
     no-slot = λ s l b. ok .blank a (gn .some) (gn .within) (gn .free) s (omega arith);
   }
 
@@ -120,7 +123,9 @@ module _ (L : ℕ) (ws : List ℕ) (p i a : ℕ) (ok : Almost L p ws) (gn : Gain
     blank = rw gained-length blank;
     right = rw gained-length right;
     header = counted-up L ws (gained ws p i a) p i a gained-hang gained-counted (ok .high) (ok .header);
-    rest = λ k h w. other-word k (λ e. omega (arith, gn .some)) (λ e. omega (arith, gn .parent)) (λ e. omega arith) (λ e. omega (arith, fits, ok .high)) ∙ ok .rest k h w;
+    rest =
+        λ k h w. other-word k (λ e. omega (arith, gn .some)) (λ e. omega (arith, gn .parent)) (λ e. omega arith)
+        (λ e. omega (arith, fits, ok .high)) ∙ ok .rest k h w;
   }
     where
       blank : (c : ℕ) → 1 ≤ c → c ≤ arrayCount ws → u .tag c ≡ 0 → (k : ℕ) → k < unusedAt
@@ -140,14 +145,17 @@ module _ (L : ℕ) (ws : List ℕ) (p i a : ℕ) (ok : Almost L p ws) (gn : Gain
           (λ e d. rw (e, d) (ap bestIn new-cell ∙ best-kept word (a - 1) (omega (arith, fits, ok .high))))
           (λ n. ap bestIn (other-cell c j h b n))
 
-      right : (c : ℕ) → 1 ≤ c → c ≤ arrayCount ws → 1 ≤ u .tag c → Right (lev u c) (slotsOf (gained ws p i a) c) (bestsOf (gained ws p i a) c)
+      right : (c : ℕ) → 1 ≤ c → c ≤ arrayCount ws → 1 ≤ u .tag c
+          → Right (lev u c) (slotsOf (gained ws p i a) c) (bestsOf (gained ws p i a) c)
       right c h w z =
           same c a
           (λ e _. right-none (lev u c) (slotsOf (gained ws p i a) c) (bestsOf (gained ws p i a) c)
           (λ s l b. gained-hang .slots c s h l b ∙ rw e (gained-hang .no-slot s l b))
           (λ j b. best-same c j h b ∙ rw e (best-none j b)))
-          (λ n _. rw (gained-hang .tags c h n) (right-ext (lev t c) (slotsOf ws c) (bestsOf ws c) (slotsOf (gained ws p i a) c) (bestsOf (gained ws p i a) c)
-          (λ s l b. gained-hang .slots c s h l b) (λ j b. best-same c j h b) (ok .right c h w (rw (← (gained-hang .tags c h n)) z))))
+          (λ n _. rw (gained-hang .tags c h n)
+          (right-ext (lev t c) (slotsOf ws c) (bestsOf ws c) (slotsOf (gained ws p i a) c) (bestsOf (gained ws p i a) c)
+          (λ s l b. gained-hang .slots c s h l b) (λ j b. best-same c j h b)
+          (ok .right c h w (rw (← (gained-hang .tags c h n)) z))))
         where
           best-none : (j : ℕ) → j < cellCount → bestsOf ws a j ≡ 0
           best-none j b =

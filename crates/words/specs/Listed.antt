@@ -5,23 +5,19 @@ use mathlib.Core.Path.{_≡_, refl, sym, _∙_}
 use mathlib.Core.Logic.{_≢_}
 use mathlib.Core.List.{List, [], _∷_}
 use Prim.Native.Nat.{ℕ, zero, suc, _+_, _-_, _*_, _/_, _%_, _^_, _≤_, _<_}
-use native.Mathlib.Nat.{mod-lt}
 use native.Mathlib.Omega.{arith}
 use lib.ListN.{length}
-use lib.Pow.{pow-pos, pow-mono, shr-lt}
-use Rattle.sizes.specs.Sizes.{slotEnd, levelBound}
+use lib.Pow.{shr-lt}
+use Rattle.sizes.specs.Sizes.{levelBound}
 use Rattle.routes.specs.Route.{Route, key, All, hopAt, held, Wf, IsRoute, IsList}
 use Rattle.logic.specs.Cases.{same}
 use Rattle.laws.specs.Sorted.{Good, ext, all-append, all-map, hop-skip}
 use Rattle.laws.specs.Collect.{routes-from, routes-hop}
 use Rattle.routes.specs.Collect.{own, collect, routes}
 use Rattle.laws.specs.Longest.{whole, routes-wfs}
-use Rattle.routes.specs.Room.{level}
-use Rattle.tree.specs.Arrays.{Arrays, node, at, depthOf}
+use Rattle.tree.specs.Arrays.{Arrays}
 use Rattle.tree.specs.Arrays as arrays
-use Rattle.tree.specs.Tree.{node-level}
-use Rattle.tree.specs.Need.{at-some}
-use Rattle.tree.specs.Slot.{at-none}
+use Rattle.tree.specs.Slot.{held-cases}
 use Rattle.tree.specs.Taken.{takenTo, taken-routes}
 use Rattle.words.specs.Words.{arraysOf, arrayCount}
 use Rattle.words.specs.Table.{listOf}
@@ -50,7 +46,8 @@ all-routes W (r ∷ rs) w l = (record { wf = w .0; low = l .0 }, all-routes W rs
 
 routes-list : (W : ℕ) (f : ℕ → ℕ → ℕ) → W < 256 → ((v l : ℕ) → f v l ≤ 65535) → IsList W (routes W f)
 unfolding routes
-routes-list W f w low = record { sorted = routes-from W w f; routes = all-routes W (routes W f) (routes-wfs W f) (collect-low f low W 0 0) }
+routes-list W f w low =
+    record { sorted = routes-from W w f; routes = all-routes W (routes W f) (routes-wfs W f) (collect-low f low W 0 0) }
 
 module _ (L : ℕ) (ws : List ℕ) (ok : Table L ws) where
   abbrev t : Arrays
@@ -58,17 +55,9 @@ module _ (L : ℕ) (ws : List ℕ) (ok : Table L ws) where
 
   -- the hop of every prefix
   held-low : (v l : ℕ) → arrays.held t v l ≤ 65535
-  unfolding arrays.held
-  held-low v l =
-      let d = depthOf l in
-      let a = node t (v / 2 ^ d) (level l) in
-      let s = 2 ^ d + v % 2 ^ d in
-      same a 0
-      (λ e _. omega (arith, at-none t a s e))
-      (λ n _. (let u = node-level (arrayCount ws) L t (ok .shape) (v / 2 ^ d) (level l) (omega arith) in
-      let p : 1 ≤ t .tag a = omega (arith, u .level) in
-      let hi : s < slotEnd = omega (arith, mod-lt v (pow-pos d), pow-mono {i = d} {j = 8} (omega arith)) in
-      omega (arith, at-some t a s (u .some), ok .right a (u .some) (u .within) p .sound .hops s (omega (arith, pow-pos d)) hi)))
+  held-low =
+      held-cases (arrayCount ws) L t (ok .shape) (λ h. h ≤ 65535) (omega arith)
+      (λ a s some within used low high. omega (arith, ok .right a some within used .sound .hops s low high))
 
   wide : 8 * L < 256
   wide = omega (arith, ok .shape .levels)
@@ -100,10 +89,12 @@ hop-at W k (r ∷ rs) a n =
     (λ m _. hop-at W k rs (a .1) (λ z. n (hop-skip r rs k m ∙ z)))
 
 module _ (L : ℕ) (ws : List ℕ) (narrow : L < levelBound) where
-  key-held : (rs : List Route) → StandsFor L ws rs → (p : Route) → Wf (8 * L) p → hopAt rs (key p) ≡ arrays.held (arraysOf ws) (p .addr / 2 ^ (8 * L - p .len)) (p .len)
+  key-held : (rs : List Route) → StandsFor L ws rs → (p : Route) → Wf (8 * L) p
+      → hopAt rs (key p) ≡ arrays.held (arraysOf ws) (p .addr / 2 ^ (8 * L - p .len)) (p .len)
   key-held rs s p w =
       let e : p .len + (8 * L - p .len) ≡ 8 * L = omega (arith, w .fits) in
-      rw (whole (8 * L) p w) at (s .holds (p .addr / 2 ^ (8 * L - p .len)) (p .len) (w .fits) (shr-lt (p .len) (8 * L - p .len) (rw e (w .inside))))
+      rw (whole (8 * L) p w) at (s .holds (p .addr / 2 ^ (8 * L - p .len)) (p .len) (w .fits)
+      (shr-lt (p .len) (8 * L - p .len) (rw e (w .inside))))
 
   -- what one of two such lists has at a key, the other has
   same-hop : (rs ss : List Route) → StandsFor L ws rs → StandsFor L ws ss → (k : ℕ) → hopAt rs k ≢ 0 → hopAt rs k ≡ hopAt ss k
@@ -112,7 +103,9 @@ module _ (L : ℕ) (ws : List ℕ) (narrow : L < levelBound) where
       rw (p .is) at (key-held rs s (p .r) (p .wf) ∙ sym (key-held ss u (p .r) (p .wf)))
 
   goods : (rs : List Route) → StandsFor L ws rs → All Good rs
-  goods rs s = all-map (IsRoute (8 * L)) Good (λ r p. record { pos = p .wf .some; short = omega (arith, p .wf .fits) }) rs (s .list .routes)
+  goods rs s =
+      all-map (IsRoute (8 * L)) Good (λ r p. record { pos = p .wf .some; short = omega (arith, p .wf .fits) }) rs
+      (s .list .routes)
 
   pub stands-one : (rs ss : List Route) → StandsFor L ws rs → StandsFor L ws ss → rs ≡ ss
   stands-one rs ss s u =

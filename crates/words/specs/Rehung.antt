@@ -124,7 +124,8 @@ module _ (L : ℕ) (ws vs : List ℕ) (p i a : ℕ) (h : Hang (arrayCount ws) L 
     count = c .count ∙ ap (λ (x : ℕ). x + 1) (d .count) ∙ sym all-up
         ∙ ap (λ (x : ℕ). usedIn u₀ 0 (x / arrayWords - 1)) (sym (c .size));
     groups = λ g b. same g ((a - 1) / perGroup)
-        (λ e _. ap (λ (x : ℕ). getD vs (x + 1) 0) e ∙ c .group ∙ ap (λ (x : ℕ). getD ws (x + 1) 0 + 1) (sym e) ∙ ap (λ (x : ℕ). x + 1) (d .groups g b) ∙ sym (in-up g e))
+        (λ e _. ap (λ (x : ℕ). getD vs (x + 1) 0) e ∙ c .group ∙ ap (λ (x : ℕ). getD ws (x + 1) 0 + 1) (sym e)
+        ∙ ap (λ (x : ℕ). x + 1) (d .groups g b) ∙ sym (in-up g e))
         (λ n _. c .groups g b (λ e. n (omega arith)) ∙ d .groups g b ∙ sym (out-up g n));
   }
 
@@ -132,6 +133,13 @@ module _ (L : ℕ) (ws vs : List ℕ) (p i a : ℕ) (h : Hang (arrayCount ws) L 
   counted-down d = record {
     count = omega (arith, c .count, d .count, all-up, ap (λ (x : ℕ). usedIn u₀ 0 (x / arrayWords - 1)) (c .size));
     groups = λ g b. same g ((a - 1) / perGroup)
-        (λ e _. omega (arith, in-up g e, d .groups g b, c .group, ap (λ (x : ℕ). getD vs (x + 1) 0) e, ap (λ (x : ℕ). getD ws (x + 1) 0) e))
+        (λ e _. omega (
+          arith,
+          in-up g e,
+          d .groups g b,
+          c .group,
+          ap (λ (x : ℕ). getD vs (x + 1) 0) e,
+          ap (λ (x : ℕ). getD ws (x + 1) 0) e,
+        ))
         (λ n _. sym (c .groups g b (λ e. n (omega arith))) ∙ d .groups g b ∙ out-up g n);
   }

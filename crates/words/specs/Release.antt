@@ -67,7 +67,9 @@ module _ (L : ℕ) (ws : List ℕ) (a : ℕ) (ok : Almost L a ws) (em : Empty ws
 
   other-word₁ : (j : ℕ) → j ≢ arrayAt a → j ≢ cellAt p i → j ≢ 0 → j ≢ group a → getD (released ws a) j 0 ≡ getD ws j 0
   unfolding released
-  other-word₁ = re-other ws a 0 p i (withLink word₁ 0) (getD ws 0 0 - 1) (getD ws (group a) 0 - 1) (ha .some) fits₁ (hu .some) fits-p₁ cells (ok .high)
+  other-word₁ =
+      re-other ws a 0 p i (withLink word₁ 0) (getD ws 0 0 - 1) (getD ws (group a) 0 - 1) (ha .some) fits₁
+      (hu .some) fits-p₁ cells (ok .high)
 
   not-self : p ≢ a
   not-self e = let q : u₁ .tag p ≡ u₁ .tag a = ap (u₁ .tag) e in omega (arith, ha .named, ha .deep, ok .shape .levels)
@@ -124,7 +126,13 @@ module _ (L : ℕ) (ws : List ℕ) (a : ℕ) (ok : Almost L a ws) (em : Empty ws
 
   -- the counts are not 0
   pub counts : 1 ≤ getD ws 0 0
-  counts = omega (arith, ok .header .count, used-inside (arrayCount ws) L t₁ u₁ p i a released-hang 0 (arrayCount ws) (omega (arith, em .some)) (omega (arith, em .within)))
+  counts =
+      omega (
+        arith,
+        ok .header .count,
+        used-inside (arrayCount ws) L t₁ u₁ p i a released-hang 0 (arrayCount ws)
+            (omega (arith, em .some)) (omega (arith, em .within)),
+      )
 
   pub counts-group : 1 ≤ getD ws (group a) 0
   counts-group =
@@ -140,9 +148,14 @@ module _ (L : ℕ) (ws : List ℕ) (a : ℕ) (ok : Almost L a ws) (em : Empty ws
   unfolding released
   released-counted = record {
     size = sym released-length;
-    count = let e = re-count ws a 0 p i (withLink word₁ 0) (getD ws 0 0 - 1) (getD ws (group a) 0 - 1) (ha .some) fits₁ (hu .some) fits-p₁ cells (ok .high) in omega (arith, e, counts);
-    group = let e = re-group ws a 0 p i (withLink word₁ 0) (getD ws 0 0 - 1) (getD ws (group a) 0 - 1) (ha .some) fits₁ (hu .some) fits-p₁ cells (ok .high) in omega (arith, e, counts-group);
-    groups = λ g b n. sym (other-word₁ (g + 1) (λ e. omega (arith, em .some)) (λ e. omega (arith, hu .some)) (λ e. omega arith) n);
+    count =
+        let e = re-count ws a 0 p i (withLink word₁ 0) (getD ws 0 0 - 1) (getD ws (group a) 0 - 1) (ha .some) fits₁
+        (hu .some) fits-p₁ cells (ok .high) in omega (arith, e, counts);
+    group =
+        let e = re-group ws a 0 p i (withLink word₁ 0) (getD ws 0 0 - 1) (getD ws (group a) 0 - 1) (ha .some) fits₁
+        (hu .some) fits-p₁ cells (ok .high) in omega (arith, e, counts-group);
+    groups =
+        λ g b n. sym (other-word₁ (g + 1) (λ e. omega (arith, em .some)) (λ e. omega (arith, hu .some)) (λ e. omega arith) n);
   }
 
   -- its tag aside, every word of a that is read is 0
@@ -162,8 +175,12 @@ module _ (L : ℕ) (ws : List ℕ) (a : ℕ) (ok : Almost L a ws) (em : Empty ws
     filled = rw released-length (unhang-filled (arrayCount ws) L t₁ u₁ p i a released-hang (ok .filled));
     blank = rw released-length blank;
     right = rw released-length right;
-    header = counted-down L (released ws a) ws p i a (rw released-length released-hang) released-counted (rw released-length (ok .high)) (ok .header);
-    rest = λ k h w. other-word₁ k (λ e. omega (arith, em .some)) (λ e. omega (arith, hu .some)) (λ e. omega arith) (λ e. omega (arith, fits₁, ok .high)) ∙ ok .rest k h w;
+    header =
+        counted-down L (released ws a) ws p i a (rw released-length released-hang) released-counted
+        (rw released-length (ok .high)) (ok .header);
+    rest =
+        λ k h w. other-word₁ k (λ e. omega (arith, em .some)) (λ e. omega (arith, hu .some)) (λ e. omega arith)
+        (λ e. omega (arith, fits₁, ok .high)) ∙ ok .rest k h w;
   }
     where
       blank : (c : ℕ) → 1 ≤ c → c ≤ arrayCount ws → t₁ .tag c ≡ 0 → (k : ℕ) → k < unusedAt
@@ -185,8 +202,10 @@ module _ (L : ℕ) (ws : List ℕ) (a : ℕ) (ok : Almost L a ws) (em : Empty ws
           (λ e. omega (arith, fits₁, ok .high))
           ∙ ok .blank c h w y k b))
 
-      right : (c : ℕ) → 1 ≤ c → c ≤ arrayCount ws → 1 ≤ t₁ .tag c → Right (lev t₁ c) (slotsOf (released ws a) c) (bestsOf (released ws a) c)
+      right : (c : ℕ) → 1 ≤ c → c ≤ arrayCount ws → 1 ≤ t₁ .tag c
+          → Right (lev t₁ c) (slotsOf (released ws a) c) (bestsOf (released ws a) c)
       right c h w z =
           let n : c ≢ a = λ e. (let q : t₁ .tag c ≡ t₁ .tag a = ap (t₁ .tag) e in omega (arith, released-hang .free)) in
-          rw (tag-same c h n) (right-ext (lev u₁ c) (slotsOf ws c) (bestsOf ws c) (slotsOf (released ws a) c) (bestsOf (released ws a) c)
+          rw (tag-same c h n) (right-ext (lev u₁ c) (slotsOf ws c) (bestsOf ws c) (slotsOf (released ws a) c)
+          (bestsOf (released ws a) c)
           (λ s l b. slot-same c s h l b) (λ j b. best-same₁ c j h b) (ok .right c h w (rw (← (tag-same c h n)) z)))

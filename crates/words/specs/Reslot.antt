@@ -98,10 +98,23 @@ module _ (L e : ℕ) (ws vs : List ℕ) (a s h : ℕ) (some : 1 ≤ a) (g : Resl
     high = rw (g .size) (o .high);
     shape = rw (g .size) (same-shape t u tags links (arrayCount ws) L (o .shape));
     filled = rw (g .size) (λ c k w n p. ⊎-elim
-        (λ (z : HasSlot t c). inl (record { s = z .s; low = z .low; high = z .high; some = rw (word c (z .s) n (omega (arith, z .high))) (z .some) }))
-        (λ (z : HasLink t c). inr (record { i = z .i; high = z .high; some = rw (links c (z .i) (omega arith) (z .high)) (z .some) }))
-        (o .filled c k w (λ q. ⊎-elim (λ (z : e ≡ 0). omega arith) (λ (z : e ≡ a). n (q ∙ z)) ea) (rw (← (tags c (omega arith))) p)));
-    blank = rw (g .size) (λ c k w z j b. (let n : c ≢ a = λ q. (let r : t .tag c ≡ t .tag a = ap (t .tag) q in omega (arith, tags c k)) in
+        (λ (z : HasSlot t c). inl (record {
+          s = z .s;
+          low = z .low;
+          high = z .high;
+          some = rw (word c (z .s) n (omega (arith, z .high))) (z .some);
+        }))
+        (λ (z : HasLink t c). inr (record {
+          i = z .i;
+          high = z .high;
+          some = rw (links c (z .i) (omega arith) (z .high))
+              (z .some);
+        }))
+        (o .filled c k w (λ q. ⊎-elim (λ (z : e ≡ 0). omega arith) (λ (z : e ≡ a). n (q ∙ z)) ea)
+        (rw (← (tags c (omega arith))) p)));
+    blank =
+        rw (g .size) (λ c k w z j b. (let n : c ≢ a = λ q. (let r : t .tag c ≡ t .tag a = ap (t .tag) q in
+        omega (arith, tags c k)) in
         word c j n (omega arith) ∙ o .blank c k w (sym (tags c k) ∙ z) j b));
     right = rw (g .size) (λ c k w p. same c a
         (λ q _. rw q (g .right))

@@ -16,11 +16,7 @@ pub record Sized (ws : List ℕ) (n : ℕ) : Type 0 where
   pub some : 1 ≤ n
   pub most : n ≤ mostArrays
 
-pub sized : (ws : List ℕ) → misfits (length ws) ≡ false → Sized ws (arrayCount ws)
-sized ws e =
+pub sized : (ws : List ℕ) (n : ℕ) → misfits (length ws) ≡ false → n ≡ arrayCount ws → Sized ws n
+sized ws n e q =
     let f = no-misfit-fits (length ws) e in
-    record { whole = omega (arith, f .whole, f .low); some = omega (arith, f .low); most = omega (arith, f .high) }
-
--- by another name for the number
-pub sized-by : (ws : List ℕ) (n : ℕ) → misfits (length ws) ≡ false → n ≡ arrayCount ws → Sized ws n
-sized-by ws n e q = rw q (sized ws e)
+    rw q (record { whole = omega (arith, f .whole, f .low); some = omega (arith, f .low); most = omega (arith, f .high) })

@@ -18,10 +18,13 @@ pub count-need : (J : ℕ) (ws : List ℕ) → Almost (suc J) 0 ws
 count-need J ws ok =
     ok .header .count ∙ used-need (arrayCount ws) (suc J) (arraysOf ws) (ok .shape) (ok .filled) J refl
 
--- the arrays used are the need of the list
+-- the arrays used are the need of the list: for the levels below the first, and for all
+pub table-count : (L : ℕ) (ws : List ℕ) → Table L ws → getD ws 0 0 ≡ needTo (8 * L) (L - 1) (listOf L ws)
+table-count zero ws ok = absurd (omega (arith, ok .shape .some-level))
+table-count (suc J) ws ok = let e : suc J - 1 ≡ J = omega arith in rw e (count-need J ws ok)
+
 pub table-need : (L : ℕ) (ws : List ℕ) → Table L ws → getD ws 0 0 ≡ need (8 * L) (listOf L ws)
-table-need zero ws ok = absurd (omega (arith, ok .shape .some-level))
-table-need (suc J) ws ok = let e : 8 * suc J / 8 - 1 ≡ J = omega arith in rw e (count-need J ws ok)
+table-need L ws ok = let e : 8 * L / 8 - 1 ≡ L - 1 = omega arith in rw e (table-count L ws ok)
 
 -- fewer used than there are: one is free
 pub find-some : (L e : ℕ) (ws : List ℕ) → Almost L e ws → getD ws 0 0 < arrayCount ws

@@ -34,7 +34,7 @@ module _ (L : ℕ) (ws : List ℕ) where
   pub table-fits : Table L ws → Fits (length ws)
   table-fits t = record { whole = t .whole; low = t .low; high = t .high }
 
-  pub table-true : Table L ws → tableB L ws ≡ true
+  table-true : Table L ws → tableB L ws ≡ true
   table-true t = table-tells L ws (t .shape .some-level) (t .shape .levels) (table-fits t) .from t
 
   -- ---- what is seen

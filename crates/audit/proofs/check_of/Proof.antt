@@ -4,7 +4,7 @@ use native.Mathlib.Omega.{arith}
 use lib.ListN.{length}
 use borrow.Author.Tests.{not-true, not-false}
 use Rattle.words.specs.View.{no-misfit-fits}
-use Rattle.words.specs.Size.{sized-by}
+use Rattle.words.specs.Size.{sized}
 use Rattle.audit.proofs.Laws.{check-misfit, check-foreign, check-table}
 use borrow.Author.Needs.{needs}
 use Rattle.audit.proofs.check_of.Statement.{statement}
@@ -37,7 +37,7 @@ routes-of-requires : tie.Need-routes-of-requires
 routes-of-requires c κs =
     let size = c .before .before .before .before in
     let n = c .arrays-in in
-    sized-by (size .before .before .args .words .now) (n .result) (sym (size .misfit .ensures) ∙ c .before .before .before .if1 .left) (n .ensures)
+    sized (size .before .before .args .words .now) (n .result) (sym (size .misfit .ensures) ∙ c .before .before .before .if1 .left) (n .ensures)
 
 shared-slice-read-t10 : tie.Need-shared-slice-read-t10
 shared-slice-read-t10 c =

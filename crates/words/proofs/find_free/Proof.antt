@@ -67,7 +67,8 @@ returns : tie.Need-returns Inv-loop μ-loop
 returns c =
     let l = c .before .before .before .before .before .loop in
     let a = c .before .before .before .before .before .before .before .before .before .args in
-    group-found (arraysOf (a .words .now)) (l .g) (arrayCount (a .words .now)) (c .before .first-free .result) (omega arith) (c .before .first-free .ensures) (c .if2 .taken) ∙ l .inv .1
+    group-found (arraysOf (a .words .now)) (l .g) (arrayCount (a .words .now)) (c .before .first-free .result) (omega arith) (c .before .first-free .ensures)
+    (c .if2 .taken) ∙ l .inv .1
 
 add-g : tie.Need-add-g Inv-loop μ-loop
 add-g c = omega arith

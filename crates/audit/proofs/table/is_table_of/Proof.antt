@@ -4,7 +4,7 @@ use native.Mathlib.Omega.{arith}
 use lib.ListN.{length}
 use borrow.Author.Tests.{not-true, not-false}
 use Rattle.words.specs.View.{no-misfit-fits}
-use Rattle.words.specs.Size.{sized-by}
+use Rattle.words.specs.Size.{sized}
 use Rattle.audit.proofs.Laws.{table-root, table-header, table-last}
 use Rattle.audit.proofs.table.is_table_of.Statement.{statement}
 use Rattle.audit.proofs.table.is_table_of.Tie as tie
@@ -26,7 +26,7 @@ header-ok-requires : tie.Need-header-ok-requires
 header-ok-requires c κs =
     let n = c .before .before in
     let s = n .before .before in
-    sized-by (s .args .words .now) (n .arrays-in .result) (s .pre) (n .arrays-in .ensures)
+    sized (s .args .words .now) (n .arrays-in .result) (s .pre) (n .arrays-in .ensures)
 
 returns-2 : tie.Need-returns-2
 returns-2 c =
@@ -39,7 +39,7 @@ arrays-ok-requires : tie.Need-arrays-ok-requires
 arrays-ok-requires c κs =
     let n = c .before .before .before .before in
     let s = n .before .before in
-    sized-by (s .args .words .now) (n .arrays-in .result) (s .pre) (n .arrays-in .ensures)
+    sized (s .args .words .now) (n .arrays-in .result) (s .pre) (n .arrays-in .ensures)
 
 returns-3 : tie.Need-returns-3
 returns-3 c =
