@@ -16,7 +16,7 @@ use Rattle.routes.specs.Answers.{answer, isRefused}
 use Rattle.routes.specs.Runs.{Ran as Outcome}
 use Rattle.routes.specs.Seen.{Answer, gives, refuses, Counts}
 use Rattle.routes.specs.Seen.{answerOn, lookupOn, clearOn, checkOn, countOn, frontOn, runOn}
-use Rattle.arrays.specs.Table.{seen}
+use Rattle.words.specs.Table.{seen}
 use Rattle.audit.specs.Told as audit
 use Rattle.audit.specs.declared.Cleared.{Cleared}
 use Rattle.audit.specs.declared.Cleared.the-variants as cleared

@@ -17,7 +17,7 @@ use Rattle.routes.specs.Answers.{Update, Reply, matched}
 use Rattle.routes.specs.Bytes.{written, AllFit}
 use Rattle.routes.specs.Runs.{Ran as Outcome, run}
 use Rattle.routes.specs.Seen.{Answer, table, gives, lookupOn, checkOn, frontOn}
-use Rattle.arrays.specs.Table.{seen}
+use Rattle.words.specs.Table.{seen}
 use Rattle.audit.specs.Told.{toldCheck}
 use Rattle.audit.specs.declared.Checked.{Checked}
 use Rattle.replies.specs.Said.{saidReply}

@@ -16,8 +16,8 @@ use Rattle.routes.specs.Bytes.{written}
 use Rattle.routes.specs.Seen.{Seen, misfit, foreign, table, gives, refuses, lookupOn, checkOn}
 use Rattle.logic.specs.Cases.{less}
 use Rattle.laws.specs.Round.{written-long}
-use Rattle.arrays.specs.Table.{seen}
-use Rattle.arrays.specs.View.{no-misfit-fits}
+use Rattle.words.specs.Table.{seen}
+use Rattle.words.specs.View.{no-misfit-fits}
 use Rattle.lookup.specs.Walk.{walk}
 use Rattle.lengths.specs.Marks.{markers, wordsFor}
 use Rattle.listing.specs.Listed.{listed, listedIn}

@@ -14,7 +14,7 @@ use borrow.Author.Tests.{ne-eqb}
 use Rattle.logic.specs.Cases.{bool}
 use Rattle.routes.specs.Answers.{Update, Record, update, lookup, Reply, done, found, none, refused}
 use Rattle.routes.specs.Seen.{Answer as Given, table, gives, refuses, misfits, lookupOn}
-use Rattle.arrays.specs.Table.{seen}
+use Rattle.words.specs.Table.{seen}
 use Rattle.audit.specs.Told as audit
 use Rattle.audit.specs.declared.Cleared.{Cleared as Answer}
 use Rattle.audit.specs.declared.Cleared.the-variants as answer

@@ -17,7 +17,7 @@ use Rattle.routes.specs.Answers.{Update, Reply, matched}
 use Rattle.routes.specs.Bytes.{written, AllFit}
 use Rattle.routes.specs.Runs.{run}
 use Rattle.routes.specs.Seen.{table, lookupOn, checkOn}
-use Rattle.arrays.specs.Table.{seen}
+use Rattle.words.specs.Table.{seen}
 use Rattle.lookup.specs.Walk.{walk}
 use Rattle.feed.specs.Runs.{Runs as Made, runAnswer, reportOf}
 use Rattle.feed.specs.declared.Report.{Report}

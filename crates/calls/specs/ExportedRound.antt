@@ -12,7 +12,7 @@ use Rattle.routes.specs.Route.{Route}
 use Rattle.routes.specs.Answers.{replies}
 use Rattle.routes.specs.Bytes.{announced, repliesBytes}
 use Rattle.routes.specs.Seen.{table}
-use Rattle.arrays.specs.Table.{seen}
+use Rattle.words.specs.Table.{seen}
 use Rattle.feed.specs.Runs.{runAnswer}
 use Rattle.feed.specs.declared.Ran.{Ran}
 use Rattle.toggleash.specs.Face.{ran, Clears, Writes, Runs}

@@ -10,7 +10,7 @@ use lib.ListN.{length}
 use Rattle.routes.specs.Answers.{Reply}
 use Rattle.routes.specs.Seen.{checkOn}
 use Rattle.routes.specs.Small.{Case, small, further}
-use Rattle.arrays.specs.Table.{seen}
+use Rattle.words.specs.Table.{seen}
 use Rattle.order.specs.Feeds.{records}
 use Rattle.toggleash.specs.Face.{counted}
 use Rattle.toggleash.specs.declared.Counted.{Counted}

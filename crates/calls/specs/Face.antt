@@ -7,7 +7,7 @@ use lib.ListN.{length}
 use Rattle.routes.specs.Route.{Route}
 use Rattle.routes.specs.Answers.{Update, Reply, refused}
 use Rattle.routes.specs.Seen.{Answer, refuses, answerOn, lookupOn, clearOn, checkOn, runOn}
-use Rattle.arrays.specs.Table.{seen}
+use Rattle.words.specs.Table.{seen}
 use Rattle.lookup.specs.Walk.{walk}
 use Rattle.lengths.specs.Marks.{wordsFor}
 use Rattle.listing.specs.Listed.{listed, listedIn}

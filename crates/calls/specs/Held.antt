@@ -11,11 +11,12 @@ use Rattle.logic.specs.Cases.{bool}
 use Rattle.routes.specs.Route.{Route, IsList}
 use Rattle.routes.specs.Room.{need}
 use Rattle.routes.specs.Seen.{gives, refuses, table, misfits}
-use Rattle.arrays.specs.Words.{arraysOf, arrayCount}
-use Rattle.arrays.specs.Table.{seen}
-use Rattle.arrays.specs.Listed.{table-list}
-use Rattle.arrays.specs.Stock.{table-need, used-full}
-use Rattle.arrays.specs.View.{table-of, table-fits, fits-no-misfit}
+use Rattle.words.specs.Words.{arraysOf, arrayCount}
+use Rattle.words.specs.Table.{seen}
+use Rattle.words.specs.Listed.{table-list}
+use Rattle.words.specs.Stock.{table-need}
+use Rattle.tree.specs.Free.{used-full}
+use Rattle.words.specs.View.{table-of, table-fits, fits-no-misfit}
 use Rattle.audit.specs.Told.{Clears}
 use Rattle.audit.specs.declared.Cleared.{Cleared}
 use Rattle.audit.specs.declared.Cleared.the-variants.{Done}

@@ -1,5 +1,6 @@
 pub mod Held
 pub mod Rows
+pub mod FourLevels
 pub mod Round
 pub mod Three
 pub mod Both

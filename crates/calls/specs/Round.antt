@@ -14,7 +14,7 @@ use Rattle.routes.specs.Answers.{replies}
 use Rattle.routes.specs.Bytes.{announced, written, repliesBytes}
 use Rattle.routes.specs.Seen.{Seen, table, frontOn}
 use Rattle.laws.specs.Round.{round-trip}
-use Rattle.arrays.specs.Table.{seen}
+use Rattle.words.specs.Table.{seen}
 use Rattle.audit.specs.Told.{Clears}
 use Rattle.audit.specs.declared.Cleared.{Cleared}
 use Rattle.writing.specs.Told.{Fills}

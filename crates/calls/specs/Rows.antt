@@ -12,7 +12,7 @@ use Rattle.routes.specs.Room.{need}
 use Rattle.routes.specs.Answers.{Reply, reply, next, leaves}
 use Rattle.routes.specs.Seen.{gives, checkOn}
 use Rattle.routes.specs.Small.{Case, small, small-cases, further, further-cases}
-use Rattle.arrays.specs.Table.{seen}
+use Rattle.words.specs.Table.{seen}
 use Rattle.audit.specs.Told.{Clears, toldCheck}
 use Rattle.audit.specs.declared.Cleared.the-variants.{Done}
 use Rattle.audit.specs.declared.Checked.{Checked}

@@ -10,8 +10,8 @@ use lib.ListN.{length}
 use Rattle.routes.specs.Route.{Route}
 use Rattle.routes.specs.Answers.{Update, Record, Reply}
 use Rattle.routes.specs.Seen.{table, lookupOn, checkOn, countOn, frontOn}
-use Rattle.arrays.specs.Table.{listOf, seen}
-use Rattle.arrays.specs.View.{seen-table}
+use Rattle.words.specs.Table.{listOf, seen}
+use Rattle.words.specs.View.{seen-table}
 use Rattle.audit.specs.Told.{toldCheck, Clears}
 use Rattle.audit.specs.Sharp as audit
 use Rattle.audit.specs.declared.Cleared.{Cleared}

@@ -13,8 +13,8 @@ use Rattle.routes.specs.Cells.{cells}
 use Rattle.routes.specs.Answers.{Update, announce, withdraw, Reply, done, found, none, refused}
 use Rattle.routes.specs.Answers.{refuse, faulty, lacking, reloaded, verdict, answer, matched}
 use Rattle.routes.specs.Seen.{Seen, misfit, foreign, table, answerOn, lookupOn}
-use Rattle.arrays.specs.Table.{seen}
-use Rattle.arrays.specs.Words.{arraysOf, arrayCount, bestsOf}
+use Rattle.words.specs.Table.{seen}
+use Rattle.words.specs.Words.{arraysOf, arrayCount, bestsOf}
 use Rattle.lookup.specs.Walk.{byteAt, outside, deeper, walkFrom, walk}
 
 -- ---- a lookup

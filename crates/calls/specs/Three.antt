@@ -16,7 +16,7 @@ use Rattle.routes.specs.Answers.{Update, Reply, matched}
 use Rattle.routes.specs.Bytes.{repliesBytes, written, AllFit}
 use Rattle.routes.specs.Runs.{Ran, run}
 use Rattle.routes.specs.Seen.{Seen, table, gives, lookupOn, checkOn, countOn, frontOn, runOn, ranOn, repliedOn}
-use Rattle.arrays.specs.Table.{seen}
+use Rattle.words.specs.Table.{seen}
 use Rattle.order.specs.Feeds.{records, Weave, flip, heard, plains, said, kept, keptBoth, Meets, Independent}
 use Rattle.order.specs.Feeds.{Closes, bytes, readBack, Answered}
 use Rattle.order.specs.Enough.{enough}

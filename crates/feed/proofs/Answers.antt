@@ -12,9 +12,9 @@ use Rattle.numbers.specs.Digits.{twoAt, fourAt}
 use Rattle.routes.specs.Runs.{size}
 use Rattle.routes.specs.Seen.{Seen, misfit, foreign, table, lookupOn}
 use Rattle.laws.specs.Turns.{size-pos}
-use Rattle.arrays.specs.Table.{seen}
-use Rattle.arrays.specs.Almost.{Table}
-use Rattle.arrays.specs.View.{seen-cases}
+use Rattle.words.specs.Table.{seen}
+use Rattle.words.specs.Almost.{Table}
+use Rattle.words.specs.View.{seen-cases}
 use Rattle.replies.specs.Said.{saidReply}
 use Rattle.replies.specs.declared.Reply.{Reply}
 use Rattle.update.specs.Update.{Updates}

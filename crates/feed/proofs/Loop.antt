@@ -20,8 +20,8 @@ use Rattle.routes.specs.Seen.{Seen, misfit, foreign, table, gives}
 use Rattle.laws.specs.Turns.{Clear, size-pos, halts-clear, runs-on, runs-stop, runs-enough}
 use Rattle.laws.specs.Taken.{ahead, records-stop, records-on}
 use Rattle.laws.specs.Encoded.{reply-short}
-use Rattle.arrays.specs.Table.{seen}
-use Rattle.arrays.specs.View.{seen-table, seen-cases}
+use Rattle.words.specs.Table.{seen}
+use Rattle.words.specs.View.{seen-table, seen-cases}
 use Rattle.update.specs.Update.{refusalOf}
 use Rattle.update.specs.Refuse.{refusal-size, refusal-foreign, refusal-none, passed}
 use Rattle.feed.specs.Runs.{reportOf, Runs}

@@ -10,7 +10,7 @@ use Rattle.routes.specs.Answers.{Record, Reply, done, found, none, refused, isD
 use Rattle.routes.specs.Runs.{run}
 use Rattle.routes.specs.Seen.{Seen, misfit, foreign, table, runOn, answersOn}
 use Rattle.laws.specs.Taken.{run-came}
-use Rattle.arrays.specs.Table.{seen}
+use Rattle.words.specs.Table.{seen}
 use Rattle.update.specs.Refuse.{unaccepted}
 use Rattle.feed.specs.Series.{Asked, updated, looked, Series, nothing, more}
 use Rattle.feed.specs.Runs.{runAnswer, reported, Runs}

@@ -20,7 +20,7 @@ use Rattle.routes.specs.Answers.{lacking, reloaded, Update, announce, withdraw,
 use Rattle.routes.specs.Bytes.{replyBytes, repliesBytes, replySize}
 use Rattle.routes.specs.Runs.{State, recordAt, halts, taken, runs, fresh, run}
 use Rattle.routes.specs.Seen.{Seen, misfit, foreign, table, runOn, repliedOn}
-use Rattle.arrays.specs.Table.{seen}
+use Rattle.words.specs.Table.{seen}
 use Rattle.feed.specs.Runs.{runAnswer, reported, Runs}
 use Rattle.feed.specs.Sharp.{writtenBy}
 use Rattle.feed.specs.declared.Ran.{Ran}

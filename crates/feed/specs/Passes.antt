@@ -8,7 +8,7 @@ use Prim.Native.Nat.{ℕ}
 use native.Mathlib.Omega.{arith}
 use Rattle.routes.specs.Answers.{Record, Reply}
 use Rattle.routes.specs.Seen.{Seen, misfit, foreign, table}
-use Rattle.arrays.specs.Table.{seen}
+use Rattle.words.specs.Table.{seen}
 use Rattle.update.specs.Passes.{Passes, seen-passes, update-passes}
 use Rattle.feed.specs.Series.{Asked, updated, looked, Series, nothing, more}
 use Rattle.feed.specs.Runs.{Runs}

@@ -5,7 +5,7 @@ use Prim.Native.Nat.{ℕ}
 use lib.ListN.{length}
 use Rattle.routes.specs.Runs.{Ran as Outcome}
 use Rattle.routes.specs.Seen.{Answer, gives, refuses, runOn, ranOn, repliedOn, recordsOn, answersOn}
-use Rattle.arrays.specs.Table.{seen}
+use Rattle.words.specs.Table.{seen}
 use Rattle.feed.specs.Series.{Series}
 use Rattle.feed.specs.declared.Report.{Report}
 use Rattle.feed.specs.declared.Ran.{Ran}

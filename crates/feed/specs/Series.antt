@@ -10,7 +10,7 @@ use Prim.Native.Nat.{ℕ}
 use Rattle.routes.specs.Route.{Route}
 use Rattle.routes.specs.Answers.{Update, Record, update, lookup, Reply, reply, next, replies, leaves}
 use Rattle.routes.specs.Seen.{table, lookupOn}
-use Rattle.arrays.specs.Table.{seen}
+use Rattle.words.specs.Table.{seen}
 use Rattle.replies.specs.Said.{saidReply}
 use Rattle.replies.specs.declared.Reply as code
 use Rattle.update.specs.Update.{Updates}

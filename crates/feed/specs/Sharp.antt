@@ -8,7 +8,7 @@ use lib.ListN.{length, drop, length-append, length-drop}
 use lib.Seq.{drop-at}
 use Rattle.routes.specs.Seen.{Seen, misfit, foreign, table, runOn, repliedOn}
 use Rattle.routes.specs.Runs.{run}
-use Rattle.arrays.specs.Table.{seen}
+use Rattle.words.specs.Table.{seen}
 use Rattle.feed.specs.Runs.{runAnswer, reported, Runs}
 use Rattle.feed.specs.declared.Ran.{Ran}
 use Rattle.feed.specs.declared.Ran.the-variants.{Stopped, Refused}

@@ -11,7 +11,7 @@ use Rattle.numbers.specs.Digits.{twoAt, fourAt}
 use Rattle.routes.specs.Runs.{State, size, recordAt, taken}
 use Rattle.routes.specs.Seen.{Seen, misfit, foreign, table}
 use Rattle.laws.specs.Turns.{Clear}
-use Rattle.arrays.specs.Table.{seen}
+use Rattle.words.specs.Table.{seen}
 use Rattle.feed.specs.Series.{Asked}
 use Rattle.feed.specs.declared.Progress.{Progress}
 

@@ -7,7 +7,7 @@ ghost use lib.Dec.{eqb};
 ghost use Rattle.routes.specs.Answers.{isDone, isRefused};
 ghost use Rattle.routes.specs.Bytes.{replyBytes};
 ghost use Rattle.routes.specs.Runs.{size as sizeOf, halts};
-ghost use Rattle.arrays.specs.Table.{seen};
+ghost use Rattle.words.specs.Table.{seen};
 ghost use Rattle.replies.specs.Said.{saidReply};
 ghost use Rattle.feed.specs.Runs.{Runs};
 ghost use Rattle.feed.specs.Series.{Asked};

@@ -15,8 +15,8 @@ use Rattle.routes.specs.Match.{Match, none}
 use Rattle.routes.specs.Answers.{Reply, found, none as nothing, refused}
 use Rattle.routes.specs.Seen.{misfits, lookupOn}
 use Rattle.array.specs.Cell.{bestIn, linkIn}
-use Rattle.arrays.specs.Words.{arrayCount}
-use Rattle.arrays.specs.Table.{seen}
+use Rattle.words.specs.Words.{arrayCount}
+use Rattle.words.specs.Table.{seen}
 use Rattle.lookup.specs.Walk.{byteAt, hopOf, lengthOf, outside, deeper, turn, walkFrom, walk, walked}
 use Rattle.lookup.specs.Ended.{ended}
 use Rattle.lookup.specs.Longest.{walked-seen}

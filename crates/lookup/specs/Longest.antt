@@ -18,14 +18,14 @@ use Rattle.routes.specs.Seen.{lookupOn}
 use Rattle.logic.specs.Cases.{same}
 use Rattle.laws.specs.Longest.{longest-walk}
 use Rattle.array.specs.Right.{Right}
-use Rattle.arrays.specs.Arrays.{Arrays, at, node, held}
-use Rattle.arrays.specs.Shape.{Child}
-use Rattle.arrays.specs.Tree.{Level, node-level}
-use Rattle.arrays.specs.Need.{held-at, at-some, node-child, above}
-use Rattle.arrays.specs.Words.{arraysOf, arrayCount, slotsOf, bestsOf}
-use Rattle.arrays.specs.Table.{listOf, seen}
-use Rattle.arrays.specs.Almost.{Table}
-use Rattle.arrays.specs.View.{seen-cases}
+use Rattle.tree.specs.Arrays.{Arrays, at, node, held}
+use Rattle.tree.specs.Shape.{Child}
+use Rattle.tree.specs.Tree.{Level, node-level}
+use Rattle.tree.specs.Need.{held-at, at-some, node-child, above}
+use Rattle.words.specs.Words.{arraysOf, arrayCount, slotsOf, bestsOf}
+use Rattle.words.specs.Table.{listOf, seen}
+use Rattle.words.specs.Almost.{Table}
+use Rattle.words.specs.View.{seen-cases}
 use Rattle.lookup.specs.Walk.{byteAt, outside, deeper, walkFrom, walk, walked}
 use Rattle.lookup.specs.Level.{best-inside, level-last, level-first, last-skip, upTo}
 

@@ -13,7 +13,7 @@ use Rattle.routes.specs.Route.{tooLong}
 use Rattle.routes.specs.Match.{Match, none, found}
 use Rattle.routes.specs.Seen.{misfits}
 use Rattle.routes.specs.Answers.{Reply, refused, refuse, matched}
-use Rattle.arrays.specs.Words.{arraysOf, arrayCount, bestsOf}
+use Rattle.words.specs.Words.{arraysOf, arrayCount, bestsOf}
 
 -- the byte of an address that n bytes follow
 abbrev pub byteAt : ℕ → ℕ → ℕ

@@ -10,8 +10,8 @@ ghost use Rattle.sizes.specs.Sizes.{hopBound, bestBound};
 ghost use Rattle.routes.specs.Seen.{lookupOn};
 ghost use mathlib.Core.Bool.{cond};
 ghost use lib.Dec.{eqb};
-ghost use Rattle.arrays.specs.Table.{seen};
-ghost use Rattle.arrays.specs.Decides.{Fits};
+ghost use Rattle.words.specs.Table.{seen};
+ghost use Rattle.words.specs.Decides.{Fits};
 ghost use Rattle.lookup.specs.Walk.{hopOf, walk, walked};
 ghost use Rattle.lookup.specs.Ended.{ended};
 ghost use Rattle.replies.specs.Said.{saidReply};
@@ -84,7 +84,7 @@ pub fn lookup(words: &[u32], address: u32) -> Reply
     ensures { λ r. ⌜ saidReply r ≡ lookupOn 32 (seen 4 (now (words .entry))) (walk 4 (now (words .entry)) address) address ⌝ }
     ensures any_words { λ r. ⌜ saidReply r ≡ walked 4 (now (words .entry)) address ⌝ }
 {
-    if arrays::size::misfit(words.len()) {
+    if words::size::misfit(words.len()) {
         return Reply::Refused(1);
     }
     answer(descend(words, address))

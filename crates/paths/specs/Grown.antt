@@ -9,15 +9,17 @@ use Prim.Native.Nat.{ℕ, suc, _+_, _-_, _*_, _/_, _≤_, _<_}
 use native.Mathlib.Omega.{arith}
 use lib.ListN.{length, getD}
 use Rattle.sizes.specs.Sizes.{cellCount, perGroup}
-use Rattle.arrays.specs.Arrays.{node, held}
-use Rattle.arrays.specs.Tree.{Level, node-level}
-use Rattle.arrays.specs.Need.{node-child, node-above}
-use Rattle.arrays.specs.Words.{arraysOf, arrayCount}
-use Rattle.arrays.specs.Almost.{Almost}
-use Rattle.arrays.specs.Gained.{firstFree, gained, Gains}
-use Rattle.arrays.specs.Hang.{Hang, hang-held, other, node-cases}
-use Rattle.arrays.specs.Rehang.{Gain, gained-hang, gained-almost, gained-length, gained-counted}
-use Rattle.arrays.specs.Stock.{Found, find-some, used-full}
+use Rattle.tree.specs.Arrays.{node, held}
+use Rattle.tree.specs.Tree.{Level, node-level}
+use Rattle.tree.specs.Need.{node-child, node-above}
+use Rattle.words.specs.Words.{arraysOf, arrayCount}
+use Rattle.words.specs.Almost.{Almost}
+use Rattle.tree.specs.Free.{firstFree}
+use Rattle.words.specs.Gained.{gained, Gains}
+use Rattle.tree.specs.Hang.{Hang, hang-held, other, node-cases}
+use Rattle.words.specs.Gain.{Gain, gained-hang, gained-almost, gained-length, gained-counted}
+use Rattle.tree.specs.Free.{Found, used-full}
+use Rattle.words.specs.Stock.{find-some}
 use Rattle.numbers.specs.Front.{front, byteOf, byte-lt, front-more, front-up}
 use Rattle.paths.specs.Alike.{Alike, gained-alike}
 

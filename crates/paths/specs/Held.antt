@@ -13,12 +13,12 @@ use Rattle.routes.specs.Route.{route}
 use Rattle.routes.specs.Route as list
 use Rattle.laws.specs.Collect.{routes-hop}
 use Rattle.routes.specs.Collect.{routes, routeOf}
-use Rattle.arrays.specs.Arrays.{Arrays, node, held}
-use Rattle.arrays.specs.Need.{held-at}
-use Rattle.arrays.specs.Slot.{Place, held-place, at-none}
-use Rattle.arrays.specs.Words.{arraysOf, arrayCount, slotsOf}
-use Rattle.arrays.specs.Table.{listOf}
-use Rattle.arrays.specs.Almost.{Table}
+use Rattle.tree.specs.Arrays.{Arrays, node, held}
+use Rattle.tree.specs.Need.{held-at}
+use Rattle.tree.specs.Slot.{Place, held-place, at-none}
+use Rattle.words.specs.Words.{arraysOf, arrayCount, slotsOf}
+use Rattle.words.specs.Table.{listOf}
+use Rattle.words.specs.Almost.{Table}
 use Rattle.numbers.specs.Front.{front, value-lt, front-lt, prefix-whole}
 use Rattle.address.specs.Address.{IsPrefix, Stands}
 use Rattle.paths.specs.Stop.{Stops, stops-short}

@@ -6,13 +6,13 @@ use Prim.Native.Nat.{ℕ, suc, _+_, _-_, _*_, _/_, _^_, _≤_, _<_}
 use native.Mathlib.Omega.{arith}
 use lib.ListN.{getD}
 use Rattle.logic.specs.Cases.{same}
-use Rattle.arrays.specs.Arrays.{node}
-use Rattle.arrays.specs.Shape.{Shape}
-use Rattle.arrays.specs.Tree.{node-level}
-use Rattle.arrays.specs.Need.{node-child}
-use Rattle.arrays.specs.Words.{arraysOf, arrayCount}
-use Rattle.arrays.specs.Almost.{Almost}
-use Rattle.arrays.specs.Missing.{missing, missing-none, missing-depth}
+use Rattle.tree.specs.Arrays.{node}
+use Rattle.tree.specs.Shape.{Shape}
+use Rattle.tree.specs.Tree.{node-level}
+use Rattle.tree.specs.Need.{node-child}
+use Rattle.words.specs.Words.{arraysOf, arrayCount}
+use Rattle.words.specs.Almost.{Almost}
+use Rattle.tree.specs.Missing.{missing, missing-none, missing-depth}
 use Rattle.numbers.specs.Front.{front, byteOf, byte-lt, front-more, front-up}
 use Rattle.paths.specs.Grown.{Grown, Tip, grown-none}
 

@@ -6,9 +6,9 @@ ghost use Prim.Native.Nat.{_+_, _-_, _^_, _<_, _≤_};
 ghost use lib.ListN.{length as size, getD};
 ghost use Rattle.sizes.specs.Sizes.{leastWords, mostWords, arrayAt};
 ghost use Rattle.routes.specs.Room.{level as levelOf};
-ghost use Rattle.arrays.specs.Shape.{Shape};
-ghost use Rattle.arrays.specs.Words.{arraysOf, arrayCount};
-ghost use Rattle.arrays.specs.Almost.{Table};
+ghost use Rattle.tree.specs.Shape.{Shape};
+ghost use Rattle.words.specs.Words.{arraysOf, arrayCount};
+ghost use Rattle.words.specs.Almost.{Table};
 ghost use Rattle.numbers.specs.Front.{front, byteOf};
 ghost use Rattle.address.specs.Address.{Stands};
 ghost use Rattle.paths.specs.Grown.{Tip, Grown};
@@ -73,7 +73,7 @@ pub fn walk_down(words: &[u32], address: u32, k: usize) -> Stop
     let mut j = 0;
     while j < k {
         let y = byte_of(address, j);
-        let b = arrays::below(words, a, y);
+        let b = words::below(words, a, y);
         if b == 0 {
             return Stop { array: a, level: j };
         }
@@ -110,8 +110,8 @@ fn hang_path(words: &mut [u32], address: u32, a: usize, j: usize, k: usize) -> u
     let mut i = j;
     while i < k {
         let y = byte_of(address, i);
-        let f = arrays::find_free(words);
-        arrays::gain(words, b, y, f);
+        let f = words::find_free(words);
+        words::gain(words, b, y, f);
         b = f;
         i += 1;
     }
@@ -142,12 +142,12 @@ pub fn prune(words: &mut [u32], a: usize)
 {
     let mut b = a;
     while b != 1 {
-        if !arrays::empty(words, b) {
+        if !words::empty(words, b) {
             return;
         }
         let from = ARRAY_WORDS * b;
         let p = parent_in(words[from]);
-        arrays::release(words, b);
+        words::release(words, b);
         b = p;
     }
 }

@@ -38,6 +38,16 @@ cellsAt = 512
 abbrev pub cellSlots : ℕ
 cellSlots = 256
 
+-- the slots past the first, and how the test for a bare array looks at them: so many at a time, so often
+abbrev pub laterSlots : ℕ
+laterSlots = 510
+
+abbrev pub slotStride : ℕ
+slotStride = 34
+
+abbrev pub slotStrides : ℕ
+slotStrides = 15
+
 -- the words from here on have no use, whatever they hold
 abbrev pub unusedAt : ℕ
 unusedAt = 768
@@ -84,6 +94,13 @@ perGroup = 8
 
 abbrev pub groupCount : ℕ
 groupCount = 512
+
+-- the search for a free array passes full groups, so many at once, of so many arrays
+abbrev pub groupStride : ℕ
+groupStride = 8
+
+abbrev pub strideArrays : ℕ
+strideArrays = 64
 
 -- the first word after the groups, and how many words follow from there
 abbrev pub restAt : ℕ

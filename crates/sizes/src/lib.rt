@@ -13,6 +13,10 @@ pub const MOST_WORDS: usize = 4195328;
 pub const LAST_SLOT: usize = 511;
 // One past the last slot.
 pub const SLOT_END: usize = 512;
+// The test for a bare array looks at the slots past the first so many at a time, ..
+pub const SLOT_STRIDE: usize = 34;
+// .. and so often.
+pub const SLOT_STRIDES: usize = 15;
 // How many cells an array has.
 pub const CELL_COUNT: usize = 256;
 // The first cell's word in an array.
@@ -38,6 +42,10 @@ pub const LEVEL_BOUND: u32 = 32;
 pub const PER_GROUP: usize = 8;
 // How many groups the header counts.
 pub const GROUP_COUNT: usize = 512;
+// The search for a free array passes full groups, so many at once, ..
+pub const GROUP_STRIDE: usize = 8;
+// .. of so many arrays.
+pub const STRIDE_ARRAYS: usize = 64;
 // The header's first word after the groups.
 pub const REST_AT: usize = 513;
 // How many words of the header are left from there: they are 0.

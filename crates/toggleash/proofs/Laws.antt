@@ -8,7 +8,7 @@ use lib.ListN.{length, drop}
 use Rattle.routes.specs.Answers.{Update, refused, isRefused}
 use Rattle.routes.specs.Seen.{Answer, gives, refuses, countOn, frontOn}
 use Rattle.logic.specs.Cases.{less}
-use Rattle.arrays.specs.Table.{seen}
+use Rattle.words.specs.Table.{seen}
 use Rattle.audit.specs.declared.Cleared.{Cleared}
 use Rattle.audit.specs.Told.{toldClear, Clears as Below}
 use Rattle.replies.specs.Said.{saidReply}

@@ -5,7 +5,7 @@ use Prim.Native.Nat.{ℕ, _≤_}
 use lib.ListN.{length, drop}
 use Rattle.routes.specs.Answers.{Update, Reply, done, found, none, refused}
 use Rattle.routes.specs.Seen.{Answer, gives, refuses, Counts, answerOn, afterOn, clearOn, clearedOn, countOn, frontOn, runOn, ranOn, repliedOn, recordsOn, answersOn}
-use Rattle.arrays.specs.Table.{seen}
+use Rattle.words.specs.Table.{seen}
 use Rattle.paths.specs.Alike.{Alike}
 use Rattle.update.specs.Update.{Touches}
 use Rattle.feed.specs.Series.{Series}

@@ -7,7 +7,7 @@ ghost use mathlib.Core.Path.{_≡_};
 ghost use lib.ListN.{length};
 ghost use Rattle.routes.specs.Answers.{announce as announced, withdraw as withdrawn};
 ghost use Rattle.routes.specs.Seen.{lookupOn, checkOn};
-ghost use Rattle.arrays.specs.Table.{seen};
+ghost use Rattle.words.specs.Table.{seen};
 ghost use Rattle.lookup.specs.Walk.{walk};
 ghost use Rattle.writing.specs.Told.{toldCount};
 ghost use Rattle.feed.specs.Runs.{runAnswer};

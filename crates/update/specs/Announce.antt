@@ -20,16 +20,17 @@ use Rattle.logic.specs.Cases.{bool, same}
 use Rattle.laws.specs.Sorted.{insert-same, insert-held}
 use Rattle.laws.specs.Collect.{routes-from, routes-goods}
 use Rattle.routes.specs.Collect.{routes, routeOf}
-use Rattle.arrays.specs.Arrays.{Arrays, node, held}
-use Rattle.arrays.specs.Shape.{HasSlot, HasLink}
-use Rattle.arrays.specs.Words.{arraysOf, arrayCount}
-use Rattle.arrays.specs.Almost.{Almost, Table}
-use Rattle.arrays.specs.Table.{listOf}
-use Rattle.arrays.specs.Tree.{Level, node-level}
-use Rattle.arrays.specs.Slot.{Place, Slotted, slotted-insert}
-use Rattle.arrays.specs.Reslot.{reslot-slotted, reslot-almost, almost-whole}
-use Rattle.arrays.specs.Stock.{count-need, used-full}
-use Rattle.arrays.specs.Missing.{need-more}
+use Rattle.tree.specs.Arrays.{Arrays, node, held}
+use Rattle.tree.specs.Shape.{HasSlot, HasLink}
+use Rattle.words.specs.Words.{arraysOf, arrayCount}
+use Rattle.words.specs.Almost.{Almost, Table}
+use Rattle.words.specs.Table.{listOf}
+use Rattle.tree.specs.Tree.{Level, node-level}
+use Rattle.tree.specs.Slot.{Place, Slotted, slotted-insert}
+use Rattle.words.specs.Reslot.{reslot-slotted, reslot-almost, almost-whole}
+use Rattle.words.specs.Stock.{count-need}
+use Rattle.tree.specs.Free.{used-full}
+use Rattle.tree.specs.Missing.{need-more}
 use Rattle.numbers.specs.Front.{front}
 use Rattle.address.specs.Address.{stands-level}
 use Rattle.paths.specs.Grown.{Grown}

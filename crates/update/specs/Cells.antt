@@ -18,8 +18,8 @@ use Rattle.laws.specs.Longest.{routes-wfs}
 use Rattle.laws.specs.Cells.{open-cells, cells-open}
 use Rattle.laws.specs.Hidden.{cellKey, heldPast, hidden-held}
 use Rattle.array.specs.Put.{anyUp, exposed}
-use Rattle.arrays.specs.Arrays.{Arrays, node, held}
-use Rattle.arrays.specs.Need.{at-some, held-at}
+use Rattle.tree.specs.Arrays.{Arrays, node, held}
+use Rattle.tree.specs.Need.{at-some, held-at}
 
 -- the low bits apart
 quot : (q i e m : ℕ) → e + m ≡ 8 → (q * 256 + i) / 2 ^ m ≡ q * 2 ^ e + i / 2 ^ m

@@ -7,9 +7,9 @@ use native.Mathlib.Omega.{arith}
 use Rattle.routes.specs.Route.{Route}
 use Rattle.routes.specs.Answers.{Update}
 use Rattle.routes.specs.Seen.{table}
-use Rattle.arrays.specs.Table.{seen}
-use Rattle.arrays.specs.Decides.{table-tells}
-use Rattle.arrays.specs.View.{seen-table, table-of, table-fits, fits-no-misfit}
+use Rattle.words.specs.Table.{seen}
+use Rattle.words.specs.Decides.{table-tells}
+use Rattle.words.specs.View.{seen-table, table-of, table-fits, fits-no-misfit}
 use Rattle.replies.specs.declared.Reply.{Reply}
 use Rattle.update.specs.Update.{refusalOf, Updates}
 use Rattle.update.specs.Refuse.{refusal-none, passed}

@@ -13,11 +13,11 @@ use Rattle.sizes.specs.Sizes.{arrayWords}
 use Rattle.routes.specs.Route.{Route, tooLong, stray, badHop}
 use Rattle.routes.specs.Answers.{Update, announce, withdraw, Reply, refused, isDone, faulty, verdict, answer}
 use Rattle.routes.specs.Seen.{Seen, misfit, foreign, table, misfits, answerOn, afterOn}
-use Rattle.arrays.specs.Words.{arrayCount}
-use Rattle.arrays.specs.Table.{tableB, listOf, seen}
-use Rattle.arrays.specs.Almost.{Table}
-use Rattle.arrays.specs.View.{fits-no-misfit, no-misfit-fits, table-fits, seen-misfit, seen-foreign, seen-table, seen-cases}
-use Rattle.arrays.specs.Decides.{table-tells}
+use Rattle.words.specs.Words.{arrayCount}
+use Rattle.words.specs.Table.{tableB, listOf, seen}
+use Rattle.words.specs.Almost.{Table}
+use Rattle.words.specs.View.{fits-no-misfit, no-misfit-fits, table-fits, seen-misfit, seen-foreign, seen-table, seen-cases}
+use Rattle.words.specs.Decides.{table-tells}
 use Rattle.address.specs.Address.{IsPrefix}
 use Rattle.replies.specs.declared.Reply as code
 use Rattle.replies.specs.declared.Reply.the-variants.{Refused}

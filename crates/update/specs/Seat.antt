@@ -14,12 +14,12 @@ use Rattle.array.specs.Cell.{bestIn, linkIn}
 use Rattle.array.specs.Block.{slots, bests, links}
 use Rattle.array.specs.Right.{Right, right-ext}
 use Rattle.array.specs.Put.{anyUp, exposed, Spot, Reslotted}
-use Rattle.arrays.specs.Arrays.{lev}
-use Rattle.arrays.specs.Words.{arraysOf, arrayCount, slotsOf, bestsOf}
-use Rattle.arrays.specs.Almost.{Almost}
-use Rattle.arrays.specs.Tree.{node-level}
-use Rattle.arrays.specs.Slot.{Place}
-use Rattle.arrays.specs.Reslot.{Reslot}
+use Rattle.tree.specs.Arrays.{lev}
+use Rattle.words.specs.Words.{arraysOf, arrayCount, slotsOf, bestsOf}
+use Rattle.words.specs.Almost.{Almost}
+use Rattle.tree.specs.Tree.{node-level}
+use Rattle.tree.specs.Slot.{Place}
+use Rattle.words.specs.Reslot.{Reslot}
 use Rattle.array.specs.Frame.{blockOf, withBlock, block-word, block-length, with-length, with-in, with-other}
 
 -- array a, of level k, is right, and has a slot of length d and value x

@@ -5,7 +5,7 @@ use mathlib.Core.Bool.{true}
 use mathlib.Core.List.{List}
 use Prim.Native.Nat.{ℕ}
 use Rattle.routes.specs.Answers.{Update, isRefused}
-use Rattle.arrays.specs.Table.{seen}
+use Rattle.words.specs.Table.{seen}
 use Rattle.replies.specs.Said.{saidReply, reply-one}
 use Rattle.replies.specs.declared.Reply.{Reply}
 use Rattle.update.specs.Update.{Updates}

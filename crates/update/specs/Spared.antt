@@ -7,13 +7,13 @@ use native.Mathlib.Omega.{arith}
 use Rattle.logic.specs.Cases.{same, less}
 use Rattle.sizes.specs.Sizes.{wordAt}
 use Rattle.array.specs.Tag.{tagOf, parentIn, levelIn}
-use Rattle.arrays.specs.Arrays.{Arrays, node, par}
-use Rattle.arrays.specs.Shape.{Shape}
-use Rattle.arrays.specs.Tree.{node-level, node-tag}
-use Rattle.arrays.specs.Need.{node-above}
-use Rattle.arrays.specs.Words.{arraysOf, arrayCount}
-use Rattle.arrays.specs.Slot.{Slotted, same-node}
-use Rattle.arrays.specs.Reslot.{Reslot}
+use Rattle.tree.specs.Arrays.{Arrays, node, par}
+use Rattle.tree.specs.Shape.{Shape}
+use Rattle.tree.specs.Tree.{node-level, node-tag}
+use Rattle.tree.specs.Need.{node-above}
+use Rattle.words.specs.Words.{arraysOf, arrayCount}
+use Rattle.tree.specs.Slot.{Slotted, same-node}
+use Rattle.words.specs.Reslot.{Reslot}
 use Rattle.numbers.specs.Front.{front, front-up}
 use Rattle.paths.specs.Alike.{Alike}
 use Rattle.paths.specs.Grown.{Grown}

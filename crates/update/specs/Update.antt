@@ -11,10 +11,10 @@ use Rattle.routes.specs.Route.{tooLong, stray, badHop}
 use Rattle.routes.specs.Room.{level}
 use Rattle.routes.specs.Answers.{Update, announce, withdraw, isDone, isRefused, changed, verdict}
 use Rattle.routes.specs.Seen.{misfits, answerOn, afterOn}
-use Rattle.arrays.specs.Arrays.{Arrays, node}
-use Rattle.arrays.specs.Words.{arraysOf, arrayCount}
-use Rattle.arrays.specs.Table.{tableB, listOf, seen}
-use Rattle.arrays.specs.Almost.{Table}
+use Rattle.tree.specs.Arrays.{Arrays, node}
+use Rattle.words.specs.Words.{arraysOf, arrayCount}
+use Rattle.words.specs.Table.{tableB, listOf, seen}
+use Rattle.words.specs.Almost.{Table}
 use Rattle.numbers.specs.Front.{front}
 use Rattle.paths.specs.Alike.{Alike}
 use Rattle.replies.specs.Said.{saidReply}

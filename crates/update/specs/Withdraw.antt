@@ -18,12 +18,12 @@ use Rattle.laws.specs.Sorted.{remove-same}
 use Rattle.laws.specs.Collect.{routes-from}
 use Rattle.routes.specs.Collect.{routeOf}
 use Rattle.array.specs.Tag.{levelIn}
-use Rattle.arrays.specs.Arrays.{held}
-use Rattle.arrays.specs.Words.{arraysOf, arrayCount, slotsOf}
-use Rattle.arrays.specs.Table.{listOf}
-use Rattle.arrays.specs.Tree.{Level, node-level}
-use Rattle.arrays.specs.Slot.{Place, Slotted, same-node, slotted-remove}
-use Rattle.arrays.specs.Reslot.{reslot-slotted, reslot-almost}
+use Rattle.tree.specs.Arrays.{held}
+use Rattle.words.specs.Words.{arraysOf, arrayCount, slotsOf}
+use Rattle.words.specs.Table.{listOf}
+use Rattle.tree.specs.Tree.{Level, node-level}
+use Rattle.tree.specs.Slot.{Place, Slotted, same-node, slotted-remove}
+use Rattle.words.specs.Reslot.{reslot-slotted, reslot-almost}
 use Rattle.numbers.specs.Front.{front}
 use Rattle.address.specs.Address.{stands-level}
 use Rattle.paths.specs.Stop.{On}

@@ -5,8 +5,8 @@ ghost use mathlib.Core.Path.{_≡_};
 ghost use Prim.Native.Nat.{_+_, _^_, _<_, _≤_};
 ghost use Rattle.sizes.specs.Sizes.{hopBound};
 ghost use Rattle.routes.specs.Answers.{announce as announced, withdraw as withdrawn};
-ghost use Rattle.arrays.specs.Words.{slotsOf};
-ghost use Rattle.arrays.specs.Almost.{Table};
+ghost use Rattle.words.specs.Words.{slotsOf};
+ghost use Rattle.words.specs.Almost.{Table};
 ghost use Rattle.address.specs.Address.{IsPrefix};
 ghost use Rattle.update.specs.Seat.{Seat, Seated};
 ghost use Rattle.update.specs.Update.{Updates, Applies, faultOf, refusalOf};
@@ -135,7 +135,7 @@ pub fn withdraw_on(words: &mut [u32], address: u32, length: u32) -> Reply
 pub fn refusal(words: &[u32], fault: u32) -> u32
     ensures { λ r. ⌜ r ≡ refusalOf (now (words .entry)) fault ⌝ }
 {
-    if arrays::size::misfit(words.len()) {
+    if words::size::misfit(words.len()) {
         return 1;
     }
     if fault != 0 {

@@ -8,7 +8,7 @@ ghost use mathlib.Core.Path.{_≡_};
 ghost use lib.ListN.{length};
 ghost use Rattle.routes.specs.Bytes.{written};
 ghost use Rattle.routes.specs.Seen.{countOn, frontOn};
-ghost use Rattle.arrays.specs.Table.{listOf, seen};
+ghost use Rattle.words.specs.Table.{listOf, seen};
 ghost use Rattle.writing.specs.Told.{toldCount, Fills};
 ghost use Rattle.writing.specs.Wrote.{Wrote};
 ghost use Rattle.writing.specs.Halves.{halfOf};

@@ -1,7 +1,7 @@
 -- The address read from the feed's bytes is looked up, and the answer is the call's. Assumes nothing.
 use Rattle.feed.proofs.Answers.{is-table, asked-lookup}
 use borrow.Author.Needs.{needs}
-use Rattle.arrays.specs.View.{table-fits}
+use Rattle.words.specs.View.{table-fits}
 use Rattle.feed.proofs.lookup.Statement.{statement}
 use Rattle.feed.proofs.lookup.Tie as tie
 

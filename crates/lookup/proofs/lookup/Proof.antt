@@ -3,7 +3,7 @@
 use mathlib.Core.Path.{sym, _∙_}
 use native.Mathlib.Omega.{arith}
 use borrow.Author.Needs.{needs}
-use Rattle.arrays.specs.View.{no-misfit-fits}
+use Rattle.words.specs.View.{no-misfit-fits}
 use Rattle.lookup.proofs.Laws.{small-words, sized-words, both}
 use Rattle.lookup.proofs.lookup.Statement.{statement}
 use Rattle.lookup.proofs.lookup.Tie as tie

@@ -2,7 +2,7 @@
 use mathlib.Core.Path.{_∙_}
 use native.Mathlib.Omega.{arith}
 use borrow.Author.Needs.{needs}
-use Rattle.arrays.specs.View.{fits-no-misfit}
+use Rattle.words.specs.View.{fits-no-misfit}
 use Rattle.lookup.proofs.Laws.{sized-words, both}
 use Rattle.lookup.proofs.lookup_on.Statement.{statement}
 use Rattle.lookup.proofs.lookup_on.Tie as tie

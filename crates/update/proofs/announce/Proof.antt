@@ -2,7 +2,7 @@
 use mathlib.Core.Path.{_≡_, sym, ap, _∙_}
 use borrow.Author.Needs.{needs}
 use Rattle.routes.specs.Answers.{announce as update}
-use Rattle.arrays.specs.Almost.{Table}
+use Rattle.words.specs.Almost.{Table}
 use Rattle.update.specs.Update.{faultOf, refusalOf}
 use Rattle.update.specs.Refuse.{refused-by, passed, sound-route, applied}
 use Rattle.update.proofs.announce.Statement.{statement}

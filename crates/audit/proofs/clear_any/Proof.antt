@@ -1,0 +1,73 @@
+-- `audit::clear_any` refuses a wrong size and changes nothing, or leaves the cleared words, which are an empty table. Assumes nothing.
+use mathlib.Core.Path.{sym, _∙_}
+use native.Mathlib.Omega.{arith}
+use lib.ListN.{length, length-set}
+use Rattle.words.specs.View.{no-misfit-fits}
+use Rattle.audit.proofs.Laws.{clear-refused, clear-done}
+use borrow.Author.Needs.{needs}
+use Rattle.audit.proofs.clear_any.Statement.{statement}
+use Rattle.audit.proofs.clear_any.Tie as tie
+
+misfit-requires : tie.Need-misfit-requires
+misfit-requires c κs = search needs
+
+returns : tie.Need-returns
+returns c =
+    λ L some levels. clear-refused L (c .before .before .before .args .words .now) _ (c .before .misfit .ensures) (c .if1 .taken)
+
+wipe-requires : tie.Need-wipe-requires
+wipe-requires c κs = search needs
+
+array-at-requires : tie.Need-array-at-requires
+array-at-requires c κs = search needs
+
+slice-write-words : tie.Need-slice-write-words
+slice-write-words c =
+    let w = c .before .before .before in
+    let size = w .before .before .before in
+    let f = no-misfit-fits (length (size .before .before .args .words .now)) (sym (size .misfit .ensures) ∙ w .before .before .if1 .left) in
+    omega (arith, f .low, w .wipe .kept .0)
+
+slice-write-words-2 : tie.Need-slice-write-words-2
+slice-write-words-2 c =
+    let w = c .before .before .before in
+    let size = w .before .before .before in
+    let f = no-misfit-fits (length (size .before .before .args .words .now)) (sym (size .misfit .ensures) ∙ w .before .before .if1 .left) in
+    simp length-set (omega (arith, f .low, w .wipe .kept .0))
+
+mul-words : tie.Need-mul-words
+mul-words c = search needs
+
+slice-write-words-3 : tie.Need-slice-write-words-3
+slice-write-words-3 c =
+    let w = c .before .before .before in
+    let size = w .before .before .before in
+    let f = no-misfit-fits (length (size .before .before .args .words .now)) (sym (size .misfit .ensures) ∙ w .before .before .if1 .left) in
+    simp length-set (omega (arith, f .low, w .wipe .kept .0, c .array-at .ensures))
+
+same-length : tie.Need-same-length
+same-length c = search needs
+
+returns-2 : tie.Need-returns-2
+returns-2 c =
+    λ L some levels.
+    let w = c .before .before .before in
+    let size = w .before .before .before in
+    rw (c .array-at .ensures)
+    (clear-done L some levels (size .before .before .args .words .now) (w .wipe .last .0)
+    (sym (size .misfit .ensures) ∙ w .before .before .if1 .left) (w .wipe .ensures))
+
+pub clear-any-spec : {M : Type 1} → statement M
+clear-any-spec =
+    tie.close
+    (tie.spec
+    misfit-requires
+    returns
+    wipe-requires
+    array-at-requires
+    slice-write-words
+    slice-write-words-2
+    mul-words
+    slice-write-words-3
+    same-length
+    returns-2)

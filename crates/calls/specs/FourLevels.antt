@@ -1,0 +1,286 @@
+-- A table with routes on all four levels exists. Assumes nothing.
+--
+--     header │ array 1 ──cell 10──► array 2 ──cell 1──► array 3 ──cell 1──► array 4
+--              10.0.0.0/8           10.1.0.0/16         10.1.1.0/24         10.1.1.1/32
+use mathlib.Core.Path.{_≡_, refl, sym, ap, ap₂, _∙_}
+use mathlib.Core.Logic.{_⊎_, _≢_, inl, inr, ⊎-elim}
+use mathlib.Core.List.{List, [], _∷_}
+use Prim.Native.Nat.{ℕ, zero, suc, _+_, _-_, _*_, _/_, _^_, _≤_, _<_}
+use native.Mathlib.Nat.{div-le-self}
+use native.Mathlib.Omega.{arith}
+use lib.ListN.{length, getD, set, length-set}
+use lib.Seq.{getD-set-same, getD-set-other}
+use lib.Pow.{shr-shr, shr-lt}
+use Rattle.sizes.specs.Sizes.{arrayWords, slotEnd, cellCount, cellSlots, arrayAt, wordAt, cellAt, hopBound}
+use Rattle.routes.specs.Route.{Route, route, insert}
+use Rattle.routes.specs.Seen.{table}
+use Rattle.routes.specs.Small.{ip}
+use Rattle.logic.specs.Cases.{same}
+use Rattle.routes.specs.Collect.{routes, routeOf}
+use Rattle.array.specs.Tag.{levelIn}
+use Rattle.array.specs.Cell.{bestIn, linkIn, link-blank}
+use Rattle.array.specs.With.{withBest, best-set, link-kept}
+use Rattle.array.specs.Block.{bestOf}
+use Rattle.array.specs.Right.{Right}
+use Rattle.array.specs.Best.{best-some, best-ext}
+use Rattle.array.specs.Change.{best-apart}
+use Rattle.tree.specs.Arrays.{Arrays, lev, node}
+use Rattle.tree.specs.Tree.{node-level}
+use Rattle.tree.specs.Need.{node-child}
+use Rattle.words.specs.Words.{arraysOf, arrayCount, slotsOf, bestsOf}
+use Rattle.words.specs.Almost.{Almost}
+use Rattle.words.specs.Gained.{gained}
+use Rattle.tree.specs.Hang.{Hang, node-cases, hang-held}
+use Rattle.words.specs.Gain.{Gain, gained-length, gained-hang, gained-almost}
+use Rattle.tree.specs.Slot.{Slotted, Place, same-node, slotted-insert}
+use Rattle.words.specs.Reslot.{Reslot, almost-loose, almost-whole, reslot-slotted, reslot-almost}
+use Rattle.words.specs.Clear.{cleared, cleared-word, cleared-length, cleared-table, cleared-routes}
+use Rattle.words.specs.Table.{listOf, seen}
+use Rattle.words.specs.View.{seen-table}
+
+-- ---- a row of arrays, each below a cell of the one before
+
+-- the arrays 1 .. k + 1 are the row along the path q of k bytes, and hold nothing yet
+record Row (k q : ℕ) (ws : List ℕ) : Type 0 where
+  pub ok : Almost 4 (k + 1) ws
+  pub size : length ws ≡ 5120
+  pub leads : (j : ℕ) → j ≤ k → node (arraysOf ws) (q / 2 ^ (8 * (k - j))) j ≡ j + 1
+  pub free : (c : ℕ) → k + 1 < c → arraysOf ws .tag c ≡ 0
+  pub off : (i : ℕ) → i < cellCount → arraysOf ws .link (k + 1) i ≡ 0
+  pub list : listOf 4 ws ≡ []
+
+row-first : Row 0 0 (cleared 5120)
+unfolding node
+row-first = record {
+  ok = almost-loose 4 1 (cleared 5120) (cleared-table 5120 (omega arith) 4 (omega arith) (omega arith) refl (omega arith));
+  size = cleared-length 5120 (omega arith);
+  leads = λ j h. (let e : j ≡ 0 = omega arith in rw e);
+  free = λ c h. cleared-word 5120 (omega arith) (arrayAt c) (λ e. omega arith) (λ e. omega arith) (λ e. omega arith);
+  off = λ i h. link-blank _
+      (cleared-word 5120 (omega arith) (cellAt 1 i) (λ e. omega arith) (λ e. omega arith) (λ e. omega arith));
+  list = cleared-routes 5120 32 (omega arith);
+}
+
+module _ (k q i : ℕ) (ws : List ℕ) (row : Row k q ws) (more : k < 3) (cell : i < cellCount) where
+  abbrev t : Arrays
+  t = arraysOf ws
+
+  abbrev vs : List ℕ
+  vs = gained ws (k + 1) i (k + 2)
+
+  abbrev u : Arrays
+  u = arraysOf vs
+
+  -- the last of the row
+  last : node t q k ≡ k + 1
+  last = let e : 8 * (k - k) ≡ 0 = omega arith in let f : q / 1 ≡ q = omega arith in rw (e, f) at (row .leads k (omega arith))
+
+  level : lev t (k + 1) ≡ k + 1
+  level = rw last at (node-level (arrayCount ws) 4 t (row .ok .shape) q k (omega (arith, last)) .level)
+
+  gain : Gain 4 ws (k + 1) i (k + 2)
+  gain = record {
+    parent = omega arith;
+    inside = omega (arith, row .size);
+    cells = cell;
+    used = omega (arith, level);
+    deep = omega (arith, level);
+    off = row .off i cell;
+    some = omega arith;
+    within = omega (arith, row .size);
+    free = row .free (k + 2) (omega arith);
+  }
+
+  hang : Hang (arrayCount ws) 4 t u (k + 1) i (k + 2)
+  hang = gained-hang 4 ws (k + 1) i (k + 2) (row .ok) gain
+
+  -- what a path led to, it leads to
+  keeps : (v j : ℕ) → 1 ≤ node t v j → node u v j ≡ node t v j
+  keeps v j h =
+      ⊎-elim (λ (z : node u v j ≡ node t v j). z) (λ (z : (node u v j ≡ k + 2) × (node t v j ≡ 0)). absurd (omega (arith, z .1)))
+      (node-cases (arrayCount ws) 4 t u (k + 1) i (k + 2) hang (row .ok .shape) v j)
+
+  leads-to : (j : ℕ) → j ≤ k + 1 → node u ((q * 256 + i) / 2 ^ (8 * (k + 1 - j))) j ≡ j + 1
+  leads-to j h =
+      same j (suc k)
+      (λ e _. (let f : 8 * (k + 1 - suc k) ≡ 0 = omega arith in
+      let g : (q * 256 + i) / 1 ≡ q * 256 + i = omega arith in
+      let n : node u q k ≡ k + 1 = keeps q k (omega (arith, last)) ∙ last in
+      rw (e, f, g) (node-child u q k i cell (omega (arith, n)) ∙ ap (λ (a : ℕ). u .link a i) n ∙ hang .on ∙ omega arith)))
+      (λ n _. (let f : 8 * (k + 1 - j) ≡ 8 + 8 * (k - j) = omega arith in
+      let g : (q * 256 + i) / 256 ≡ q = omega arith in
+      let l = row .leads j (omega arith) in
+      rw (f, ← (shr-shr (q * 256 + i) 8 (8 * (k - j))), g) (keeps (q / 2 ^ (8 * (k - j))) j (omega (arith, l)) ∙ l)))
+
+  row-more : Row (k + 1) (q * 256 + i) vs
+  row-more = record {
+    ok = (let e : k + 1 + 1 ≡ k + 2 = omega arith in rw e (gained-almost 4 ws (k + 1) i (k + 2) (row .ok) gain));
+    size = gained-length 4 ws (k + 1) i (k + 2) (row .ok) gain ∙ row .size;
+    leads = leads-to;
+    free = λ c h. hang .tags c (omega arith) (λ e. omega arith) ∙ row .free c (omega arith);
+    off = λ j h. (let e : k + 1 + 1 ≡ k + 2 = omega arith in rw e (hang .links (k + 2) j (omega arith) h (inl (λ z. omega arith)) ∙ hang .no-link j h));
+    list = ap (routes 32) (λ x v l. hang-held (arrayCount ws) 4 t u (k + 1) i (k + 2) hang (row .ok .shape) v l x) ∙ row .list;
+  }
+
+-- ---- a route of 8 bits in an array: its slot and its cell
+
+-- ws with the hop h for the last 8 bits x in array a
+abbrev posted : List ℕ → ℕ → ℕ → ℕ → List ℕ
+posted ws a x h = set (set ws (wordAt a (cellSlots + x)) h) (cellAt a x) (withBest (getD ws (cellAt a x) 0) (8 * hopBound + h))
+
+module _ (ws : List ℕ) (a x h : ℕ) (inside : arrayAt (a + 1) ≤ length ws) (small : x < cellCount) (hop : h < hopBound)
+    (some : 1 ≤ h) (deep : 1 ≤ levelIn (getD ws (arrayAt a) 0))
+    (right : Right (levelIn (getD ws (arrayAt a) 0)) (slotsOf ws a) (bestsOf ws a)) where
+  abbrev lv : ℕ
+  lv = levelIn (getD ws (arrayAt a) 0)
+
+  abbrev ms : List ℕ
+  ms = set ws (wordAt a (cellSlots + x)) h
+
+  abbrev ps : List ℕ
+  ps = posted ws a x h
+
+  first : (k : ℕ) → k ≢ cellAt a x → getD ps k 0 ≡ getD ms k 0
+  first k n = getD-set-other ms (cellAt a x) k _ 0 n
+
+  second : (k : ℕ) → k ≢ wordAt a (cellSlots + x) → getD ms k 0 ≡ getD ws k 0
+  second k n = getD-set-other ws (wordAt a (cellSlots + x)) k h 0 n
+
+  word : (k : ℕ) → k ≢ cellAt a x → k ≢ wordAt a (cellSlots + x) → getD ps k 0 ≡ getD ws k 0
+  word k m n = first k m ∙ second k n
+
+  slot-here : slotsOf ps a (cellSlots + x) ≡ h
+  slot-here = first (wordAt a (cellSlots + x)) (λ e. omega arith) ∙ getD-set-same ws (wordAt a (cellSlots + x)) h 0 (omega arith)
+
+  slot-same : (r : ℕ) → r < slotEnd → r ≢ cellSlots + x → slotsOf ps a r ≡ slotsOf ws a r
+  slot-same r b n = word (wordAt a r) (λ e. omega arith) (λ e. n (omega arith))
+
+  cell-here : getD ps (cellAt a x) 0 ≡ withBest (getD ws (cellAt a x) 0) (8 * hopBound + h)
+  cell-here = getD-set-same ms (cellAt a x) _ 0 (simp length-set (omega arith))
+
+  cell-same : (i : ℕ) → i < cellCount → i ≢ x → getD ps (cellAt a i) 0 ≡ getD ws (cellAt a i) 0
+  cell-same i b n = word (cellAt a i) (λ e. n (omega arith)) (λ e. omega arith)
+
+  tag-same : getD ps (arrayAt a) 0 ≡ getD ws (arrayAt a) 0
+  tag-same = word (arrayAt a) (λ e. omega arith) (λ e. omega arith)
+
+  -- a slot of 8 bits stands above its own cell only
+  apart : (i : ℕ) → i < cellCount → i ≢ x → (e : ℕ) → (cellSlots + i) / 2 ^ e ≢ cellSlots + x
+  apart i b n zero z = n (omega arith)
+  apart i b n (suc e) z =
+      let d = shr-shr (cellSlots + i) 1 e in let m = div-le-self ((cellSlots + i) / 2) (2 ^ e) in
+      let f : 1 + e ≡ suc e = omega arith in omega (arith, rw f at d)
+
+  best-right : (i : ℕ) → i < cellCount → bestsOf ps a i ≡ bestOf (slotsOf ps a) (cellSlots + i) 8
+  best-right i b =
+      same i x
+      (λ e _. rw (e, best-some (slotsOf ps a) (cellSlots + x) 8 (λ z. omega (arith, slot-here)), slot-here)
+      (ap bestIn cell-here ∙ best-set (getD ws (cellAt a x) 0) (8 * hopBound + h)))
+      (λ n _. ap bestIn (cell-same i b n)
+      ∙ right .sound .best i b
+      ∙ sym (best-apart (slotsOf ws a) (slotsOf ms a) (cellSlots + x) (λ r m. second (wordAt a r) (λ e. m (omega arith))) 8
+      (cellSlots + i) (apart i b n))
+      ∙ best-ext (slotsOf ms a) (slotsOf ps a) (λ s l w. sym (first (wordAt a s) (λ e. omega arith))) (cellSlots + i) 8
+      (omega arith) (omega arith))
+
+  posted-reslot : Reslot ws ps a (cellSlots + x) h
+  posted-reslot = record {
+    size = simp length-set;
+    outside = λ k o. ⊎-elim
+        (λ (z : k < arrayAt a). word k (λ e. omega arith) (λ e. omega arith))
+        (λ (z : arrayAt (a + 1) ≤ k). word k (λ e. omega arith) (λ e. omega arith)) o;
+    tag = tag-same;
+    links = λ i b. same i x
+        (λ e _. rw e (ap linkIn cell-here ∙ link-kept (getD ws (cellAt a x) 0) (8 * hopBound + h)))
+        (λ n _. ap linkIn (cell-same i b n));
+    here = slot-here;
+    slots = λ r l b n. slot-same r b n;
+    right = rw tag-same (record {
+      sound = record {
+        hops = λ s l b. same s (cellSlots + x) (λ e _. rw (e, slot-here) hop)
+            (λ n _. rw (slot-same s b n) (right .sound .hops s l b));
+        best = best-right;
+      };
+      first = λ z. slot-same 1 (omega arith) (λ e. omega arith) ∙ right .first z;
+    });
+  }
+
+-- ---- a route in each array of the row 10.1.1
+
+-- the row of all four arrays stands for the list rs; array e may be empty
+record Posts (e : ℕ) (ws : List ℕ) (rs : List Route) : Type 0 where
+  pub ok : Almost 4 e ws
+  pub size : length ws ≡ 5120
+  pub leads : (j : ℕ) → j ≤ 3 → node (arraysOf ws) (655617 / 2 ^ (8 * (3 - j))) j ≡ j + 1
+  pub list : listOf 4 ws ≡ rs
+
+module _ (e : ℕ) (ws : List ℕ) (rs : List Route) (p : Posts e ws rs) (j x h : ℕ) (at : (e ≡ 0) ⊎ (e ≡ j + 1)) (deep : j ≤ 3)
+    (small : x < cellCount) (some : 1 ≤ h) (hop : h < hopBound) where
+  abbrev t₁ : Arrays
+  t₁ = arraysOf ws
+
+  abbrev v : ℕ
+  v = 655617 / 2 ^ (8 * (3 - j))
+
+  level₁ : lev t₁ (j + 1) ≡ j + 1
+  level₁ = rw (p .leads j deep) at (node-level (arrayCount ws) 4 t₁ (p .ok .shape) v j (omega (arith, p .leads j deep)) .level)
+
+  used : 1 ≤ t₁ .tag (j + 1)
+  used = omega (arith, level₁)
+
+  slot : Reslot ws (posted ws (j + 1) x h) (j + 1) (cellSlots + x) h
+  slot =
+      posted-reslot ws (j + 1) x h (omega (arith, p .size)) small hop some (omega (arith, level₁))
+      (p .ok .right (j + 1) (omega arith) (omega (arith, p .size)) used)
+
+  abbrev us : List ℕ
+  us = posted ws (j + 1) x h
+
+  slotted : Slotted t₁ (arraysOf us) (j + 1) (cellSlots + x) h
+  slotted = reslot-slotted 4 e ws us (j + 1) (cellSlots + x) h (omega arith) slot
+
+  place : Place (arrayCount ws) 4 t₁ (j + 1) v j 8 x
+  place = record {
+    leads = p .leads j deep;
+    array = omega arith;
+    head = (let f : 8 * j + 8 * (3 - j) ≡ 24 = omega arith in shr-lt (8 * j) (8 * (3 - j)) (rw f (omega arith)));
+    deep = omega arith;
+    own = inl (omega arith);
+    small = small;
+  }
+
+  post : Posts 0 us (insert (routeOf (32 - (8 * j + 8)) (v * 256 + x) (8 * j + 8) h) rs)
+  post = record {
+    ok = almost-whole 4 (j + 1) us (reslot-almost 4 e ws us (j + 1) (cellSlots + x) h (omega arith) slot (p .ok) at used)
+        (λ _. inl (record { s = cellSlots + x; low = omega arith; high = omega arith; some = omega (arith, slot .here) }));
+    size = slot .size ∙ p .size;
+    leads = λ i w. same-node t₁ (arraysOf us) (slotted .tags) (slotted .links) (655617 / 2 ^ (8 * (3 - i))) i ∙ p .leads i w;
+    list = slotted-insert (arrayCount ws) 4 t₁ (arraysOf us) (j + 1) v j 8 x h (p .ok .shape) place slotted 32 (omega arith) (omega arith) (omega arith)
+        ∙ ap (insert (routeOf (32 - (8 * j + 8)) (v * 256 + x) (8 * j + 8) h)) (p .list);
+  }
+
+-- ---- the table
+
+abbrev row : List ℕ
+row = gained (gained (gained (cleared 5120) 1 10 2) 2 1 3) 3 1 4
+
+abbrev pub deep : List ℕ
+deep = posted (posted (posted (posted row 4 1 4) 3 1 3) 2 1 2) 1 10 1
+
+row-all : Row 3 655617 row
+row-all = row-more 2 2561 1 _ (row-more 1 10 1 _ (row-more 0 0 10 _ row-first (omega arith) (omega arith)) (omega arith) (omega arith)) (omega arith) (omega arith)
+
+row-posts : Posts 4 row []
+row-posts = record { ok = row-all .ok; size = row-all .size; leads = row-all .leads; list = row-all .list }
+
+deep-posts : Posts 0 deep (route (ip 10 0 0 0) 8 1 ∷ route (ip 10 1 0 0) 16 2 ∷ route (ip 10 1 1 0) 24 3 ∷ route (ip 10 1 1 1) 32 4 ∷ [])
+deep-posts =
+    post 0 _ _ (post 0 _ _ (post 0 _ _ (post 4 _ _ row-posts 3 1 4 (inr refl) (omega arith) (omega arith) (omega arith) (omega arith))
+    2 1 3 (inl refl) (omega arith) (omega arith) (omega arith) (omega arith))
+    1 1 2 (inl refl) (omega arith) (omega arith) (omega arith) (omega arith))
+    0 10 1 (inl refl) (omega arith) (omega arith) (omega arith) (omega arith)
+
+-- four arrays, and a route of each level
+pub deep-seen : seen 4 deep ≡ table 4 (route (ip 10 0 0 0) 8 1 ∷ route (ip 10 1 0 0) 16 2 ∷ route (ip 10 1 1 0) 24 3 ∷ route (ip 10 1 1 1) 32 4 ∷ [])
+deep-seen =
+    seen-table 4 deep (deep-posts .ok) ∙ ap₂ table (ap (λ (n : ℕ). n / arrayWords - 1) (deep-posts .size)) (deep-posts .list)

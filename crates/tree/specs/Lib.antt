@@ -1,0 +1,10 @@
+pub mod Arrays
+pub mod Free
+pub mod Shape
+pub mod Tree
+pub mod Need
+pub mod Missing
+pub mod Hang
+pub mod Slot
+pub mod Taken
+pub mod Check

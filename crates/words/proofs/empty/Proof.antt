@@ -1,0 +1,20 @@
+-- `words::empty` lends the block of one array. Assumes nothing.
+use mathlib.Core.Path.{_∙_}
+use Rattle.words.specs.Lent.{lent-empty}
+use borrow.Author.Needs.{needs}
+use Rattle.words.proofs.empty.Statement.{statement}
+use Rattle.words.proofs.empty.Tie as tie
+
+block-requires : tie.Need-block-requires
+block-requires c κs = search needs
+
+empty-requires : tie.Need-empty-requires
+empty-requires c κs = search needs
+
+returns : tie.Need-returns
+returns c =
+    let s = c .before .before .before .args in
+    c .empty .ensures ∙ rw (c .before .block .ensures .0) (lent-empty (s .words .now) (s .a))
+
+pub empty-spec : {M : Type 1} → statement M
+empty-spec = tie.close (tie.spec block-requires empty-requires returns)

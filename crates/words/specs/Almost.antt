@@ -1,0 +1,33 @@
+-- When words are a table, as conditions: what the tests of `tableB` tell. Assumes nothing.
+use mathlib.Core.Path.{_≡_}
+use mathlib.Core.List.{List}
+use Prim.Native.Nat.{ℕ, _+_, _%_, _≤_, _<_}
+use lib.ListN.{length, getD}
+use Rattle.sizes.specs.Sizes.{arrayWords, leastWords, mostWords, unusedAt, arrayAt, wordAt, groupCount, restAt}
+use Rattle.array.specs.Right.{Right}
+use Rattle.tree.specs.Arrays.{lev, usedIn, usedOf}
+use Rattle.words.specs.Words.{arraysOf, arrayCount, slotsOf, bestsOf}
+use Rattle.tree.specs.Shape.{Shape, Filled}
+
+-- the header: how many are used, in all and in each group of 8
+pub record Header (ws : List ℕ) : Type 0 where
+  pub count : getD ws 0 0 ≡ usedIn (arraysOf ws) 0 (arrayCount ws)
+  pub groups : (g : ℕ) → g < groupCount → getD ws (g + 1) 0 ≡ usedOf (arraysOf ws) g
+
+-- a table but for the array e, that may be empty (e ≡ 0: a table)
+pub record Almost (L e : ℕ) (ws : List ℕ) : Type 0 where
+  pub whole : length ws % arrayWords ≡ 0
+  pub low : leastWords ≤ length ws
+  pub high : length ws ≤ mostWords
+  pub shape : Shape (arrayCount ws) L (arraysOf ws)
+  pub filled : Filled (arrayCount ws) (arraysOf ws) e
+  pub blank : (a : ℕ) → 1 ≤ a → a ≤ arrayCount ws → getD ws (arrayAt a) 0 ≡ 0 → (k : ℕ) → k < unusedAt
+      → getD ws (wordAt a k) 0 ≡ 0
+  pub right : (a : ℕ) → 1 ≤ a → a ≤ arrayCount ws → 1 ≤ getD ws (arrayAt a) 0
+      → Right (lev (arraysOf ws) a) (slotsOf ws a) (bestsOf ws a)
+  pub header : Header ws
+  pub rest : (k : ℕ) → restAt ≤ k → k < arrayWords → getD ws k 0 ≡ 0
+
+-- a table of L levels
+abbrev pub Table : ℕ → List ℕ → Type 0
+Table L ws = Almost L 0 ws

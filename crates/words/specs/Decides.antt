@@ -1,0 +1,180 @@
+-- The check's tests tell whether the words are a table. Assumes nothing.
+use mathlib.Core.Path.{_≡_}
+use mathlib.Core.Logic.{_⊎_, _≢_, inl, inr, ⊎-elim}
+use mathlib.Core.Bool.{Bool, true, not, _&&_, _||_}
+use mathlib.Core.List.{List}
+use Prim.Native.Nat.{ℕ, _+_, _-_, _%_, _≤_, _<_}
+use native.Mathlib.Omega.{arith}
+use lib.Dec.{eqb}
+use lib.ListN.{length, getD}
+use borrow.Author.Tests.{eqb-true, eq-eqb, ne-eqb}
+use Rattle.logic.specs.Cases.{same}
+use Rattle.logic.specs.Bools.{and-to, and-from}
+use Rattle.logic.specs.Tells.{Tells, tells-eq, tells-and, tells-all, tells-as, all-from, all-to}
+use Rattle.sizes.specs.Sizes.{arrayWords, leastWords, mostWords, cellCount, cellsAt, unusedAt, arrayAt}
+use Rattle.sizes.specs.Sizes.{wordAt, cellAt, levelBound, groupCount, restAt, restWords}
+use Rattle.array.specs.Cell.{link-blank}
+use Rattle.array.specs.Right.{Right}
+use Rattle.array.specs.Check.{zeroAt, rightB, emptyB}
+use Rattle.array.specs.Decides.{right-tells, full-tells}
+use Rattle.tree.specs.Arrays.{Arrays, lev, usedIn, usedOf}
+use Rattle.tree.specs.Shape.{Child, Hung, HasSlot, HasLink}
+use Rattle.words.specs.Words.{arraysOf, arrayCount, slotsOf, bestsOf}
+use Rattle.words.specs.Almost.{Header, Table}
+use Rattle.tree.specs.Check.{linksB, hungB, links-tells, hung-tells}
+use Rattle.words.specs.Table.{arrayB, groupB, headerB, tableB}
+
+-- something in an array
+pub some-tells : (t : Arrays) (a : ℕ) → Tells (not (emptyB (t .slot a) (t .link a))) (HasSlot t a ⊎ HasLink t a)
+some-tells t a = full-tells (t .slot a) (t .link a)
+
+-- ---- one array
+
+record Free (ws : List ℕ) (a : ℕ) : Type 0 where
+  pub tag : getD ws (arrayAt a) 0 ≡ 0
+  pub blank : (k : ℕ) → k < unusedAt → getD ws (wordAt a k) 0 ≡ 0
+
+record Used (L : ℕ) (ws : List ℕ) (a : ℕ) : Type 0 where
+  pub tag : getD ws (arrayAt a) 0 ≢ 0
+  pub right : Right (lev (arraysOf ws) a) (slotsOf ws a) (bestsOf ws a)
+  pub links : (i : ℕ) → i < cellCount
+      → (arraysOf ws .link a i ≡ 0) ⊎ Child (arrayCount ws) L (arraysOf ws) a i (arraysOf ws .link a i)
+  pub hung : a ≢ 1 → Hung (arrayCount ws) (arraysOf ws) a
+  pub some : a ≢ 1 → HasSlot (arraysOf ws) a ⊎ HasLink (arraysOf ws) a
+
+module _ (L : ℕ) (ws : List ℕ) (a : ℕ) where
+  abbrev t : Arrays
+  t = arraysOf ws
+
+  abbrev A : ℕ
+  A = arrayCount ws
+
+  abbrev placed : Bool
+  placed = hungB A t a && not (emptyB (slotsOf ws a) (t .link a))
+
+  abbrev usedB : Bool
+  usedB = rightB (lev t a) (slotsOf ws a) (bestsOf ws a) && (linksB A L t a && (eqb a 1 || placed))
+
+  used-to : getD ws (arrayAt a) 0 ≢ 0 → usedB ≡ true → Used L ws a
+  used-to n b =
+      let x = and-to (rightB (lev t a) (slotsOf ws a) (bestsOf ws a)) (linksB A L t a && (eqb a 1 || placed)) b in
+      let y = and-to (linksB A L t a) (eqb a 1 || placed) (x .1) in
+      record {
+        tag = n;
+        right = right-tells (lev t a) (slotsOf ws a) (bestsOf ws a) .to (x .0);
+        links = links-tells A L t a .to (y .0);
+        hung = λ m. ⊎-elim (λ (z : t .tag a ≡ 0). absurd (n z)) (λ (z : Hung A t a). z) (hung-tells A t a .to (rest m (y .1) .0));
+        some = λ m. some-tells t a .to (rest m (y .1) .1);
+      }
+    where
+      rest : a ≢ 1 → (eqb a 1 || placed) ≡ true → (hungB A t a ≡ true) × (not (emptyB (slotsOf ws a) (t .link a)) ≡ true)
+      rest m e = and-to (hungB A t a) (not (emptyB (slotsOf ws a) (t .link a))) (rw (ne-eqb a 1 m) at e)
+
+  used-from : Used L ws a → usedB ≡ true
+  used-from x =
+      and-from (rightB (lev t a) (slotsOf ws a) (bestsOf ws a)) (linksB A L t a && (eqb a 1 || placed))
+      (right-tells (lev t a) (slotsOf ws a) (bestsOf ws a) .from (x .right))
+      (and-from (linksB A L t a) (eqb a 1 || placed) (links-tells A L t a .from (x .links))
+      (same a 1 (λ q e. rw e) (λ n e. rw e (and-from (hungB A t a) (not (emptyB (slotsOf ws a) (t .link a)))
+      (hung-tells A t a .from (inr (x .hung n))) (some-tells t a .from (x .some n))))))
+
+  array-tells : Tells (arrayB L ws a) (Free ws a ⊎ Used L ws a)
+  unfolding arrayB
+  array-tells =
+      same (getD ws (arrayAt a) 0) 0
+      (λ z e. rw e (record {
+        to = λ b. inl (record { tag = z; blank = λ k h. eqb-true _ 0 (all-to (zeroAt ws (arrayAt a)) unusedAt b k h) });
+        from = λ b. ⊎-elim (λ (x : Free ws a). all-from (zeroAt ws (arrayAt a)) unusedAt (λ k h. eq-eqb _ 0 (x .blank k h)))
+            (λ (x : Used L ws a). absurd (x .tag z)) b;
+      }))
+      (λ n e. rw e (record {
+        to = λ b. inr (used-to n b);
+        from = λ b. ⊎-elim (λ (x : Free ws a). absurd (n (x .tag))) (λ (x : Used L ws a). used-from x) b;
+      }))
+
+-- ---- the header, and all words
+
+abbrev Rest : List ℕ → Type 0
+Rest ws = (k : ℕ) → restAt ≤ k → k < arrayWords → getD ws k 0 ≡ 0
+
+header-tells : (ws : List ℕ) → Tells (headerB ws) (Header ws × Rest ws)
+unfolding headerB groupB
+header-tells ws =
+    tells-as
+    (λ z. (
+      record { count = z .0; groups = z .1 .0 },
+      λ k h w. let e : restAt + (k - restAt) ≡ k = omega arith in
+          rw e at (z .1 .1 (k - restAt) (omega arith)),
+    ))
+    (λ z. (z .0 .count, (z .0 .groups, λ k h. z .1 (restAt + k) (omega arith) (omega arith))))
+    (tells-and (tells-eq (getD ws 0 0) (usedIn (arraysOf ws) 0 (arrayCount ws)))
+    (tells-and
+    (tells-all (groupB ws) (λ g. getD ws (g + 1) 0 ≡ usedOf (arraysOf ws) g) groupCount
+    (λ g h. tells-eq (getD ws (g + 1) 0) (usedOf (arraysOf ws) g)))
+    (tells-all (zeroAt ws restAt) (λ k. getD ws (restAt + k) 0 ≡ 0) restWords (λ k h. tells-eq (getD ws (restAt + k) 0) 0))))
+
+-- n words make a table's size
+pub record Fits (n : ℕ) : Type 0 where
+  pub whole : n % arrayWords ≡ 0
+  pub low : leastWords ≤ n
+  pub high : n ≤ mostWords
+
+module _ (L : ℕ) (ws : List ℕ) (some : 1 ≤ L) (levels : L < levelBound) (size : Fits (length ws)) where
+  abbrev Each : Type 0
+  Each = (j : ℕ) → j < arrayCount ws → Free ws (j + 1) ⊎ Used L ws (j + 1)
+
+  one : Each → (a : ℕ) → 1 ≤ a → a ≤ arrayCount ws → Free ws a ⊎ Used L ws a
+  one f a h w = let e : a - 1 + 1 ≡ a = omega arith in rw e at (f (a - 1) (omega arith))
+
+  to-table : getD ws arrayWords 0 ≡ 1 → Header ws × Rest ws → Each → Table L ws
+  to-table r hd f = record {
+    whole = size .whole;
+    low = size .low;
+    high = size .high;
+    shape = record {
+      many = omega (arith, size .low);
+      some-level = some;
+      levels = levels;
+      root = r;
+      links = λ a i h w b. ⊎-elim
+          (λ (x : Free ws a). let e : cellAt a i ≡ wordAt a (cellsAt + i) = omega arith in
+          inl (link-blank _ (rw e (x .blank (cellsAt + i) (omega arith)))))
+          (λ (x : Used L ws a). x .links i b) (one f a h w);
+      tags =
+          λ a h w. ⊎-elim (λ (x : Free ws a). inl (x .tag)) (λ (x : Used L ws a). inr (x .hung (λ e. omega arith)))
+          (one f a (omega arith) w);
+    };
+    filled =
+        λ a h w m p. ⊎-elim (λ (x : Free ws a). absurd (omega (arith, x .tag))) (λ (x : Used L ws a). x .some (λ e. omega arith))
+        (one f a (omega arith) w);
+    blank = λ a h w z. ⊎-elim (λ (x : Free ws a). x .blank) (λ (x : Used L ws a). absurd (x .tag z)) (one f a h w);
+    right = λ a h w p. ⊎-elim (λ (x : Free ws a). absurd (omega (arith, x .tag))) (λ (x : Used L ws a). x .right) (one f a h w);
+    header = hd .0;
+    rest = hd .1;
+  }
+
+  from-table : Table L ws → Each
+  from-table k j h =
+      same (getD ws (arrayAt (j + 1)) 0) 0
+      (λ z _. inl (record { tag = z; blank = k .blank (j + 1) (omega arith) (omega arith) z }))
+      (λ m _. inr (record {
+        tag = m;
+        right = k .right (j + 1) (omega arith) (omega arith) (omega arith);
+        links = λ i b. k .shape .links (j + 1) i (omega arith) (omega arith) b;
+        hung =
+            λ e. ⊎-elim (λ (z : arraysOf ws .tag (j + 1) ≡ 0). absurd (m z))
+            (λ (z : Hung (arrayCount ws) (arraysOf ws) (j + 1)). z) (k .shape .tags (j + 1) (omega arith) (omega arith));
+        some = λ e. k .filled (j + 1) (omega arith) (omega arith) (λ q. omega arith) (omega arith);
+      }))
+
+  -- the check is true exactly of a table
+  pub table-tells : Tells (tableB L ws) (Table L ws)
+  unfolding tableB
+  table-tells =
+      tells-as
+      (λ z. to-table (z .0) (z .1 .0) (z .1 .1))
+      (λ k. (k .shape .root, ((k .header, k .rest), from-table k)))
+      (tells-and (tells-eq (getD ws arrayWords 0) 1)
+      (tells-and (header-tells ws)
+      (tells-all (λ j. arrayB L ws (j + 1)) (λ j. Free ws (j + 1) ⊎ Used L ws (j + 1)) (arrayCount ws)
+      (λ j h. array-tells L ws (j + 1)))))

@@ -1,0 +1,62 @@
+-- One array's words lent as a part of all: what the check of one block says of the part, it says of the array. Assumes nothing.
+use mathlib.Core.Path.{_≡_, refl, sym, ap, _∙_}
+use mathlib.Core.Bool.{Bool, true≢false}
+use mathlib.Core.List.{List}
+use Prim.Native.Nat.{ℕ, zero, suc, _+_, _≤_, _<_}
+use native.Mathlib.Omega.{arith}
+use lib.ListN.{getD}
+use Rattle.logic.specs.Cases.{bool}
+use Rattle.logic.specs.Tells.{Tells}
+use Rattle.sizes.specs.Sizes.{lastSlot, slotEnd, cellCount, cellsAt, wordAt, cellAt}
+use Rattle.array.specs.Cell.{bestIn, linkIn}
+use Rattle.array.specs.Block.{slots, bests, links}
+use Rattle.array.specs.Frame.{blockOf, block-word}
+use Rattle.array.specs.Check.{rightB, emptyB}
+use Rattle.array.specs.Taken.{taken}
+use Rattle.array.specs.Decides.{right-tells, empty-tells}
+use Rattle.array.specs.Right.{right-ext}
+use Rattle.words.specs.Words.{arraysOf, slotsOf, bestsOf}
+
+-- two tests of statements that follow from each other
+tells-same : {b c : Bool} {P Q : Type 0} → Tells b P → Tells c Q → (P → Q) → (Q → P) → b ≡ c
+tells-same {b} {c} p q f g =
+    bool b
+    (λ x. x ∙ sym (q .from (f (p .to x))))
+    (λ x. bool c (λ y. absurd (true≢false (sym (p .from (g (q .to y))) ∙ x))) (λ y. x ∙ sym y))
+
+taken-ext : (f g : ℕ → ℕ) (n : ℕ) → ((s : ℕ) → 1 ≤ s → s ≤ n → f s ≡ g s) → taken f n ≡ taken g n
+unfolding taken
+taken-ext f g zero e = refl
+taken-ext f g (suc n) e = rw (e (n + 1) (omega arith) (omega arith), taken-ext f g n (λ s h w. e s h (omega arith)))
+
+module _ (ws : List ℕ) (a : ℕ) where
+  abbrev b : List ℕ
+  b = blockOf ws a
+
+  pub lent-slot : (s : ℕ) → s < slotEnd → slots b s ≡ slotsOf ws a s
+  lent-slot s h = block-word ws a s (omega arith)
+
+  pub lent-cell : (i : ℕ) → i < cellCount → getD b (cellsAt + i) 0 ≡ getD ws (cellAt a i) 0
+  lent-cell i h =
+      let e : cellAt a i ≡ wordAt a (cellsAt + i) = omega arith in rw e (block-word ws a (cellsAt + i) (omega arith))
+
+  pub lent-best : (i : ℕ) → i < cellCount → bests b i ≡ bestsOf ws a i
+  lent-best i h = ap bestIn (lent-cell i h)
+
+  pub lent-link : (i : ℕ) → i < cellCount → links b i ≡ arraysOf ws .link a i
+  lent-link i h = ap linkIn (lent-cell i h)
+
+  pub lent-right : (k : ℕ) → rightB k (slots b) (bests b) ≡ rightB k (slotsOf ws a) (bestsOf ws a)
+  lent-right k =
+      tells-same (right-tells k (slots b) (bests b)) (right-tells k (slotsOf ws a) (bestsOf ws a))
+      (right-ext k (slots b) (bests b) (slotsOf ws a) (bestsOf ws a) (λ s _ h. sym (lent-slot s h)) (λ i h. sym (lent-best i h)))
+      (right-ext k (slotsOf ws a) (bestsOf ws a) (slots b) (bests b) (λ s _ h. lent-slot s h) (λ i h. lent-best i h))
+
+  pub lent-empty : emptyB (slots b) (links b) ≡ emptyB (slotsOf ws a) (arraysOf ws .link a)
+  lent-empty =
+      tells-same (empty-tells (slots b) (links b)) (empty-tells (slotsOf ws a) (arraysOf ws .link a))
+      (λ z. record { slots = λ s l h. sym (lent-slot s h) ∙ z .slots s l h; links = λ i h. sym (lent-link i h) ∙ z .links i h })
+      (λ z. record { slots = λ s l h. lent-slot s h ∙ z .slots s l h; links = λ i h. lent-link i h ∙ z .links i h })
+
+  pub lent-taken : taken (slots b) lastSlot ≡ taken (slotsOf ws a) lastSlot
+  lent-taken = taken-ext (slots b) (slotsOf ws a) lastSlot (λ s h w. lent-slot s (omega arith))

@@ -1,0 +1,15 @@
+pub mod Words
+pub mod Almost
+pub mod Gained
+pub mod Table
+pub mod Decides
+pub mod View
+pub mod Size
+pub mod Rehung
+pub mod Gain
+pub mod Release
+pub mod Stock
+pub mod Clear
+pub mod Reslot
+pub mod Listed
+pub mod Lent

@@ -1,0 +1,32 @@
+-- The header's count is the need of the list, and says whether an array is free. Assumes nothing.
+use mathlib.Core.Path.{_≡_, refl, _∙_}
+use mathlib.Core.List.{List}
+use Prim.Native.Nat.{ℕ, zero, suc, _+_, _-_, _*_, _/_, _≤_, _<_}
+use native.Mathlib.Omega.{arith}
+use lib.ListN.{getD}
+use Rattle.routes.specs.Collect.{routes}
+use Rattle.routes.specs.Room.{needTo, need}
+use Rattle.tree.specs.Arrays.{held}
+use Rattle.tree.specs.Need.{used-need}
+use Rattle.words.specs.Words.{arraysOf, arrayCount}
+use Rattle.words.specs.Almost.{Almost, Table}
+use Rattle.tree.specs.Free.{firstFree, Found, found}
+use Rattle.words.specs.Table.{listOf}
+
+pub count-need : (J : ℕ) (ws : List ℕ) → Almost (suc J) 0 ws
+    → getD ws 0 0 ≡ needTo (8 * suc J) J (routes (8 * suc J) (held (arraysOf ws)))
+count-need J ws ok =
+    ok .header .count ∙ used-need (arrayCount ws) (suc J) (arraysOf ws) (ok .shape) (ok .filled) J refl
+
+-- the arrays used are the need of the list: for the levels below the first, and for all
+pub table-count : (L : ℕ) (ws : List ℕ) → Table L ws → getD ws 0 0 ≡ needTo (8 * L) (L - 1) (listOf L ws)
+table-count zero ws ok = absurd (omega (arith, ok .shape .some-level))
+table-count (suc J) ws ok = let e : suc J - 1 ≡ J = omega arith in rw e (count-need J ws ok)
+
+pub table-need : (L : ℕ) (ws : List ℕ) → Table L ws → getD ws 0 0 ≡ need (8 * L) (listOf L ws)
+table-need L ws ok = let e : 8 * L / 8 - 1 ≡ L - 1 = omega arith in rw e (table-count L ws ok)
+
+-- fewer used than there are: one is free
+pub find-some : (L e : ℕ) (ws : List ℕ) → Almost L e ws → getD ws 0 0 < arrayCount ws
+    → Found (arraysOf ws) 1 (arrayCount ws) (firstFree (arraysOf ws) 1 (arrayCount ws))
+find-some L e ws ok h = found (arraysOf ws) 0 (arrayCount ws) (omega (arith, ok .header .count))

@@ -1,0 +1,44 @@
+-- The lent words as a table: by tests on one word, one cell or one array each, and what the words are then seen to be.
+-- Assumes nothing.
+use mathlib.Core.Bool.{Bool, cond, not, _&&_, _||_}
+use mathlib.Core.List.{List}
+use Prim.Native.Nat.{ℕ, _+_, _*_}
+use lib.Dec.{eqb}
+use lib.ListN.{length, getD}
+use Rattle.sizes.specs.Sizes.{arrayWords, unusedAt, arrayAt, groupCount, restAt, restWords}
+use Rattle.routes.specs.Seen.{Seen, misfit, foreign, table, misfits}
+use Rattle.routes.specs.Collect.{routes}
+use Rattle.logic.specs.Every.{allB}
+use Rattle.array.specs.Check.{zeroAt, rightB, emptyB}
+use Rattle.tree.specs.Arrays.{lev, held, usedIn, usedOf}
+use Rattle.words.specs.Words.{arraysOf, arrayCount, slotsOf, bestsOf}
+use Rattle.tree.specs.Check.{linksB, hungB}
+
+-- array a: free and 0; or used, its block right, its links leading to arrays that name their cell, and, the root aside, hung
+-- where its tag says and not empty
+unfoldable pub arrayB : ℕ → List ℕ → ℕ → Bool
+arrayB L ws a =
+    cond (eqb (getD ws (arrayAt a) 0) 0) (allB (zeroAt ws (arrayAt a)) unusedAt)
+    (rightB (lev (arraysOf ws) a) (slotsOf ws a) (bestsOf ws a)
+    && (linksB (arrayCount ws) L (arraysOf ws) a
+    && (eqb a 1 || (hungB (arrayCount ws) (arraysOf ws) a && not (emptyB (slotsOf ws a) (arraysOf ws .link a))))))
+
+-- the number of arrays used among 8 * g + 1 .. 8 * g + 8
+unfoldable pub groupB : List ℕ → ℕ → Bool
+groupB ws g = eqb (getD ws (g + 1) 0) (usedOf (arraysOf ws) g)
+
+unfoldable pub headerB : List ℕ → Bool
+headerB ws =
+    eqb (getD ws 0 0) (usedIn (arraysOf ws) 0 (arrayCount ws))
+    && (allB (groupB ws) groupCount && allB (zeroAt ws restAt) restWords)
+
+-- words of a right size are a table of L levels
+unfoldable pub tableB : ℕ → List ℕ → Bool
+tableB L ws = eqb (getD ws arrayWords 0) 1 && (headerB ws && allB (λ j. arrayB L ws (j + 1)) (arrayCount ws))
+
+-- the list that a table stands for
+abbrev pub listOf : ℕ → List ℕ → List Rattle.routes.specs.Route.Route
+listOf L ws = routes (8 * L) (held (arraysOf ws))
+
+unfoldable pub seen : ℕ → List ℕ → Seen
+seen L ws = cond (misfits (length ws)) misfit (cond (tableB L ws) (table (arrayCount ws) (listOf L ws)) foreign)
