@@ -1,5 +1,5 @@
--- A family of addresses: how many bytes an address has, which are the levels of its arrays, and the kinds of its records in a feed.
--- Assumes nothing.
+-- A family of addresses: how many bytes an address has, which are the levels of its arrays, and the kinds of its records in a
+-- feed. Assumes nothing.
 use Prim.Native.Nat.{ℕ, _*_}
 
 pub record Family : Type 0 where
