@@ -55,11 +55,13 @@ module _ (ws b c : List ℕ) (n : ℕ) (f : Fills (seen 4 ws) b n c) where
   pub written-some : n ≢ 0 → Writes ws b c (record { refusal = 0; bytes = n })
   written-some h = record { answer = go (countOn (seen 4 ws) (length b)) refl; front = front }
     where
-      go : (a : Answer ℕ) → countOn (seen 4 ws) (length b) ≡ a → record { refusal = 0; bytes = n } ≡ wrote (countOn (seen 4 ws) (length b))
+      go : (a : Answer ℕ) → countOn (seen 4 ws) (length b) ≡ a
+          → record { refusal = 0; bytes = n } ≡ wrote (countOn (seen 4 ws) (length b))
       go (gives m) e = let q : n ≡ m = f .count ∙ front-length (seen 4 ws) (length b) m e in rw (e, q)
       go (refuses m) e = absurd (h (f .count ∙ ap length (front-none (seen 4 ws) (length b) m e)))
 
-  pub written-told : (r : Counted) (k : ℕ) (x : Written) → k ≡ length b → toldCount r ≡ countOn (seen 4 ws) k → x ≡ wrote (toldCount r) → Writes ws b c x
+  pub written-told : (r : Counted) (k : ℕ) (x : Written) → k ≡ length b → toldCount r ≡ countOn (seen 4 ws) k
+      → x ≡ wrote (toldCount r) → Writes ws b c x
   written-told r k x e t w = record { answer = w ∙ ap wrote (t ∙ ap (countOn (seen 4 ws)) e); front = front }
 
 -- ---- the run
@@ -93,4 +95,5 @@ build-kept (listed rs) ws vs n p e =
 
 pub built-so : (bytes ws vs : List ℕ) (r : Built) (x : Numbers) → buildAnswer r ≡ buildOn (listedIn bytes) (length ws)
     → LeavesOn (listedIn bytes) ws vs → x ≡ built (buildAnswer r) → Builds bytes ws vs x
-built-so bytes ws vs r x a p e = record { answer = e ∙ ap built a; left = p; kept = λ n q. build-kept (listedIn bytes) ws vs n p q }
+built-so bytes ws vs r x a p e =
+    record { answer = e ∙ ap built a; left = p; kept = λ n q. build-kept (listedIn bytes) ws vs n p q }
