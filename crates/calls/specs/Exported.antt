@@ -12,6 +12,7 @@ use lib.Dec.{eqb}
 use lib.ListN.{length}
 use borrow.Author.Tests.{ne-eqb}
 use Rattle.logic.specs.Cases.{bool}
+use Rattle.sizes.specs.Sizes.{arrayWords}
 use Rattle.routes.specs.Answers.{Update, Record, update, lookup, Reply, done, found, none, refused}
 use Rattle.routes.specs.Seen.{Answer as Given, table, gives, refuses, misfits, lookupOn}
 use Rattle.arrays.specs.Table.{seen}
@@ -57,7 +58,7 @@ lookup-read (refused n) p = rw (ne-eqb n 0 (λ e. omega arith))
 -- toggleash_clear took words of A arrays, and left these
 pub record Cleared (A : ℕ) (words : List ℕ) : Type 0 where
   pub lent : List ℕ
-  pub size : length lent ≡ 1024 * (A + 1)
+  pub size : length lent ≡ arrayWords * (A + 1)
   pub clears : Clears lent words 0
 
 -- the call of a record on the words ws: its numbers say y, and it left vs, as its contract allows
