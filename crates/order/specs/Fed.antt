@@ -39,23 +39,9 @@ answered {A} {us} f = rw (run-enough A [] (records us) (f .fits) (f .rest) (f .c
   where
     of : (t : List ℕ) → Answered A us t (closed t (ended A (fresh []) (records us)))
     of [] =
-        record {
-          stop = refl;
-          consumed = omega arith;
-          replies = refl;
-          accepted = omega arith;
-          refused = omega arith;
-          list = refl;
-        }
+        record { stop = refl; consumed = omega arith; replies = refl; accepted = omega arith; refused = omega arith; list = refl }
     of (k ∷ t) =
-        record {
-          stop = refl;
-          consumed = omega arith;
-          replies = refl;
-          accepted = omega arith;
-          refused = omega arith;
-          list = refl;
-        }
+        record { stop = refl; consumed = omega arith; replies = refl; accepted = omega arith; refused = omega arith; list = refl }
 
 -- five reply bytes for each record are enough
 abbrev pub roomy : {A : ℕ} {us : List Update} → AllFit (records us) → (rest : List ℕ) → Closes rest → (room : ℕ)
