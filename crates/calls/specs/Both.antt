@@ -16,7 +16,8 @@ use Rattle.routes.specs.Match.{longest}
 use Rattle.routes.specs.Answers.{Update, records, Reply, matched}
 use Rattle.routes.specs.Bytes.{written, AllFit}
 use Rattle.routes.specs.Runs.{Ran as Outcome, run}
-use Rattle.routes.specs.Seen.{Answer, table, gives, lookupOn, checkOn, frontOn}
+use Rattle.routes.specs.Seen.{table, gives, lookupOn, checkOn, frontOn}
+use Rattle.laws.specs.Given.{given-one}
 use Rattle.arrays.specs.Table.{seen}
 use Rattle.audit.specs.Told.{toldCheck}
 use Rattle.audit.specs.declared.Checked.{Checked}
@@ -76,10 +77,7 @@ module _ {A : ℕ} {us : List Update} (c : Run A us) where
 
   -- the report is that of the run's definition
   pub reported : c .report ≡ reportOf outcome
-  reported = one (rw (c .cleared) at (c .runs .answer))
-    where
-      one : _≡_ {A = Answer Report} (gives (c .report)) (gives (reportOf outcome)) → c .report ≡ reportOf outcome
-      one e = cc
+  reported = given-one (rw (c .cleared) at (c .runs .answer))
 
   abbrev pub call : Call A us
   call = record {

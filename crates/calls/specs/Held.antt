@@ -11,7 +11,8 @@ use Rattle.logic.specs.Cases.{bool}
 use Rattle.sizes.specs.Sizes.{arrayWords}
 use Rattle.routes.specs.Route.{Route, IsList}
 use Rattle.routes.specs.Room.{need}
-use Rattle.routes.specs.Seen.{gives, refuses, table, misfits, arrays}
+use Rattle.routes.specs.Seen.{gives, table, misfits, arrays}
+use Rattle.laws.specs.Given.{given-one, given-refused}
 use Rattle.arrays.specs.Words.{arraysOf, arrayCount}
 use Rattle.arrays.specs.Table.{seen}
 use Rattle.arrays.specs.Listed.{table-list}
@@ -51,7 +52,7 @@ held A rs ws e =
 pub cleared-done : (A : ℕ) (ws vs : List ℕ) → length ws ≡ arrayWords * (A + 1) → Clears 4 ws vs Done → seen 4 vs ≡ table A []
 cleared-done A ws vs n c =
     bool (misfits (length ws))
-    (λ e. absurd (let d : gives tt ≡ refuses 1 = rw e at (c .answer) in let z : _≡_ {A = ℕ} 0 1 = cc in omega arith))
+    (λ e. absurd (given-refused (rw e at (c .answer))))
     (λ e. (rw e at (c .left)) ∙ ap (λ (k : ℕ). table k []) (count n))
   where
     count : length ws ≡ arrayWords * (A + 1) → arrays (length ws) ≡ A
@@ -68,5 +69,5 @@ cleared-alike A rs ws lent vs r e n c =
 
 -- what is told of one that was not refused is its report
 pub stopped : (r : Ran) (p : Report) → runAnswer r ≡ gives p → r ≡ Stopped p
-stopped (Stopped q) p e = cc
-stopped (Refused n) p e = absurd (let z : _≡_ {A = ℕ} 0 1 = cc in omega arith)
+stopped (Stopped q) p e = ap Stopped (given-one e)
+stopped (Refused n) p e = absurd (given-refused (sym e))

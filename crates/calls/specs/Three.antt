@@ -15,7 +15,8 @@ use Rattle.routes.specs.Match.{longest}
 use Rattle.routes.specs.Answers.{Update, records, Reply, matched}
 use Rattle.routes.specs.Bytes.{repliesBytes, written, AllFit}
 use Rattle.routes.specs.Runs.{Ran, run}
-use Rattle.routes.specs.Seen.{Seen, table, gives, lookupOn, checkOn, countOn, frontOn, runOn, ranOn, repliedOn}
+use Rattle.routes.specs.Seen.{table, gives, lookupOn, checkOn, countOn, frontOn, runOn, ranOn, repliedOn}
+use Rattle.laws.specs.Given.{given-one}
 use Rattle.arrays.specs.Table.{seen}
 use Rattle.order.specs.Feeds.{Weave, flip, heard, plains, said, kept, keptBoth, Meets, Independent}
 use Rattle.order.specs.Feeds.{Closes, bytes, readBack, Answered}
@@ -60,10 +61,7 @@ module _ {A : ℕ} {us : List Update} (c : Call A us) where
   o = run A [] (bytes us (c .rest)) (length (c .reply))
 
   ran-is : o ≡ c .ran
-  ran-is = given (rw (c .cleared) at (c .runs .answer))
-    where
-      given : _≡_ {A = Rattle.routes.specs.Seen.Answer Ran} (gives o) (gives (c .ran)) → o ≡ c .ran
-      given e = cc
+  ran-is = given-one (rw (c .cleared) at (c .runs .answer))
 
   abbrev fed : Fed A us
   fed = record { fits = c .fits; rest = c .rest; closes = c .closes; room = length (c .reply); enough = rw ran-is (c .enough) }

@@ -11,11 +11,11 @@ use lib.ListN.{length, getD}
 use lib.Dec.{eqb}
 use borrow.Author.Tests.{ne-eqb}
 use Rattle.routes.specs.Route.{Route}
-use Rattle.routes.specs.Answers.{Record, Reply, reply, replies, next, leaves, isDone, isRefused, count}
+use Rattle.routes.specs.Answers.{Record, reply, replies, next, leaves, isDone, isRefused, count}
 use Rattle.routes.specs.Bytes.{replyBytes, repliesBytes}
 use Rattle.routes.specs.Runs.{State, recordAt, finish, halts, taken, runs, fresh, run, recordsFrom, recordsOf}
 use Rattle.logic.specs.Cases.{same}
-use Rattle.laws.specs.Turns.{Clear, size-pos, tally-count, halts-1, halts-clear}
+use Rattle.laws.specs.Turns.{size-pos, tally-count, halts-1, halts-clear}
 
 -- the record that is next
 abbrev pub ahead : List ℕ → State → Record

@@ -14,7 +14,7 @@ use Rattle.routes.specs.Bytes.{recordsBytes, AllFit}
 use Rattle.routes.specs.Runs.{State, size, finish, halts, Ran, decide, taken, runs, fresh, run}
 use Rattle.logic.specs.Cases.{bool, same, less}
 use Rattle.laws.specs.Encoded.{ended, run-records, run-ended}
-use Rattle.order.specs.Feeds.{Closes, bytes}
+use Rattle.order.specs.Feeds.{Closes}
 
 -- the tests find the same with more room, unless they find too little
 halts-more : (feed : List ℕ) (room more at out : ℕ) → room ≤ more → halts feed room at out ≢ 4

@@ -3,11 +3,11 @@ use mathlib.Core.Path.{_≡_, refl, ap, _∙_}
 use mathlib.Core.Logic.{_≢_}
 use mathlib.Core.List.{List, _++_}
 use Prim.Native.Nat.{ℕ, _+_}
-use native.Mathlib.Omega.{arith}
 use lib.ListN.{length, drop}
 use Rattle.routes.specs.Answers.{Update, refused, isRefused}
 use Rattle.routes.specs.Seen.{Answer, gives, refuses, countOn, frontOn}
 use Rattle.logic.specs.Cases.{less}
+use Rattle.laws.specs.Given.{refused-one, given-refused}
 use Rattle.arrays.specs.Table.{seen}
 use Rattle.audit.specs.declared.Cleared.{Cleared}
 use Rattle.audit.specs.Told.{toldClear, Clears as Below}
@@ -67,8 +67,8 @@ module _ (ws b c : List ℕ) (n : ℕ) (f : Fills (seen 4 ws) b n c) where
 -- ---- the run
 
 told-refused : (r : Outcome) (n : ℕ) → runAnswer r ≡ refuses n → r ≡ Unfit n
-told-refused (Stopped x) n e = absurd (let z : _≡_ {A = ℕ} 0 1 = cc in omega arith)
-told-refused (Unfit m) n e = ap Unfit (cc)
+told-refused (Stopped x) n e = absurd (given-refused e)
+told-refused (Unfit m) n e = ap Unfit (refused-one e)
 
 pub ran-so : (ws feed b vs c : List ℕ) (r : Outcome) (x : Fields) → Run ws feed b vs c r → x ≡ ran (runAnswer r)
     → Runs ws feed b vs c x
@@ -88,10 +88,7 @@ build-kept unlisted ws vs n p e = p
 build-kept (listed rs) ws vs n p e =
     less (length ws) (wordsFor rs)
     (λ h _. p .refused h)
-    (λ h d. absurd (other _ n (rw d at e)))
-  where
-    other : {T : Type 0} (c : T) (n : ℕ) → gives c ≡ refuses n → ⊥
-    other c n e = let z : _≡_ {A = ℕ} 0 1 = cc in omega arith
+    (λ h d. absurd (given-refused (rw d at e)))
 
 pub built-so : (bytes ws vs : List ℕ) (r : Built) (x : Numbers) → buildAnswer r ≡ buildOn (listedIn bytes) (length ws)
     → LeavesOn (listedIn bytes) ws vs → x ≡ built (buildAnswer r) → Builds bytes ws vs x
