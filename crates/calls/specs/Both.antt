@@ -1,5 +1,5 @@
--- Demand 3 over the calls: three runs of feeds on cleared words, the joint feed and each of its two alone; and the same where the records
--- are sent by the update calls, one by one. Assumes nothing.
+-- Demand 3 over the calls: three runs of feeds on cleared words, the joint feed and each of its two alone; and the same where the
+-- records are sent by the update calls, one by one. Assumes nothing.
 --
 --     cleared words ── run, or calls, of both ────▶ words that stand for the two lists joined
 --     cleared words ── run, or calls, of the first ▶ .. for its list alone
@@ -13,10 +13,11 @@ use borrow.Author.Tests.{le-ltb}
 use Rattle.routes.specs.Route.{Route}
 use Rattle.routes.specs.Room.{need}
 use Rattle.routes.specs.Match.{longest}
-use Rattle.routes.specs.Answers.{Update, Reply, matched}
+use Rattle.routes.specs.Answers.{Update, records, Reply, matched}
 use Rattle.routes.specs.Bytes.{written, AllFit}
 use Rattle.routes.specs.Runs.{Ran as Outcome, run}
-use Rattle.routes.specs.Seen.{Answer, table, gives, lookupOn, checkOn, frontOn}
+use Rattle.routes.specs.Seen.{table, gives, lookupOn, checkOn, frontOn}
+use Rattle.laws.specs.Given.{given-one}
 use Rattle.words.specs.Table.{seen}
 use Rattle.audit.specs.Told.{toldCheck}
 use Rattle.audit.specs.declared.Checked.{Checked}
@@ -27,7 +28,7 @@ use Rattle.feed.specs.Runs.{Runs, reportOf}
 use Rattle.feed.specs.declared.Report.{Report}
 use Rattle.feed.specs.declared.Ran.{Ran}
 use Rattle.feed.specs.declared.Ran.the-variants.{Stopped}
-use Rattle.order.specs.Feeds.{records, Weave, flip, heard, plains, kept, keptBoth, Union, Meets, Closes, bytes, readBack}
+use Rattle.order.specs.Feeds.{Weave, flip, heard, plains, kept, keptBoth, Union, Meets, Closes, bytes, readBack}
 use Rattle.order.specs.Enough.{enough}
 use Rattle.order.specs.Joined.{demand-3-ipv4}
 use Rattle.calls.specs.Three.{Call, promise, Called, demand-3-called}
@@ -41,10 +42,11 @@ pub record Holds (A : ℕ) (rs : List Route) (ws : List ℕ) : Type 0 where
   pub list : seen 4 ws ≡ table A rs
   pub lookups : (a : ℕ) (r : code.Reply) → saidReply r ≡ lookupOn 32 (seen 4 ws) (walk 4 ws a) a
       → saidReply r ≡ matched (longest 32 a rs)
-  pub checks : (r : Checked) → toldCheck r ≡ checkOn 32 (seen 4 ws) → toldCheck r ≡ gives (record { routes = length rs; arrays = need 32 rs })
+  pub checks : (r : Checked) → toldCheck r ≡ checkOn 32 (seen 4 ws)
+      → toldCheck r ≡ gives (record { routes = length rs; arrays = need 32 rs })
   pub fronts : (b front : List ℕ) → 8 * length rs + 1 ≤ length b → front ≡ frontOn (seen 4 ws) (length b) → front ≡ written rs
 
-pub holds : (A : ℕ) (rs : List Route) (ws : List ℕ) → seen 4 ws ≡ table A rs → Holds A rs ws
+holds : (A : ℕ) (rs : List Route) (ws : List ℕ) → seen 4 ws ≡ table A rs → Holds A rs ws
 holds A rs ws e =
     record {
       list = e;
@@ -75,10 +77,7 @@ module _ {A : ℕ} {us : List Update} (c : Run A us) where
 
   -- the report is that of the run's definition
   pub reported : c .report ≡ reportOf outcome
-  reported = one (rw (c .cleared) at (c .runs .answer))
-    where
-      one : _≡_ {A = Answer Report} (gives (c .report)) (gives (reportOf outcome)) → c .report ≡ reportOf outcome
-      one e = cc
+  reported = given-one (rw (c .cleared) at (c .runs .answer))
 
   abbrev pub call : Call A us
   call = record {
@@ -100,7 +99,8 @@ module _ {A : ℕ} {us : List Update} (c : Run A us) where
   replies = readBack us (c .reply′)
 
 -- any run of them with five reply bytes for each record is one
-abbrev pub roomy : {A : ℕ} {us : List Update} (ws rest b vs c : List ℕ) (r : Ran) → seen 4 ws ≡ table A [] → AllFit (records us) → Closes rest → 5 * length (records us) ≤ length b
+abbrev pub roomy : {A : ℕ} {us : List Update} (ws rest b vs c : List ℕ) (r : Ran) → seen 4 ws ≡ table A []
+    → AllFit (records us) → Closes rest → 5 * length (records us) ≤ length b
     → Runs ws (bytes us rest) b vs c r → Run A us
 roomy {A} {us} ws rest b vs c r t f e h p =
     record {
@@ -118,7 +118,8 @@ roomy {A} {us} ws rest b vs c r t f e h p =
     }
 
 -- the three runs: each answer, the counts, and the words that the joint one leaves
-pub record RanBoth {A : ℕ} {xs ys zs : List Update} (w : Weave xs ys zs) (j : Run A zs) (f : Run A xs) (s : Run A ys) : Type 0 where
+pub record RanBoth {A : ℕ} {xs ys zs : List Update} (w : Weave xs ys zs)
+    (j : Run A zs) (f : Run A xs) (s : Run A ys) : Type 0 where
   -- the replies read back from the joint run's reply bytes are those read back from each feed's own, cells excepted
   pub first : plains (heard w (replies j)) ≡ plains (replies f)
   pub second : plains (heard (flip w) (replies j)) ≡ plains (replies s)
@@ -128,7 +129,8 @@ pub record RanBoth {A : ℕ} {xs ys zs : List Update} (w : Weave xs ys zs) (j : 
   pub refused : j .report .refused ≡ f .report .refused + s .report .refused
   pub left : Holds A (keptBoth 32 A xs ys) (j .words′)
 
-pub demand-3-run : {A : ℕ} {xs ys zs : List Update} (w : Weave xs ys zs) → Meets 32 A xs ys → (j : Run A zs) (f : Run A xs) (s : Run A ys) → RanBoth w j f s
+pub demand-3-run : {A : ℕ} {xs ys zs : List Update} (w : Weave xs ys zs) → Meets 32 A xs ys
+    → (j : Run A zs) (f : Run A xs) (s : Run A ys) → RanBoth w j f s
 demand-3-run {A} {xs} {ys} w m j f s =
     let c = demand-3-called w m (call j) (call f) (call s) in
     record {
@@ -150,7 +152,8 @@ pub record Sent (A : ℕ) (us : List Update) : Type 0 where
   pub words′ : List ℕ
   pub calls : Series words (records us) replies words′
 
-pub record SentBoth {A : ℕ} {xs ys zs : List Update} (w : Weave xs ys zs) (j : Sent A zs) (f : Sent A xs) (s : Sent A ys) : Type 0 where
+pub record SentBoth {A : ℕ} {xs ys zs : List Update} (w : Weave xs ys zs)
+    (j : Sent A zs) (f : Sent A xs) (s : Sent A ys) : Type 0 where
   pub first : plains (heard w (j .replies)) ≡ plains (f .replies)
   pub second : plains (heard (flip w) (j .replies)) ≡ plains (s .replies)
   pub firstList : seen 4 (f .words′) ≡ table A (kept 32 A xs)
@@ -158,7 +161,8 @@ pub record SentBoth {A : ℕ} {xs ys zs : List Update} (w : Weave xs ys zs) (j :
   pub union : Union (kept 32 A xs) (kept 32 A ys) (keptBoth 32 A xs ys)
   pub left : Holds A (keptBoth 32 A xs ys) (j .words′)
 
-pub demand-3-sent : {A : ℕ} {xs ys zs : List Update} (w : Weave xs ys zs) → Meets 32 A xs ys → (j : Sent A zs) (f : Sent A xs) (s : Sent A ys) → SentBoth w j f s
+pub demand-3-sent : {A : ℕ} {xs ys zs : List Update} (w : Weave xs ys zs) → Meets 32 A xs ys
+    → (j : Sent A zs) (f : Sent A xs) (s : Sent A ys) → SentBoth w j f s
 demand-3-sent {A} {xs} {ys} {zs} w m j f s =
     let i = demand-3-ipv4 A xs ys zs w m in
     let p = all-answered A [] (j .cleared) (j .calls) in

@@ -12,8 +12,10 @@ use lib.Dec.{eqb}
 use lib.ListN.{length}
 use borrow.Author.Tests.{ne-eqb}
 use Rattle.logic.specs.Cases.{bool}
+use Rattle.sizes.specs.Sizes.{arrayWords}
 use Rattle.routes.specs.Answers.{Update, Record, update, lookup, Reply, done, found, none, refused}
-use Rattle.routes.specs.Seen.{Answer as Given, table, gives, refuses, misfits, lookupOn}
+use Rattle.routes.specs.Seen.{table, misfits, lookupOn}
+use Rattle.laws.specs.Given.{refused-one, given-refused}
 use Rattle.words.specs.Table.{seen}
 use Rattle.audit.specs.Told as audit
 use Rattle.audit.specs.declared.Cleared.{Cleared as Answer}
@@ -57,7 +59,7 @@ lookup-read (refused n) p = rw (ne-eqb n 0 (λ e. omega arith))
 -- toggleash_clear took words of A arrays, and left these
 pub record Cleared (A : ℕ) (words : List ℕ) : Type 0 where
   pub lent : List ℕ
-  pub size : length lent ≡ 1024 * (A + 1)
+  pub size : length lent ≡ arrayWords * (A + 1)
   pub clears : Clears lent words 0
 
 -- the call of a record on the words ws: its numbers say y, and it left vs, as its contract allows
@@ -84,14 +86,8 @@ clear-done {A} {words} c = let b = clear-below (c .lent) words 0 (c .clears) in 
     of answer.Done e p = p
     of (answer.Refused n) e p =
         bool (misfits (length (c .lent)))
-        (λ d. absurd (number (rw d at (p .answer))))
-        (λ d. absurd (given (rw d at (p .answer))))
-      where
-        number : _≡_ {A = Given (Unit {0})} (refuses n) (refuses 1) → ⊥
-        number q = let z : n ≡ 1 = cc in omega arith
-
-        given : _≡_ {A = Given (Unit {0})} (refuses n) (gives tt) → ⊥
-        given q = let z : _≡_ {A = ℕ} 0 1 = cc in omega arith
+        (λ d. absurd (let z : n ≡ 1 = refused-one (rw d at (p .answer)) in omega arith))
+        (λ d. absurd (given-refused (sym (rw d at (p .answer)))))
 
 -- words that were cleared are a table of no routes
 pub cleared : {A : ℕ} {words : List ℕ} → Cleared A words → seen 4 words ≡ table A []

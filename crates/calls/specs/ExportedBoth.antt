@@ -13,7 +13,7 @@ use borrow.Author.Tests.{le-ltb}
 use Rattle.routes.specs.Route.{Route}
 use Rattle.routes.specs.Room.{need}
 use Rattle.routes.specs.Match.{longest}
-use Rattle.routes.specs.Answers.{Update, Reply, matched}
+use Rattle.routes.specs.Answers.{Update, records, Reply, matched}
 use Rattle.routes.specs.Bytes.{written, AllFit}
 use Rattle.routes.specs.Runs.{run}
 use Rattle.routes.specs.Seen.{table, lookupOn, checkOn}
@@ -23,7 +23,7 @@ use Rattle.feed.specs.Runs.{Runs as Made, runAnswer, reportOf}
 use Rattle.feed.specs.declared.Report.{Report}
 use Rattle.feed.specs.declared.Ran.{Ran}
 use Rattle.feed.specs.declared.Ran.the-variants.{Stopped}
-use Rattle.order.specs.Feeds.{records, Weave, flip, heard, plains, kept, keptBoth, Union, Meets, Closes, bytes, readBack}
+use Rattle.order.specs.Feeds.{Weave, flip, heard, plains, kept, keptBoth, Union, Meets, Closes, bytes, readBack}
 use Rattle.toggleash.specs.Face.{counted, looked, ran, Writes, Runs}
 use Rattle.toggleash.specs.declared.Counted.{Counted}
 use Rattle.toggleash.specs.declared.Found.{Found}

@@ -7,16 +7,15 @@ use mathlib.Core.Path.{_≡_, ap, _∙_}
 use mathlib.Core.List.{List, [], _∷_}
 use Prim.Native.Nat.{ℕ}
 use lib.ListN.{length}
-use Rattle.routes.specs.Answers.{Reply}
+use Rattle.routes.specs.Answers.{Reply, records}
 use Rattle.routes.specs.Seen.{checkOn}
-use Rattle.routes.specs.Small.{Case, small, further}
+use Rattle.routes.specs.Small.{Case, listAfter, small, further}
 use Rattle.words.specs.Table.{seen}
-use Rattle.order.specs.Feeds.{records}
 use Rattle.toggleash.specs.Face.{counted}
 use Rattle.toggleash.specs.declared.Counted.{Counted}
 use Rattle.calls.specs.Below.{check-below}
 use Rattle.calls.specs.Rows as rattle
-use Rattle.calls.specs.Rows.{after, Each}
+use Rattle.calls.specs.Rows.{Each}
 use Rattle.calls.specs.Exported.{Cleared, Asked, Series, clear-done, asked-below, series-below}
 
 -- the calls of a row on cleared words of its arrays, each as its contract allows
@@ -35,7 +34,7 @@ pub record Played (c : Case) : Type 0 where
 -- it goes as the row says
 pub record AsSaid (c : Case) (p : Played c) : Type 0 where
   pub answer : p .told ≡ c .gives
-  pub counts : p .counts ≡ record { refusal = 0; routes = length (after c); arrays = c .arrays }
+  pub counts : p .counts ≡ record { refusal = 0; routes = length (listAfter c); arrays = c .arrays }
 
 -- the calls below
 abbrev under : {c : Case} → Played c → rattle.Played c

@@ -1,5 +1,5 @@
--- How sharp the contracts of the C face are: its calls answer in plain numbers, and two outcomes that a contract allows agree as in
--- Sharp. Assumes nothing.
+-- How sharp the contracts of the C face are: its calls answer in plain numbers, and two outcomes that a contract allows agree as
+-- in Sharp. Assumes nothing.
 use mathlib.Core.Path.{_≡_, sym, _∙_}
 use mathlib.Core.List.{List}
 use Prim.Native.Nat.{ℕ}
@@ -13,7 +13,7 @@ use Rattle.lengths.specs.Marks.{wordsFor}
 use Rattle.listing.specs.Listed.{listed, listedIn}
 use Rattle.lengths_build.specs.Answer.{needOn, buildOn}
 use Rattle.listing.specs.Records.{Bytes}
-use Rattle.lengths.specs.Layout as layout
+use Rattle.lengths.specs.Layout as copy
 use Rattle.lengths_build.specs.Sharp.{Alike, words-sharp}
 use Rattle.toggleash.specs.Face.{Clears, Updates, Writes, Runs, counted, looked}
 use Rattle.toggleash.specs.Copies.{Builds, needed}
@@ -40,20 +40,24 @@ pub record ByReply (y : Reply) : Type 0 where
   pub number : ℕ
   pub is : y ≡ refused number
 
-pub clear-agrees : (ws vs vs′ : List ℕ) (r r′ : ℕ) → Clears ws vs r → Clears ws vs′ r′ → Agree (By (clearOn (length ws))) vs vs′ r r′
+pub clear-agrees : (ws vs vs′ : List ℕ) (r r′ : ℕ) → Clears ws vs r → Clears ws vs′ r′
+    → Agree (By (clearOn (length ws))) vs vs′ r r′
 clear-agrees ws vs vs′ r r′ p q = record {
   answer = p .answer ∙ sym (q .answer);
   seen = p .left ∙ sym (q .left);
   words = λ b. p .kept (b .number) (b .is) ∙ sym (q .kept (b .number) (b .is));
 }
 
-pub check-agrees : (ws : List ℕ) (r r′ : Counted) → r ≡ counted (checkOn 32 (seen 4 ws)) → r′ ≡ counted (checkOn 32 (seen 4 ws)) → r ≡ r′
+pub check-agrees : (ws : List ℕ) (r r′ : Counted) → r ≡ counted (checkOn 32 (seen 4 ws))
+    → r′ ≡ counted (checkOn 32 (seen 4 ws)) → r ≡ r′
 check-agrees ws r r′ p q = p ∙ sym q
 
-pub lookup-agrees : (ws : List ℕ) (a : ℕ) (r r′ : Found) → r ≡ looked (lookupOn 32 (seen 4 ws) (walk 4 ws a) a) → r′ ≡ looked (lookupOn 32 (seen 4 ws) (walk 4 ws a) a) → r ≡ r′
+pub lookup-agrees : (ws : List ℕ) (a : ℕ) (r r′ : Found) → r ≡ looked (lookupOn 32 (seen 4 ws) (walk 4 ws a) a)
+    → r′ ≡ looked (lookupOn 32 (seen 4 ws) (walk 4 ws a) a) → r ≡ r′
 lookup-agrees ws a r r′ p q = p ∙ sym q
 
-pub update-agrees : (ws : List ℕ) (u : Update) (vs vs′ : List ℕ) (r r′ : Updated) → Updates ws vs u r → Updates ws vs′ u r′ → Agree (ByReply (answerOn 32 (seen 4 ws) u)) vs vs′ r r′
+pub update-agrees : (ws : List ℕ) (u : Update) (vs vs′ : List ℕ) (r r′ : Updated) → Updates ws vs u r → Updates ws vs′ u r′
+    → Agree (ByReply (answerOn 32 (seen 4 ws) u)) vs vs′ r r′
 update-agrees ws u vs vs′ r r′ p q = record {
   answer = p .answer ∙ sym (q .answer);
   seen = p .list ∙ sym (q .list);
@@ -63,7 +67,8 @@ update-agrees ws u vs vs′ r r′ p q = record {
 pub write-out-agrees : (ws b c c′ : List ℕ) (r r′ : Written) → Writes ws b c r → Writes ws b c′ r′ → (r ≡ r′) × (c ≡ c′)
 write-out-agrees ws b c c′ r r′ p q = (p .answer ∙ sym (q .answer), p .front ∙ sym (q .front))
 
-pub run-agrees : (ws bytes b vs vs′ c c′ : List ℕ) (r r′ : Fields) → Runs ws bytes b vs c r → Runs ws bytes b vs′ c′ r′ → Agree (By (runOn (seen 4 ws) bytes b)) vs vs′ r r′ × (c ≡ c′)
+pub run-agrees : (ws bytes b vs vs′ c c′ : List ℕ) (r r′ : Fields) → Runs ws bytes b vs c r → Runs ws bytes b vs′ c′ r′
+    → Agree (By (runOn (seen 4 ws) bytes b)) vs vs′ r r′ × (c ≡ c′)
 run-agrees ws bytes b vs vs′ c c′ r r′ p q = (
   record {
     answer = p .answer ∙ sym (q .answer);
@@ -79,7 +84,7 @@ pub copy-need-agrees : (bytes : List ℕ) (r r′ : Needed) → r ≡ needed (ne
     → r′ ≡ needed (needOn (listedIn bytes)) → r ≡ r′
 copy-need-agrees bytes r r′ p q = p ∙ sym q
 
-pub copy-lookup-agrees : (ws : List ℕ) (a : ℕ) (r r′ : Found) → r ≡ looked (layout.walk ws a) → r′ ≡ looked (layout.walk ws a)
+pub copy-lookup-agrees : (ws : List ℕ) (a : ℕ) (r r′ : Found) → r ≡ looked (copy.walk ws a) → r′ ≡ looked (copy.walk ws a)
     → r ≡ r′
 copy-lookup-agrees ws a r r′ p q = p ∙ sym q
 

@@ -3,14 +3,16 @@
 use mathlib.Core.Path.{_≡_, sym, ap, _∙_}
 use mathlib.Core.Bool.{false}
 use mathlib.Core.List.{List, []}
-use Prim.Native.Nat.{ℕ, _+_, _-_, _*_, _/_, _≤_}
+use Prim.Native.Nat.{ℕ, _+_, _*_, _≤_}
 use native.Mathlib.Omega.{arith}
 use lib.Dec.{lit<, lit≤}
 use lib.ListN.{length}
 use Rattle.logic.specs.Cases.{bool}
+use Rattle.sizes.specs.Sizes.{arrayWords}
 use Rattle.routes.specs.Route.{Route, IsList}
 use Rattle.routes.specs.Room.{need}
-use Rattle.routes.specs.Seen.{gives, refuses, table, misfits}
+use Rattle.routes.specs.Seen.{gives, table, misfits, arrays}
+use Rattle.laws.specs.Given.{given-one, given-refused}
 use Rattle.words.specs.Words.{arraysOf, arrayCount}
 use Rattle.words.specs.Table.{seen}
 use Rattle.words.specs.Listed.{table-list}
@@ -31,7 +33,7 @@ use Rattle.feed.specs.declared.Ran.the-variants.{Stopped, Refused}
 pub record Held (A : ℕ) (rs : List Route) (ws : List ℕ) : Type 0 where
   pub list : IsList 32 rs
   pub room : need 32 rs ≤ A
-  pub arrays : length ws / 1024 - 1 ≡ A
+  pub arrays : arrays (length ws) ≡ A
   pub size : misfits (length ws) ≡ false
 
 pub held : (A : ℕ) (rs : List Route) (ws : List ℕ) → seen 4 ws ≡ table A rs → Held A rs ws
@@ -48,17 +50,18 @@ held A rs ws e =
 -- ---- cleared words
 
 -- words that clear took are a table of no routes, with as many arrays as their number says
-pub cleared-done : (A : ℕ) (ws vs : List ℕ) → length ws ≡ 1024 * (A + 1) → Clears 4 ws vs Done → seen 4 vs ≡ table A []
+pub cleared-done : (A : ℕ) (ws vs : List ℕ) → length ws ≡ arrayWords * (A + 1) → Clears 4 ws vs Done → seen 4 vs ≡ table A []
 cleared-done A ws vs n c =
     bool (misfits (length ws))
-    (λ e. absurd (let d : gives tt ≡ refuses 1 = rw e at (c .answer) in let z : _≡_ {A = ℕ} 0 1 = cc in omega arith))
+    (λ e. absurd (given-refused (rw e at (c .answer))))
     (λ e. (rw e at (c .left)) ∙ ap (λ (k : ℕ). table k []) (count n))
   where
-    count : length ws ≡ 1024 * (A + 1) → length ws / 1024 - 1 ≡ A
+    count : length ws ≡ arrayWords * (A + 1) → arrays (length ws) ≡ A
     count n = omega arith
 
 -- as many words as a table has are taken, and are then a table of the same room
-pub cleared-alike : (A : ℕ) (rs : List Route) (ws lent vs : List ℕ) (r : Cleared) → seen 4 ws ≡ table A rs → length lent ≡ length ws → Clears 4 lent vs r → seen 4 vs ≡ table A []
+pub cleared-alike : (A : ℕ) (rs : List Route) (ws lent vs : List ℕ) (r : Cleared) → seen 4 ws ≡ table A rs
+    → length lent ≡ length ws → Clears 4 lent vs r → seen 4 vs ≡ table A []
 cleared-alike A rs ws lent vs r e n c =
     let h = held A rs ws e in
     (rw (n, h .size, h .arrays) at (c .left))
@@ -67,5 +70,5 @@ cleared-alike A rs ws lent vs r e n c =
 
 -- what is told of one that was not refused is its report
 pub stopped : (r : Ran) (p : Report) → runAnswer r ≡ gives p → r ≡ Stopped p
-stopped (Stopped q) p e = cc
-stopped (Refused n) p e = absurd (let z : _≡_ {A = ℕ} 0 1 = cc in omega arith)
+stopped (Stopped q) p e = ap Stopped (given-one e)
+stopped (Refused n) p e = absurd (given-refused (sym e))

@@ -1,5 +1,5 @@
--- The round trip over the calls: a table written out, and the bytes run with reply room enough on cleared words of the same number,
--- give that table again. Assumes nothing.
+-- The round trip over the calls: a table written out, and the bytes run with reply room enough on cleared words of the same
+-- number, give that table again. Assumes nothing.
 --
 --     words, a table ── write_out ──▶ front ── run ──▶ words′, seen as the words are
 --     as many words ─── clear ──────▶ cleared ──┘
@@ -60,7 +60,8 @@ pub record Again {A : ℕ} {rs : List Route} (t : Trip A rs) : Type 0 where
 pub again : {A : ℕ} {rs : List Route} (t : Trip A rs) → Again t
 again {A} {rs} t =
     let h = held A rs (t .words) (t .table) in
-    let e : seen 4 (t .cleared) ≡ table A [] = cleared-alike A rs (t .words) (t .lent) (t .cleared) (t .answer) (t .table) (t .same) (t .clears) in
+    let e : seen 4 (t .cleared) ≡ table A [] =
+    cleared-alike A rs (t .words) (t .lent) (t .cleared) (t .answer) (t .table) (t .same) (t .clears) in
     let f : t .front ≡ written rs = t .wrote ∙ rw (t .table, le-ltb (length (t .buffer)) (8 * length rs + 1) (t .fits)) in
     let o = round-trip A rs (length (t .reply)) (h .list) (h .room) (t .enough) in
     record {

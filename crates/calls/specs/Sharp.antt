@@ -1,8 +1,9 @@
--- How sharp the contracts are, for each public call: two outcomes that its contract allows on the same input agree, in the answer and in
--- what the lent words are seen to be, and byte for byte; refused, they agree in every word. Assumes nothing.
+-- How sharp the contracts are, for each public call: two outcomes that its contract allows on the same input agree, in the
+-- answer and in what the lent words are seen to be, and byte for byte; refused, they agree in every word. Assumes nothing.
 --
---     what no contract fixes: the layout of words that stand for one list, so words are compared by what they are seen to be, and no
---     later call tells two layouts apart (layout-unseen); and, at write_out, the buffer past the part that it returns (fill fixes it)
+--     what no contract fixes: the layout of words that stand for one list, so words are compared by what they are seen to be,
+--     and no later call tells two layouts apart (layout-unseen); and, at write_out, the buffer past the part that it returns
+--     (fill fixes it)
 use mathlib.Core.Path.{_≡_, sym, _∙_}
 use mathlib.Core.List.{List}
 use Prim.Native.Nat.{ℕ}
@@ -33,7 +34,8 @@ use Rattle.feed.specs.Series.{Series, all-answered}
 pub clear-agrees : (ws vs vs′ : List ℕ) (r r′ : Cleared) → Clears 4 ws vs r → Clears 4 ws vs′ r′ → audit.Agree 4 vs vs′ r r′
 clear-agrees ws vs vs′ r r′ p q = audit.clear-sharp 4 ws vs vs′ r r′ p q
 
-pub check-agrees : (ws : List ℕ) (r r′ : Checked) → toldCheck r ≡ checkOn 32 (seen 4 ws) → toldCheck r′ ≡ checkOn 32 (seen 4 ws) → r ≡ r′
+pub check-agrees : (ws : List ℕ) (r r′ : Checked) → toldCheck r ≡ checkOn 32 (seen 4 ws)
+    → toldCheck r′ ≡ checkOn 32 (seen 4 ws) → r ≡ r′
 check-agrees ws r r′ p q = audit.check-sharp (checkOn 32 (seen 4 ws)) r r′ p q
 
 -- ---- lookup: on a table by its list, on other words by the layout's walk over them
@@ -63,24 +65,29 @@ work-agrees ws u vs vs′ r r′ p q =
 
 -- ---- count, fill, write_out
 
-pub count-agrees : (ws : List ℕ) (room : ℕ) (r r′ : Counted) → writing.toldCount r ≡ countOn (seen 4 ws) room → writing.toldCount r′ ≡ countOn (seen 4 ws) room → r ≡ r′
+pub count-agrees : (ws : List ℕ) (room : ℕ) (r r′ : Counted) → writing.toldCount r ≡ countOn (seen 4 ws) room
+    → writing.toldCount r′ ≡ countOn (seen 4 ws) room → r ≡ r′
 count-agrees ws room r r′ p q = writing.count-sharp (seen 4 ws) room r r′ p q
 
-pub fill-agrees : (ws b : List ℕ) (n n′ : ℕ) (c c′ : List ℕ) → writing.Fills (seen 4 ws) b n c → writing.Fills (seen 4 ws) b n′ c′ → (n ≡ n′) × (c ≡ c′)
+pub fill-agrees : (ws b : List ℕ) (n n′ : ℕ) (c c′ : List ℕ) → writing.Fills (seen 4 ws) b n c
+    → writing.Fills (seen 4 ws) b n′ c′ → (n ≡ n′) × (c ≡ c′)
 fill-agrees ws b n n′ c c′ p q = writing.fills-sharp (seen 4 ws) b n n′ c c′ p q
 
-pub write-out-agrees : (ws b front front′ : List ℕ) → front ≡ frontOn (seen 4 ws) (length b) → front′ ≡ frontOn (seen 4 ws) (length b) → front ≡ front′
+pub write-out-agrees : (ws b front front′ : List ℕ) → front ≡ frontOn (seen 4 ws) (length b)
+    → front′ ≡ frontOn (seen 4 ws) (length b) → front ≡ front′
 write-out-agrees ws b front front′ p q = p ∙ sym q
 
 -- ---- run
 
-pub run-agrees : (ws bytes b vs c : List ℕ) (r : Ran) (vs′ c′ : List ℕ) (r′ : Ran) → Runs ws bytes b vs c r → Runs ws bytes b vs′ c′ r′ → feed.Agree vs c r vs′ c′ r′
+pub run-agrees : (ws bytes b vs c : List ℕ) (r : Ran) (vs′ c′ : List ℕ) (r′ : Ran) → Runs ws bytes b vs c r
+    → Runs ws bytes b vs′ c′ r′ → feed.Agree vs c r vs′ c′ r′
 run-agrees ws bytes b vs c r vs′ c′ r′ p q = feed.sharp ws bytes b vs c r vs′ c′ r′ p q
 
 -- ---- the layout
 
 -- tables of one list answer any calls alike, and are left alike, however they are laid out
-pub layout-unseen : (A : ℕ) (rs : List Route) {ws ws′ vs vs′ : List ℕ} {xs : List Record} {ys ys′ : List Reply} → seen 4 ws ≡ table A rs → seen 4 ws′ ≡ table A rs
+pub layout-unseen : (A : ℕ) (rs : List Route) {ws ws′ vs vs′ : List ℕ} {xs : List Record} {ys ys′ : List Reply}
+    → seen 4 ws ≡ table A rs → seen 4 ws′ ≡ table A rs
     → Series ws xs ys vs → Series ws′ xs ys′ vs′ → (ys ≡ ys′) × (seen 4 vs ≡ seen 4 vs′)
 layout-unseen A rs t t′ s s′ =
     let p = all-answered A rs t s in

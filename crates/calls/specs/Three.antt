@@ -1,5 +1,5 @@
--- Demand 3 of three calls of the run: the joint feed and each of its two feeds alone, each on lent words of a cleared table of A arrays.
--- It follows from what the run promises of any words and any feed, and from nothing else of it. Assumes nothing.
+-- Demand 3 of three calls of the run: the joint feed and each of its two feeds alone, each on lent words of a cleared table of A
+-- arrays. It follows from what the run promises of any words and any feed, and from nothing else of it. Assumes nothing.
 --
 --     cleared words ── both ──▶ words of the join          lookups, check and writing out go by what the words are seen to be,
 --     cleared words ── first ─▶ words of its list          so they answer by the join
@@ -12,14 +12,14 @@ use lib.ListN.{length, drop}
 use borrow.Author.Tests.{le-ltb}
 use Rattle.routes.specs.Route.{Route}
 use Rattle.routes.specs.Match.{longest}
-use Rattle.routes.specs.Answers.{Update, Reply, matched}
+use Rattle.routes.specs.Answers.{Update, records, Reply, matched}
 use Rattle.routes.specs.Bytes.{repliesBytes, written, AllFit}
 use Rattle.routes.specs.Runs.{Ran, run}
-use Rattle.routes.specs.Seen.{Seen, table, gives, lookupOn, checkOn, countOn, frontOn, runOn, ranOn, repliedOn}
+use Rattle.routes.specs.Seen.{table, gives, lookupOn, checkOn, countOn, frontOn, runOn, ranOn, repliedOn}
+use Rattle.laws.specs.Given.{given-one}
 use Rattle.words.specs.Table.{seen}
-use Rattle.order.specs.Feeds.{records, Weave, flip, heard, plains, said, kept, keptBoth, Meets, Independent}
+use Rattle.order.specs.Feeds.{Weave, flip, heard, plains, said, kept, keptBoth, Meets, Independent}
 use Rattle.order.specs.Feeds.{Closes, bytes, readBack, Answered}
-use Rattle.order.specs.Enough.{enough}
 use Rattle.order.specs.Fed.{read-said, Fed, answered, Together, demand-3-fed}
 
 -- what the run promises of the words ws, a feed and the reply bytes b, where it leaves vs and c and has the outcome o
@@ -29,7 +29,8 @@ pub record Promise (ws feed b vs c : List ℕ) (o : Ran) : Type 0 where
   pub replies : c ≡ repliedOn (seen 4 ws) feed b
 
 -- of words that are a table, the outcome is the run's of their list
-pub promise : {A : ℕ} {rs : List Route} {ws feed b vs c : List ℕ} → seen 4 ws ≡ table A rs → seen 4 vs ≡ ranOn (seen 4 ws) feed b → c ≡ repliedOn (seen 4 ws) feed b
+pub promise : {A : ℕ} {rs : List Route} {ws feed b vs c : List ℕ} → seen 4 ws ≡ table A rs
+    → seen 4 vs ≡ ranOn (seen 4 ws) feed b → c ≡ repliedOn (seen 4 ws) feed b
     → Promise ws feed b vs c (run A rs feed (length b))
 promise t l r = record { answer = rw t; list = l; replies = r }
 
@@ -47,24 +48,6 @@ pub record Call (A : ℕ) (us : List Update) : Type 0 where
   pub runs : Promise words (bytes us rest) reply words′ reply′ ran
   pub enough : ran .stop ≢ 4
 
--- one with five reply bytes for each record, which are enough
-abbrev pub call : {A : ℕ} {us : List Update} (ws rest b vs c : List ℕ) → seen 4 ws ≡ table A [] → AllFit (records us) → Closes rest → 5 * length (records us) ≤ length b
-    → seen 4 vs ≡ ranOn (seen 4 ws) (bytes us rest) b → c ≡ repliedOn (seen 4 ws) (bytes us rest) b → Call A us
-call {A} {us} ws rest b vs c t f e h l r =
-    record {
-      words = ws;
-      rest = rest;
-      reply = b;
-      words′ = vs;
-      reply′ = c;
-      ran = run A [] (bytes us rest) (length b);
-      cleared = t;
-      fits = f;
-      closes = e;
-      runs = promise t l r;
-      enough = enough A [] (records us) f rest e (length b) h;
-    }
-
 -- ---- one call
 
 -- how it answers, the reply bytes, and the list that the words then stand for
@@ -78,10 +61,7 @@ module _ {A : ℕ} {us : List Update} (c : Call A us) where
   o = run A [] (bytes us (c .rest)) (length (c .reply))
 
   ran-is : o ≡ c .ran
-  ran-is = given (rw (c .cleared) at (c .runs .answer))
-    where
-      given : _≡_ {A = Rattle.routes.specs.Seen.Answer Ran} (gives o) (gives (c .ran)) → o ≡ c .ran
-      given e = cc
+  ran-is = given-one (rw (c .cleared) at (c .runs .answer))
 
   abbrev fed : Fed A us
   fed = record { fits = c .fits; rest = c .rest; closes = c .closes; room = length (c .reply); enough = rw ran-is (c .enough) }
@@ -90,7 +70,9 @@ module _ {A : ℕ} {us : List Update} (c : Call A us) where
   left =
       record {
         answer = rw ran-is at (answered fed);
-        replies = (rw (c .cleared) at (c .runs .replies)) ∙ ap (λ (x : List ℕ). x ++ drop (length x) (c .reply)) (answered fed .replies);
+        replies =
+            (rw (c .cleared) at (c .runs .replies))
+            ∙ ap (λ (x : List ℕ). x ++ drop (length x) (c .reply)) (answered fed .replies);
         list = (rw (c .cleared) at (c .runs .list)) ∙ ap (table A) (answered fed .list);
       }
 
@@ -104,7 +86,8 @@ module _ {A : ℕ} {us : List Update} (c : Call A us) where
 -- ---- three calls
 
 -- the joint call j beside the calls f and s of its two feeds alone
-pub record Called {A : ℕ} {xs ys zs : List Update} (w : Weave xs ys zs) (j : Call A zs) (f : Call A xs) (s : Call A ys) : Type 0 where
+pub record Called {A : ℕ} {xs ys zs : List Update} (w : Weave xs ys zs)
+    (j : Call A zs) (f : Call A xs) (s : Call A ys) : Type 0 where
   pub joint : Left j
   pub first : Left f
   pub second : Left s
@@ -117,13 +100,16 @@ pub record Called {A : ℕ} {xs ys zs : List Update} (w : Weave xs ys zs) (j : C
   pub refused : j .ran .end .refused ≡ f .ran .end .refused + s .ran .end .refused
   -- the words stand for the join, and each call on them then answers by it
   pub list : seen 4 (j .words′) ≡ table A (keptBoth 32 A xs ys)
-  pub lookups : (walked : Reply) (a : ℕ) → lookupOn 32 (seen 4 (j .words′)) walked a ≡ matched (longest 32 a (keptBoth 32 A xs ys))
+  pub lookups : (walked : Reply) (a : ℕ)
+      → lookupOn 32 (seen 4 (j .words′)) walked a ≡ matched (longest 32 a (keptBoth 32 A xs ys))
   pub check : checkOn 32 (seen 4 (j .words′)) ≡ checkOn 32 (table A (keptBoth 32 A xs ys))
   pub count : (room : ℕ) → countOn (seen 4 (j .words′)) room ≡ countOn (table A (keptBoth 32 A xs ys)) room
   pub front : (room : ℕ) → frontOn (seen 4 (j .words′)) room ≡ frontOn (table A (keptBoth 32 A xs ys)) room
-  pub out : (room : ℕ) → 8 * length (keptBoth 32 A xs ys) + 1 ≤ room → frontOn (seen 4 (j .words′)) room ≡ written (keptBoth 32 A xs ys)
+  pub out : (room : ℕ) → 8 * length (keptBoth 32 A xs ys) + 1 ≤ room
+      → frontOn (seen 4 (j .words′)) room ≡ written (keptBoth 32 A xs ys)
 
-pub demand-3-called : {A : ℕ} {xs ys zs : List Update} (w : Weave xs ys zs) → Meets 32 A xs ys → (j : Call A zs) (f : Call A xs) (s : Call A ys) → Called w j f s
+pub demand-3-called : {A : ℕ} {xs ys zs : List Update} (w : Weave xs ys zs) → Meets 32 A xs ys
+    → (j : Call A zs) (f : Call A xs) (s : Call A ys) → Called w j f s
 demand-3-called {A} {xs} {ys} {zs} w m j f s =
     record {
       joint = left j;

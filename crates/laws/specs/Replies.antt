@@ -4,7 +4,7 @@
 --     replies   done 1 4   refused 7   found 2 22   none
 --     bytes     16 0 1 0 4   19 7      17 0 2 22    18          the kind of each says where the next begins
 use mathlib.Core.Path.{_≡_, refl, sym, ap, ap₂, _∙_}
-use mathlib.Core.Bool.{Bool, true, false, _||_, true≢false, false≢true}
+use mathlib.Core.Bool.{Bool, true, false, true≢false, false≢true}
 use mathlib.Core.List.{List, [], _∷_, _++_, append-assoc}
 use Prim.Native.Nat.{ℕ, suc, _+_, _*_, _≤_, _<_}
 use native.Mathlib.Omega.{arith}
@@ -39,7 +39,7 @@ size-back pre y ys =
     go (refused n) = refl
 
 -- wherever they stand, and whatever follows them
-pub replies-back : (pre : List ℕ) (ys : List Reply) (rest : List ℕ) → RepliesFit ys
+replies-back : (pre : List ℕ) (ys : List Reply) (rest : List ℕ) → RepliesFit ys
     → repliesAt (length ys) (pre ++ (repliesBytes ys ++ rest)) (length pre) ≡ ys
 replies-back pre [] rest f = refl
 replies-back pre (y ∷ ys) rest f =
@@ -57,7 +57,7 @@ pub record Low (W : ℕ) (r : Route) : Type 0 where
   pub len : r .len ≤ W
   pub hop : r .hop ≤ 65535
 
-pub list-low : (W : ℕ) (rs : List Route) → All (IsRoute W) rs → All (Low W) rs
+list-low : (W : ℕ) (rs : List Route) → All (IsRoute W) rs → All (Low W) rs
 list-low W rs p = all-map (IsRoute W) (Low W) (λ r i. record { len = i .wf .fits; hop = i .low }) rs p
 
 -- a test that was passed
@@ -87,11 +87,7 @@ module _ (W : ℕ) (w : W < 256) where
 
   -- a hop that is not refused
   hop-low : (h : ℕ) → badHop h ≡ false → h ≤ 65535
-  hop-low h e = ltb-false 65535 h (or-right (eqb h 0) (ltb 65535 h) e)
-    where
-      or-right : (a b : Bool) → (a || b) ≡ false → b ≡ false
-      or-right true b e = absurd (true≢false e)
-      or-right false b e = e
+  hop-low h e = ltb-false 65535 h (bool (eqb h 0) (λ d. absurd (true≢false (rw d at e))) (λ d. rw d at e))
 
   reloaded-few : (rs : List Route) (a l h : ℕ) → reloaded W rs a l h < 65536
   reloaded-few rs a l h =
@@ -137,7 +133,7 @@ module _ (W : ℕ) (w : W < 256) where
   replies-fit A rs (x ∷ xs) p = (reply-fits A rs x p, replies-fit A (next W A rs x) xs (next-low A rs x p))
 
 -- one for each record
-pub replies-many : (W A : ℕ) (rs : List Route) (xs : List Record) → length (replies W A rs xs) ≡ length xs
+replies-many : (W A : ℕ) (rs : List Route) (xs : List Record) → length (replies W A rs xs) ≡ length xs
 replies-many W A rs [] = refl
 replies-many W A rs (x ∷ xs) = ap suc (replies-many W A (next W A rs x) xs)
 

@@ -11,11 +11,11 @@ use lib.ListN.{length, getD}
 use lib.Dec.{eqb}
 use borrow.Author.Tests.{ne-eqb}
 use Rattle.routes.specs.Route.{Route}
-use Rattle.routes.specs.Answers.{Record, Reply, reply, replies, next, leaves, isDone, isRefused, count}
+use Rattle.routes.specs.Answers.{Record, reply, replies, next, leaves, isDone, isRefused, count}
 use Rattle.routes.specs.Bytes.{replyBytes, repliesBytes}
-use Rattle.routes.specs.Runs.{State, recordAt, tally, finish, halts, taken, runs, fresh, run, recordsFrom, recordsOf}
+use Rattle.routes.specs.Runs.{State, recordAt, finish, halts, taken, runs, fresh, run, recordsFrom, recordsOf}
 use Rattle.logic.specs.Cases.{same}
-use Rattle.laws.specs.Turns.{Clear, size-pos, halts-1, halts-clear}
+use Rattle.laws.specs.Turns.{size-pos, tally-count, halts-1, halts-clear}
 
 -- the record that is next
 abbrev pub ahead : List ℕ → State → Record
@@ -30,7 +30,7 @@ module _ (A : ℕ) (feed : List ℕ) (room : ℕ) (s : State) where
   records-stop (suc n) h = rw (ne-eqb _ 5 h)
 
 -- more than the bytes left is as good as the bytes left
-pub records-enough : (n m A : ℕ) (feed : List ℕ) (room : ℕ) (s : State)
+records-enough : (n m A : ℕ) (feed : List ℕ) (room : ℕ) (s : State)
     → length feed ≤ s .consumed + n → length feed ≤ s .consumed + m
     → recordsFrom n A feed room s ≡ recordsFrom m A feed room s
 unfolding recordsFrom
@@ -64,10 +64,6 @@ pub record Came (A : ℕ) (s : State) (xs : List Record) (t : State) : Type 0 wh
   pub accepted : t .accepted ≡ s .accepted + count isDone (replies 32 A (s .list) xs)
   pub refused : t .refused ≡ s .refused + count isRefused (replies 32 A (s .list) xs)
 
-tally-more : (b : Bool) (m n k : ℕ) → k ≡ tally b m + n → k ≡ m + (cond b 1 0 + n)
-tally-more true m n k e = omega arith
-tally-more false m n k e = omega arith
-
 came-none : (A : ℕ) (s : State) → Came A s [] s
 came-none A s =
     record {
@@ -85,8 +81,8 @@ came-more A feed s xs t c =
     record {
       list = c .list;
       written = c .written ∙ append-assoc (s .replies) (replyBytes y) (repliesBytes ys);
-      accepted = tally-more (isDone y) (s .accepted) (count isDone ys) (t .accepted) (c .accepted);
-      refused = tally-more (isRefused y) (s .refused) (count isRefused ys) (t .refused) (c .refused);
+      accepted = c .accepted ∙ tally-count (isDone y) (s .accepted) (count isDone ys);
+      refused = c .refused ∙ tally-count (isRefused y) (s .refused) (count isRefused ys);
     }
 
 finished : (A : ℕ) (s : State) (b : Bool) → Came A s [] (cond b (finish s) s)

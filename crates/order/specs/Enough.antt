@@ -14,10 +14,11 @@ use Rattle.routes.specs.Bytes.{recordsBytes, AllFit}
 use Rattle.routes.specs.Runs.{State, size, finish, halts, Ran, decide, taken, runs, fresh, run}
 use Rattle.logic.specs.Cases.{bool, same, less}
 use Rattle.laws.specs.Encoded.{ended, run-records, run-ended}
-use Rattle.order.specs.Feeds.{Closes, bytes}
+use Rattle.order.specs.Feeds.{Closes}
 
 -- the tests find the same with more room, unless they find too little
-halts-more : (feed : List ℕ) (room more at out : ℕ) → room ≤ more → halts feed room at out ≢ 4 → halts feed more at out ≡ halts feed room at out
+halts-more : (feed : List ℕ) (room more at out : ℕ) → room ≤ more → halts feed room at out ≢ 4
+    → halts feed more at out ≡ halts feed room at out
 unfolding halts
 halts-more feed room more at out h n =
     bool (leb (length feed) at) (λ e. rw e) (λ e.
@@ -32,7 +33,8 @@ halts-more feed room more at out h n =
 decide-stop : (h : ℕ) (s : State) (on : Ran) → decide h s on .stop ≢ 4 → h ≢ 4
 decide-stop h s on n e = n (rw e)
 
-pub runs-more : (n A : ℕ) (feed : List ℕ) (room more : ℕ) (s : State) → room ≤ more → runs n A feed room s .stop ≢ 4 → runs n A feed more s ≡ runs n A feed room s
+runs-more : (n A : ℕ) (feed : List ℕ) (room more : ℕ) (s : State) → room ≤ more → runs n A feed room s .stop ≢ 4
+    → runs n A feed more s ≡ runs n A feed room s
 unfolding runs
 runs-more zero A feed room more s h q = refl
 runs-more (suc n) A feed room more s h q =
@@ -49,11 +51,13 @@ closed [] s = record { stop = 1; end = s }
 closed (k ∷ t) s = record { stop = 0; end = finish s }
 
 module _ (A : ℕ) (rs : List Route) (xs : List Record) (f : AllFit xs) where
-  pub run-roomy : (t : List ℕ) → Closes t → (room : ℕ) → 5 * length xs ≤ room → run A rs (recordsBytes xs ++ t) room ≡ closed t (ended A (fresh rs) xs)
+  run-roomy : (t : List ℕ) → Closes t → (room : ℕ) → 5 * length xs ≤ room
+      → run A rs (recordsBytes xs ++ t) room ≡ closed t (ended A (fresh rs) xs)
   run-roomy [] c room h = rw (append-nil (recordsBytes xs)) (run-records A rs xs room f h)
   run-roomy (k ∷ t) c room h = rw c (run-ended A rs xs t room f h)
 
-  pub run-enough : (t : List ℕ) → Closes t → (room : ℕ) → run A rs (recordsBytes xs ++ t) room .stop ≢ 4 → run A rs (recordsBytes xs ++ t) room ≡ closed t (ended A (fresh rs) xs)
+  pub run-enough : (t : List ℕ) → Closes t → (room : ℕ) → run A rs (recordsBytes xs ++ t) room .stop ≢ 4
+      → run A rs (recordsBytes xs ++ t) room ≡ closed t (ended A (fresh rs) xs)
   run-enough t c room n =
       sym (runs-more _ A (recordsBytes xs ++ t) room (room + 5 * length xs) (fresh rs) (omega arith) n)
       ∙ run-roomy t c (room + 5 * length xs) (omega arith)

@@ -1,5 +1,5 @@
--- Demand 3 is not empty: two feeds that meet what it asks, a malformed record standing in both, on a table with no array to spare.
--- What they are answered is computed: cells differ, and nothing else does. Assumes nothing.
+-- Demand 3 is not empty: two feeds that meet what it asks, a malformed record standing in both, on a table with no array to
+-- spare. What they are answered is computed: cells differ, and nothing else does. Assumes nothing.
 --
 --     first     announce 10.0.0.0/9, announce 0.0.0.7/40, announce 10.128.0.0/9, withdraw 10.0.0.0/9 twice
 --     second    announce 10.0.0.0/8, announce 10.64.0.0/10, announce 0.0.0.7/40
@@ -14,9 +14,11 @@ use Rattle.routes.specs.Route.{Route, route}
 use Rattle.routes.specs.Match.{found, longest}
 use Rattle.routes.specs.Room.{needTo}
 use Rattle.routes.specs.Cells.{cells, shown}
-use Rattle.routes.specs.Answers.{Update, announce, withdraw, done, refused, answer}
+use Rattle.routes.specs.Answers.{Update, announce, withdraw, records, done, refused, answer}
+use Rattle.routes.specs.Bytes.{AllFit}
 use Rattle.routes.specs.Runs.{runs, halts}
-use Rattle.order.specs.Feeds.{Weave, nothing, left, right, Each, Apart, prefix, proper, said, kept, keptBoth, Meets, Independent}
+use Rattle.order.specs.Feeds.{Weave, nothing, left, right, Each, Apart, prefix, proper, said, kept, keptBoth}
+use Rattle.order.specs.Feeds.{Meets, Independent}
 use Rattle.order.specs.Joined.{demand-3-ipv4}
 use Rattle.order.specs.Fed.{Fed, roomy, replied, Together, demand-3-fed}
 
@@ -39,12 +41,28 @@ abbrev ys : List Update
 ys = announce ten 8 1 ∷ announce upper 10 3 ∷ announce 7 40 1 ∷ []
 
 abbrev zs : List Update
-zs = announce ten 8 1 ∷ announce ten 9 2 ∷ announce 7 40 1 ∷ announce upper 10 3 ∷ announce half 9 4 ∷ announce 7 40 1 ∷ withdraw ten 9 ∷ withdraw ten 9 ∷ []
+zs =
+    announce ten 8 1
+    ∷ announce ten 9 2
+    ∷ announce 7 40 1
+    ∷ announce upper 10 3
+    ∷ announce half 9 4
+    ∷ announce 7 40 1
+    ∷ withdraw ten 9
+    ∷ withdraw ten 9
+    ∷ []
 
 abbrev woven : Weave xs ys zs
 woven =
-    right (announce ten 8 1) (left (announce ten 9 2) (left (announce 7 40 1) (right (announce upper 10 3) (left (announce half 9 4)
-    (right (announce 7 40 1) (left (withdraw ten 9) (left (withdraw ten 9) nothing)))))))
+    right (announce ten 8 1)
+    (left (announce ten 9 2)
+    (left (announce 7 40 1)
+    (right (announce upper 10 3)
+    (left (announce half 9 4)
+    (right (announce 7 40 1)
+    (left (withdraw ten 9)
+    (left (withdraw ten 9)
+    nothing)))))))
 
 -- ---- it meets what demand 3 asks
 
@@ -74,7 +92,8 @@ independent = demand-3-ipv4 2 xs ys zs woven meets
 
 -- ---- computed
 
-pub heard-both : said 32 2 zs ≡ done 1 1 ∷ done 2 128 ∷ refused 3 ∷ done 3 64 ∷ done 4 128 ∷ refused 3 ∷ done 2 64 ∷ refused 7 ∷ []
+pub heard-both : said 32 2 zs
+    ≡ done 1 1 ∷ done 2 128 ∷ refused 3 ∷ done 3 64 ∷ done 4 128 ∷ refused 3 ∷ done 2 64 ∷ refused 7 ∷ []
 unfolding answer cells shown needTo
 heard-both = refl
 
@@ -105,15 +124,29 @@ looked = refl
 
 -- ---- and as bytes: the joint feed with an end and a byte past it, the first with an end, the second with none
 
--- the numbers of an announcement and of a withdrawal fit their bytes
+-- the numbers of each record fit their bytes: those of each feed, and so those of both
+abbrev fit-ends : AllFit (records (withdraw ten 9 ∷ withdraw ten 9 ∷ []))
+fit-ends = ((lit< tt, lit< tt), ((lit< tt, lit< tt), tt))
+
+abbrev fit-xs : AllFit (records xs)
+fit-xs = ((lit< tt, lit< tt, lit< tt), ((lit< tt, lit< tt, lit< tt), ((lit< tt, lit< tt, lit< tt), fit-ends)))
+
+abbrev fit-ys : AllFit (records ys)
+fit-ys = ((lit< tt, lit< tt, lit< tt), ((lit< tt, lit< tt, lit< tt), ((lit< tt, lit< tt, lit< tt), tt)))
+
+abbrev fit-both : {xs ys zs : List Update} → Weave xs ys zs → AllFit (records xs) → AllFit (records ys) → AllFit (records zs)
+fit-both nothing f g = tt
+fit-both (left x w) f g = (f .0, fit-both w (f .1) g)
+fit-both (right y w) f g = (g .0, fit-both w f (g .1))
+
 abbrev joint : Fed 2 zs
-joint = roomy ((lit< tt, lit< tt, lit< tt), ((lit< tt, lit< tt, lit< tt), ((lit< tt, lit< tt, lit< tt), ((lit< tt, lit< tt, lit< tt), ((lit< tt, lit< tt, lit< tt), ((lit< tt, lit< tt, lit< tt), ((lit< tt, lit< tt), ((lit< tt, lit< tt), tt)))))))) (0 ∷ 9 ∷ []) refl 40 (lit≤ tt)
+joint = roomy (fit-both woven fit-xs fit-ys) (0 ∷ 9 ∷ []) refl 40 (lit≤ tt)
 
 abbrev first : Fed 2 xs
-first = roomy ((lit< tt, lit< tt, lit< tt), ((lit< tt, lit< tt, lit< tt), ((lit< tt, lit< tt, lit< tt), ((lit< tt, lit< tt), ((lit< tt, lit< tt), tt))))) (0 ∷ []) refl 25 (lit≤ tt)
+first = roomy fit-xs (0 ∷ []) refl 25 (lit≤ tt)
 
 abbrev second : Fed 2 ys
-second = roomy ((lit< tt, lit< tt, lit< tt), ((lit< tt, lit< tt, lit< tt), ((lit< tt, lit< tt, lit< tt), tt))) [] tt 15 (lit≤ tt)
+second = roomy fit-ys [] tt 15 (lit≤ tt)
 
 -- read back from the bytes, cells and all
 pub read-joint : replied joint

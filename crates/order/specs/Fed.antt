@@ -1,5 +1,5 @@
--- Demand 3 of bytes: the two feeds and an interleaving of them, each as bytes, each run on a cleared table of A arrays with reply room
--- enough. Assumes nothing.
+-- Demand 3 of bytes: the two feeds and an interleaving of them, each as bytes, each run on a cleared table of A arrays with reply
+-- room enough. Assumes nothing.
 use mathlib.Core.Path.{_≡_, refl, sym, ap, ap₂, _∙_}
 use mathlib.Core.Logic.{_≢_}
 use mathlib.Core.Bool.{Bool, cond}
@@ -8,12 +8,13 @@ use Prim.Native.Nat.{ℕ, suc, _+_, _*_, _≤_}
 use native.Mathlib.Omega.{arith}
 use lib.ListN.{length}
 use Rattle.routes.specs.Route.{Route}
-use Rattle.routes.specs.Answers.{Update, update, Reply, done, found, none, refused, isDone, isRefused, next, replies, count}
+use Rattle.routes.specs.Answers.{Update, update, records, Reply, done, found, none, refused, isDone, isRefused, next, replies}
+use Rattle.routes.specs.Answers.{count}
 use Rattle.routes.specs.Bytes.{AllFit, repliesBytes}
 use Rattle.routes.specs.Runs.{Ran, fresh, run}
 use Rattle.laws.specs.Encoded.{ended}
 use Rattle.laws.specs.Replies.{answers-back}
-use Rattle.order.specs.Feeds.{records, Weave, nothing, left, right, flip, heard, plain, plains, join, said, Meets}
+use Rattle.order.specs.Feeds.{Weave, nothing, left, right, flip, heard, plain, plains, join, said, Meets}
 use Rattle.order.specs.Feeds.{Independent, Closes, bytes, readBack, Answered}
 use Rattle.order.specs.Steps.{plain-done}
 use Rattle.order.specs.Joined.{demand-3-ipv4}
@@ -21,8 +22,8 @@ use Rattle.order.specs.Enough.{closed, run-enough, enough}
 
 -- ---- a feed of updates, run
 
--- its numbers fit their bytes; after its records comes nothing, or an end and whatever follows; and the run does not stop for want of
--- reply room
+-- its numbers fit their bytes; after its records comes nothing, or an end and whatever follows; and the run does not stop for
+-- want of reply room
 pub record Fed (A : ℕ) (us : List Update) : Type 0 where
   pub fits : AllFit (records us)
   pub rest : List ℕ
@@ -37,12 +38,16 @@ pub answered : {A : ℕ} {us : List Update} (f : Fed A us) → Answered A us (f 
 answered {A} {us} f = rw (run-enough A [] (records us) (f .fits) (f .rest) (f .closes) (f .room) (f .enough)) (of (f .rest))
   where
     of : (t : List ℕ) → Answered A us t (closed t (ended A (fresh []) (records us)))
-    of [] = record { stop = refl; consumed = omega arith; replies = refl; accepted = omega arith; refused = omega arith; list = refl }
-    of (k ∷ t) = record { stop = refl; consumed = omega arith; replies = refl; accepted = omega arith; refused = omega arith; list = refl }
+    of [] =
+        record { stop = refl; consumed = omega arith; replies = refl; accepted = omega arith; refused = omega arith; list = refl }
+    of (k ∷ t) =
+        record { stop = refl; consumed = omega arith; replies = refl; accepted = omega arith; refused = omega arith; list = refl }
 
 -- five reply bytes for each record are enough
-abbrev pub roomy : {A : ℕ} {us : List Update} → AllFit (records us) → (rest : List ℕ) → Closes rest → (room : ℕ) → 5 * length (records us) ≤ room → Fed A us
-roomy {A} {us} f rest c room h = record { fits = f; rest = rest; closes = c; room = room; enough = enough A [] (records us) f rest c room h }
+abbrev pub roomy : {A : ℕ} {us : List Update} → AllFit (records us) → (rest : List ℕ) → Closes rest → (room : ℕ)
+    → 5 * length (records us) ≤ room → Fed A us
+roomy {A} {us} f rest c room h =
+    record { fits = f; rest = rest; closes = c; room = room; enough = enough A [] (records us) f rest c room h }
 
 -- ---- its replies, read back from their bytes
 
@@ -58,7 +63,7 @@ as-many (u ∷ us) = ap suc (as-many us)
 pub read-said : (A : ℕ) (us : List Update) (rest : List ℕ) → readBack us (repliesBytes (said 32 A us) ++ rest) ≡ said 32 A us
 read-said A us rest = rw (as-many us) at (answers-back A [] (records us) [] rest tt)
 
-pub replied-said : {A : ℕ} {us : List Update} (f : Fed A us) → replied f ≡ said 32 A us
+replied-said : {A : ℕ} {us : List Update} (f : Fed A us) → replied f ≡ said 32 A us
 replied-said {A} {us} f =
     let bs : List ℕ = repliesBytes (said 32 A us) in
     ap (readBack us) (answered f .replies ∙ sym (append-nil bs)) ∙ read-said A us []
@@ -78,16 +83,20 @@ plain-refused (refused n) = refl
 
 -- each reply is to a record of one of the feeds
 heard-count : (p : Reply → Bool) (A : ℕ) (rs : List Route) {xs ys zs : List Update} (w : Weave xs ys zs)
-    → count p (replies 32 A rs (records zs)) ≡ count p (heard w (replies 32 A rs (records zs))) + count p (heard (flip w) (replies 32 A rs (records zs)))
+    → count p (replies 32 A rs (records zs))
+    ≡ count p (heard w (replies 32 A rs (records zs))) + count p (heard (flip w) (replies 32 A rs (records zs)))
 heard-count p A rs nothing = refl
 heard-count p A rs (left x w) = omega (arith, heard-count p A (next 32 A rs (update x)) w)
 heard-count p A rs (right y w) = omega (arith, heard-count p A (next 32 A rs (update y)) w)
 
-counted : (A : ℕ) {xs ys zs : List Update} (w : Weave xs ys zs) → Independent 32 A w → (p : Reply → Bool) → ((y : Reply) → p (plain y) ≡ p y)
+counted : (A : ℕ) {xs ys zs : List Update} (w : Weave xs ys zs) → Independent 32 A w
+    → (p : Reply → Bool) → ((y : Reply) → p (plain y) ≡ p y)
     → count p (said 32 A zs) ≡ count p (said 32 A xs) + count p (said 32 A ys)
 counted A {xs} {ys} {zs} w i p q =
     heard-count p A [] w
-    ∙ ap₂ _+_ (alike (heard w (said 32 A zs)) (said 32 A xs) (i .first-heard)) (alike (heard (flip w) (said 32 A zs)) (said 32 A ys) (i .second-heard))
+    ∙ ap₂ _+_
+    (alike (heard w (said 32 A zs)) (said 32 A xs) (i .first-heard))
+    (alike (heard (flip w) (said 32 A zs)) (said 32 A ys) (i .second-heard))
   where
     alike : (a b : List Reply) → plains a ≡ plains b → count p a ≡ count p b
     alike a b e = sym (plain-count p q a) ∙ ap (count p) e ∙ plain-count p q b
@@ -95,7 +104,8 @@ counted A {xs} {ys} {zs} w i p q =
 -- ---- demand 3
 
 -- the joint run j beside the runs f and s of its two feeds alone
-pub record Together {A : ℕ} {xs ys zs : List Update} (w : Weave xs ys zs) (j : Fed A zs) (f : Fed A xs) (s : Fed A ys) : Type 0 where
+pub record Together {A : ℕ} {xs ys zs : List Update} (w : Weave xs ys zs)
+    (j : Fed A zs) (f : Fed A xs) (s : Fed A ys) : Type 0 where
   pub joint : Answered A zs (j .rest) (outcome j)
   pub first : Answered A xs (f .rest) (outcome f)
   pub second : Answered A ys (s .rest) (outcome s)
@@ -108,7 +118,8 @@ pub record Together {A : ℕ} {xs ys zs : List Update} (w : Weave xs ys zs) (j :
   pub accepted : outcome j .end .accepted ≡ outcome f .end .accepted + outcome s .end .accepted
   pub refused : outcome j .end .refused ≡ outcome f .end .refused + outcome s .end .refused
 
-pub demand-3-fed : {A : ℕ} {xs ys zs : List Update} (w : Weave xs ys zs) → Meets 32 A xs ys → (j : Fed A zs) (f : Fed A xs) (s : Fed A ys) → Together w j f s
+pub demand-3-fed : {A : ℕ} {xs ys zs : List Update} (w : Weave xs ys zs) → Meets 32 A xs ys
+    → (j : Fed A zs) (f : Fed A xs) (s : Fed A ys) → Together w j f s
 demand-3-fed {A} {xs} {ys} {zs} w m j f s =
     record {
       joint = answered j;
@@ -118,8 +129,14 @@ demand-3-fed {A} {xs} {ys} {zs} w m j f s =
       second-read = rw (replied-said j, replied-said s) (i .second-heard);
       independent = i;
       list = answered j .list ∙ i .joined ∙ sym (ap₂ join (answered f .list) (answered s .list));
-      accepted = answered j .accepted ∙ counted A w i isDone plain-done ∙ sym (ap₂ _+_ (answered f .accepted) (answered s .accepted));
-      refused = answered j .refused ∙ counted A w i isRefused plain-refused ∙ sym (ap₂ _+_ (answered f .refused) (answered s .refused));
+      accepted =
+          answered j .accepted
+          ∙ counted A w i isDone plain-done
+          ∙ sym (ap₂ _+_ (answered f .accepted) (answered s .accepted));
+      refused =
+          answered j .refused
+          ∙ counted A w i isRefused plain-refused
+          ∙ sym (ap₂ _+_ (answered f .refused) (answered s .refused));
     }
   where
     i : Independent 32 A w

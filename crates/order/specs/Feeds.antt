@@ -13,16 +13,12 @@ use lib.ListN.{length}
 use Rattle.routes.specs.Route.{Route, route, tooLong, stray, From, hopAt, insert}
 use Rattle.routes.specs.Match.{longest}
 use Rattle.routes.specs.Room.{need}
-use Rattle.routes.specs.Answers.{Update, announce, withdraw, Record, update, Reply, done, found, none, refused, replies, leaves}
+use Rattle.routes.specs.Answers.{Update, announce, withdraw, records, Reply, done, found, none, refused, replies, leaves}
 use Rattle.routes.specs.Answers.{isDone, isRefused, count}
 use Rattle.routes.specs.Bytes.{recordsBytes, repliesBytes, repliesAt, written}
 use Rattle.routes.specs.Runs.{Ran}
 
 -- ---- feeds of announcements and withdrawals
-
-abbrev pub records : List Update → List Record
-records [] = []
-records (u ∷ us) = update u ∷ records us
 
 -- zs is an interleaving of xs and ys that keeps the order of each
 pub data Weave : List Update → List Update → List Update → Type 0 where
@@ -118,7 +114,8 @@ pub record Independent (W A : ℕ) {xs ys zs : List Update} (w : Weave xs ys zs)
   pub lookups : (a : ℕ) → longest W a (kept W A zs) ≡ longest W a (keptBoth W A xs ys)
   pub out : written (kept W A zs) ≡ written (keptBoth W A xs ys)
 
--- what is asked of the two feeds: no prefix is named by both, and all that are named need, together, no more arrays than there are
+-- what is asked of the two feeds: no prefix is named by both, and all that are named need, together, no more arrays than there
+-- are
 pub record Meets (W A : ℕ) (xs ys : List Update) : Type 0 where
   pub apart : Apart W xs ys
   pub room : need W (named W xs ++ named W ys) ≤ A

@@ -1,5 +1,6 @@
--- Demand 3 of records. A joint list is followed beside the list of one feed alone: at that feed's keys the two hold the same hops,
--- and at no other does the feed's own list hold any. The other feed is the same, called the other way round. Assumes nothing.
+-- Demand 3 of records. A joint list is followed beside the list of one feed alone: at that feed's keys the two hold the same
+-- hops, and at no other does the feed's own list hold any. The other feed is the same, called the other way round.
+-- Assumes nothing.
 use mathlib.Core.Path.{_≡_, refl, sym, ap, ap₂, _∙_}
 use mathlib.Core.Logic.{_≢_, _⊎_, inl, inr, ⊎-elim}
 use mathlib.Core.Bool.{Bool, true, false, cond, not, true≢false}
@@ -11,25 +12,28 @@ use borrow.Author.Tests.{eq-eqb, ne-eqb}
 use Rattle.routes.specs.Route.{Route, key, From, All, hopAt}
 use Rattle.routes.specs.Match.{longest}
 use Rattle.routes.specs.Room.{mem, need}
-use Rattle.routes.specs.Answers.{Update, announce, withdraw, answer, isDone, after, replies, leaves}
+use Rattle.routes.specs.Answers.{Update, announce, withdraw, records, answer, isDone, after, replies, leaves}
 use Rattle.routes.specs.Bytes.{written}
 use Rattle.logic.specs.Cases.{bool, same}
 use Rattle.laws.specs.Sorted.{Good, ext, insert-from, all-insert, insert-same, insert-other}
 use Rattle.logic.specs.Bools.{or-left, or-right}
-use Rattle.order.specs.Feeds.{records, Weave, nothing, left, right, flip, heard, prefix, proper, Each, Apart, named, plain, plains, join, Union, kept, Independent, Demand3}
-use Rattle.order.specs.Steps.{at, newHop, each-map, proper-short, after-other, after-same, improper-after, Names, names-first, names-second, Fair, fair-empty, after-fair, plainly, plain-done, answer-plain, improper-plain}
+use Rattle.order.specs.Feeds.{Weave, nothing, left, right, flip, heard, prefix, proper, Each, Apart, named, plain, plains}
+use Rattle.order.specs.Feeds.{join, Union, kept, Independent, Demand3}
+use Rattle.order.specs.Steps.{at, newHop, each-map, proper-short, after-other, after-same, improper-after}
+use Rattle.order.specs.Steps.{Names, names-first, names-second, Fair, fair-empty, after-fair}
+use Rattle.order.specs.Steps.{plainly, plain-done, answer-plain, improper-plain}
 
 -- ---- a joint run beside the run of one of its feeds
 
 -- N is all that is named, and it fits; `mine` tells the keys of the feed from those of the other
 module _ (W : ℕ) (w : W < 256) (A : ℕ) (N : List Route) (roomy : need W N ≤ A) (mine : ℕ → Bool) where
   -- an update of the feed, b true, or of the other, b false
-  pub record Owned (b : Bool) (u : Update) : Type 0 where
+  record Owned (b : Bool) (u : Update) : Type 0 where
     pub names : Names W N u
     pub owner : proper W (prefix u) ≡ true → mine (at u) ≡ b
 
   -- the joint list js beside the feed's own list ss
-  pub record Beside (js ss : List Route) : Type 0 where
+  record Beside (js ss : List Route) : Type 0 where
     pub joint : Fair W N js
     pub alone : Fair W N ss
     pub own : (k : ℕ) → mine k ≡ true → hopAt js k ≡ hopAt ss k
@@ -146,7 +150,8 @@ unfolding names keys
 own-key W [] = tt
 own-key W (y ∷ ys) = (
   (λ e. rw e (or-left (eqb (at y) (at y)) _ (eq-eqb (at y) (at y) refl))),
-  each-map (λ u h e. bool (proper W (prefix y)) (λ d. rw d (or-right (eqb (at y) (at u)) _ (h e))) (λ d. rw d (h e))) ys (own-key W ys),
+  each-map (λ u h e. bool (proper W (prefix y)) (λ d. rw d (or-right (eqb (at y) (at u)) _ (h e))) (λ d. rw d (h e)))
+      ys (own-key W ys),
 )
 
 -- a prefix as sent is an address and a length
@@ -156,7 +161,8 @@ same-prefix (announce a l h) (withdraw b m) p q = λ j. record { addr = p j; len
 same-prefix (withdraw a l) (announce b m i) p q = λ j. record { addr = p j; len = q j; hop = 0 }
 same-prefix (withdraw a l) (withdraw b m) p q = λ j. record { addr = p j; len = q j; hop = 0 }
 
-other-key : (W : ℕ) (w : W < 256) (x : Update) (ys : List Update) → proper W (prefix x) ≡ true → Each (λ y. proper W (prefix x) ≡ true → prefix x ≢ prefix y) ys → names W ys (at x) ≡ false
+other-key : (W : ℕ) (w : W < 256) (x : Update) (ys : List Update) → proper W (prefix x) ≡ true
+    → Each (λ y. proper W (prefix x) ≡ true → prefix x ≢ prefix y) ys → names W ys (at x) ≡ false
 unfolding names keys
 other-key W w x [] p d = refl
 other-key W w x (y ∷ ys) p d =
@@ -167,7 +173,8 @@ other-key W w x (y ∷ ys) p d =
 
 -- ---- demand 3
 
-module _ (W : ℕ) (w : W < 256) (A : ℕ) (xs ys zs : List Update) (v : Weave xs ys zs) (d : Apart W xs ys) (r : need W (named W xs ++ named W ys) ≤ A) where
+module _ (W : ℕ) (w : W < 256) (A : ℕ) (xs ys zs : List Update) (v : Weave xs ys zs)
+    (d : Apart W xs ys) (r : need W (named W xs ++ named W ys) ≤ A) where
   abbrev N : List Route
   N = named W xs ++ named W ys
 
@@ -176,7 +183,8 @@ module _ (W : ℕ) (w : W < 256) (A : ℕ) (xs ys zs : List Update) (v : Weave x
     abbrev mine : ℕ → Bool
     mine k = f (names W ys k)
 
-    owned : (b : Bool) (us : List Update) → Each (Names W N) us → Each (λ u. proper W (prefix u) ≡ true → mine (at u) ≡ b) us → Each (Owned W w A N r mine b) us
+    owned : (b : Bool) (us : List Update) → Each (Names W N) us → Each (λ u. proper W (prefix u) ≡ true → mine (at u) ≡ b) us
+        → Each (Owned W w A N r mine b) us
     owned b [] m o = tt
     owned b (u ∷ us) m o = (record { names = m .0; owner = o .0 }, owned b us (m .1) (o .1))
 
@@ -203,7 +211,8 @@ module _ (W : ℕ) (w : W < 256) (A : ℕ) (xs ys zs : List Update) (v : Weave x
   first-beside = beside-leaves W w A N r (mine not) v [] [] (firsts not) (seconds not) (beside-empty W w A N r (mine not))
 
   second-beside : Beside W w A N r (mine self) J S
-  second-beside = beside-leaves W w A N r (mine self) (flip v) [] [] (seconds self) (firsts self) (beside-empty W w A N r (mine self))
+  second-beside =
+      beside-leaves W w A N r (mine self) (flip v) [] [] (seconds self) (firsts self) (beside-empty W w A N r (mine self))
 
   none-common : (k : ℕ) → (hopAt F k ≡ 0) ⊎ (hopAt S k ≡ 0)
   none-common k = bool (names W ys k) (λ e. inl (first-beside .others k (ap not e))) (λ e. inr (second-beside .others k e))
@@ -214,7 +223,8 @@ module _ (W : ℕ) (w : W < 256) (A : ℕ) (xs ys zs : List Update) (v : Weave x
       (first-beside .joint .good) (join-good F S (first-beside .alone .good) (second-beside .alone .good)) (λ k.
       bool (names W ys k)
       (λ e. second-beside .own k e ∙ sym (join-hop F S k (first-beside .alone .good) ∙ rw (first-beside .others k (ap not e))))
-      (λ e. first-beside .own k (ap not e) ∙ sym (join-hop F S k (first-beside .alone .good) ∙ rw (second-beside .others k e) (whole (hopAt F k)))))
+      (λ e. first-beside .own k (ap not e)
+      ∙ sym (join-hop F S k (first-beside .alone .good) ∙ rw (second-beside .others k e) (whole (hopAt F k)))))
     where
       whole : (x : ℕ) → cond (eqb x 0) 0 x ≡ x
       whole x = same x 0 (λ e t. rw (t, e)) (λ n t. rw t)
@@ -223,7 +233,8 @@ module _ (W : ℕ) (w : W < 256) (A : ℕ) (xs ys zs : List Update) (v : Weave x
   independent =
       record {
         first-heard = beside-heard W w A N r (mine not) v [] [] (firsts not) (seconds not) (beside-empty W w A N r (mine not));
-        second-heard = beside-heard W w A N r (mine self) (flip v) [] [] (seconds self) (firsts self) (beside-empty W w A N r (mine self));
+        second-heard =
+            beside-heard W w A N r (mine self) (flip v) [] [] (seconds self) (firsts self) (beside-empty W w A N r (mine self));
         joined = is-join;
         union = join-union F S (second-beside .alone .from) (first-beside .alone .good) none-common;
         lookups = λ a. ap (longest W a) is-join;

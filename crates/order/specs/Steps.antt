@@ -1,7 +1,7 @@
 -- One update at a time: what it does to the hops held, and that room is no matter while all that is named fits. Assumes nothing.
 use mathlib.Core.Path.{_≡_, refl, sym, _∙_}
 use mathlib.Core.Logic.{_≢_}
-use mathlib.Core.Bool.{Bool, true, false, cond, true≢false, false≢true}
+use mathlib.Core.Bool.{true, false, cond, true≢false, false≢true}
 use mathlib.Core.List.{List, [], _∷_, _++_}
 use Prim.Native.Nat.{ℕ, _+_, _-_, _*_, _/_, _≤_, _<_}
 use native.Mathlib.Omega.{arith}
@@ -9,11 +9,13 @@ use lib.Dec.{eqb}
 use borrow.Author.Tests.{ltb-false, eqb-false, le-ltb}
 use Rattle.routes.specs.Route.{Route, route, tooLong, stray, badHop, key, From, All, hopAt, insert, remove}
 use Rattle.routes.specs.Room.{mem, heads, need}
-use Rattle.routes.specs.Answers.{Update, announce, withdraw, Reply, done, found, none, refused, refuse, faulty, answer, isDone, after}
+use Rattle.routes.specs.Answers.{Update, announce, withdraw, Reply, done, found, none, refused}
+use Rattle.routes.specs.Answers.{refuse, faulty, answer, isDone, after}
 use Rattle.logic.specs.Cases.{bool, same}
-use Rattle.laws.specs.Sorted.{Good, insert-from, remove-from, all-insert, all-remove, insert-same, insert-other, remove-same, remove-other}
+use Rattle.laws.specs.Sorted.{Good, insert-from, remove-from, all-insert, all-remove}
+use Rattle.laws.specs.Sorted.{insert-same, insert-other, remove-same, remove-other}
 use Rattle.logic.specs.Bools.{or-left, or-case, or-false}
-use Rattle.laws.specs.Room.{hit, mem-heads, heads-insert, Under, need-le, mem-skip, under-first, under-second}
+use Rattle.laws.specs.Room.{hasHead, mem-heads, heads-insert, HeadsWithin, need-le, mem-skip, heads-first, heads-second}
 use Rattle.laws.specs.Replies.{passed}
 use Rattle.order.specs.Feeds.{prefix, proper, Each, named, plain}
 
@@ -52,7 +54,8 @@ module _ (W : ℕ) where
   after-other A rs (withdraw a l) k n =
       bool (isDone (answer W A rs (withdraw a l))) (λ e. rw e (remove-other (a * 256 + l) k rs (omega arith))) (λ e. rw e)
 
-  pub after-same : (A : ℕ) (rs : List Route) (u : Update) → From 0 rs → hopAt (after W A rs u) (at u) ≡ cond (isDone (answer W A rs u)) (newHop u) (hopAt rs (at u))
+  pub after-same : (A : ℕ) (rs : List Route) (u : Update) → From 0 rs
+      → hopAt (after W A rs u) (at u) ≡ cond (isDone (answer W A rs u)) (newHop u) (hopAt rs (at u))
   after-same A rs (announce a l h) f =
       bool (isDone (answer W A rs (announce a l h))) (λ e. rw e (insert-same (route a l h) rs)) (λ e. rw e)
   after-same A rs (withdraw a l) f =
@@ -94,42 +97,50 @@ module _ (W : ℕ) where
 
   -- the update's prefix, if it is proper, has its heads in N
   abbrev pub Names : List Route → Update → Type 0
-  Names N u = proper W (prefix u) ≡ true → (n z : ℕ) → hit W n z (prefix u) ≡ true → mem z (heads W n N) ≡ true
+  Names N u = proper W (prefix u) ≡ true → (n z : ℕ) → hasHead W n z (prefix u) ≡ true → mem z (heads W n N) ≡ true
 
   own-names : (us : List Update) → Each (Names (named W us)) us
   own-names [] = tt
   own-names (u ∷ us) = (
-    (λ e n z h. rw e (mem-heads W n z (prefix u) (named W us) ∙ or-left (hit W n z (prefix u)) _ h)),
-    each-map {P = Names (named W us)} {Q = Names (named W (u ∷ us))} (λ x m p n z h. bool (proper W (prefix u)) (λ e. rw e (mem-skip W n z (prefix u) (named W us) (m p n z h))) (λ e. rw e (m p n z h))) us (own-names us),
+    (λ e n z h. rw e (mem-heads W n z (prefix u) (named W us) ∙ or-left (hasHead W n z (prefix u)) _ h)),
+    each-map {P = Names (named W us)} {Q = Names (named W (u ∷ us))} (λ x m p n z h.
+        bool (proper W (prefix u)) (λ e. rw e (mem-skip W n z (prefix u) (named W us) (m p n z h))) (λ e. rw e (m p n z h)))
+        us (own-names us),
   )
 
   -- what a feed names stands in what two feeds name
   pub names-first : (xs ys : List Update) → Each (Names (named W xs ++ named W ys)) xs
   names-first xs ys =
-      each-map {P = Names (named W xs)} {Q = Names (named W xs ++ named W ys)} (λ u m p n z h. under-first W (named W xs) (named W ys) n z (m p n z h)) xs (own-names xs)
+      each-map {P = Names (named W xs)} {Q = Names (named W xs ++ named W ys)}
+      (λ u m p n z h. heads-first W (named W xs) (named W ys) n z (m p n z h))
+      xs (own-names xs)
 
   pub names-second : (xs ys : List Update) → Each (Names (named W xs ++ named W ys)) ys
   names-second xs ys =
-      each-map {P = Names (named W ys)} {Q = Names (named W xs ++ named W ys)} (λ u m p n z h. under-second W (named W xs) (named W ys) n z (m p n z h)) ys (own-names ys)
+      each-map {P = Names (named W ys)} {Q = Names (named W xs ++ named W ys)}
+      (λ u m p n z h. heads-second W (named W xs) (named W ys) n z (m p n z h))
+      ys (own-names ys)
 
-  under-insert : (N rs : List Route) (a l h : ℕ) → Good (route a l h) → All Good rs → Names N (announce a l h) → proper W (route a l 0) ≡ true → Under W N rs → Under W N (insert (route a l h) rs)
-  unfolding hit
-  under-insert N rs a l h g p m o u n z q =
-      or-case (hit W n z (route a l h)) (mem z (heads W n rs))
+  within-insert : (N rs : List Route) (a l h : ℕ) → Good (route a l h) → All Good rs
+      → Names N (announce a l h) → proper W (route a l 0) ≡ true
+      → HeadsWithin W N rs → HeadsWithin W N (insert (route a l h) rs)
+  unfolding hasHead
+  within-insert N rs a l h g p m o u n z q =
+      or-case (hasHead W n z (route a l h)) (mem z (heads W n rs))
       (sym (mem-heads W n z (route a l h) rs) ∙ sym (heads-insert W n z (route a l h) rs g p) ∙ q)
       (λ e. m o n z e)
       (λ e. u n z e)
 
-  under-remove : (N : List Route) (k : ℕ) (rs : List Route) → Under W N rs → Under W N (remove k rs)
-  under-remove N k rs u n z e = u n z (go rs e)
+  within-remove : (N : List Route) (k : ℕ) (rs : List Route) → HeadsWithin W N rs → HeadsWithin W N (remove k rs)
+  within-remove N k rs u n z e = u n z (go rs e)
     where
       go : (rs : List Route) → mem z (heads W n (remove k rs)) ≡ true → mem z (heads W n rs) ≡ true
       go [] e = e
       go (s ∷ rs) e =
           same (key s) k
           (λ q d. mem-skip W n z s rs (rw d at e))
-          (λ m d. or-case (hit W n z s) (mem z (heads W n (remove k rs))) (sym (mem-heads W n z s (remove k rs)) ∙ rw d at e)
-          (λ h. mem-heads W n z s rs ∙ or-left (hit W n z s) (mem z (heads W n rs)) h)
+          (λ m d. or-case (hasHead W n z s) (mem z (heads W n (remove k rs))) (sym (mem-heads W n z s (remove k rs)) ∙ rw d at e)
+          (λ h. mem-heads W n z s rs ∙ or-left (hasHead W n z s) (mem z (heads W n rs)) h)
           (λ h. mem-skip W n z s rs (go rs h)))
 
   -- ---- a list that updates may have left, all of whose prefixes are of N
@@ -137,10 +148,10 @@ module _ (W : ℕ) where
   pub record Fair (N rs : List Route) : Type 0 where
     pub from : From 0 rs
     pub good : All Good rs
-    pub under : Under W N rs
+    pub within : HeadsWithin W N rs
 
   pub fair-empty : (N : List Route) → Fair N []
-  fair-empty N = record { from = tt; good = tt; under = λ n z e. absurd (false≢true e) }
+  fair-empty N = record { from = tt; good = tt; within = λ n z e. absurd (false≢true e) }
 
   -- lengths below 256 keep keys apart
   module _ (w : W < 256) where
@@ -162,7 +173,7 @@ module _ (W : ℕ) where
         (λ e. rw e (let g = done-good A rs a l h e in record {
           from = insert-from 0 (route a l h) rs (omega arith) (f .from);
           good = all-insert Good (route a l h) rs g (f .good);
-          under = under-insert N rs a l h g (f .good) m (done-proper A rs (announce a l h) e) (f .under);
+          within = within-insert N rs a l h g (f .good) m (done-proper A rs (announce a l h) e) (f .within);
         }))
         (λ e. rw e f)
     after-fair A N rs (withdraw a l) m f =
@@ -170,19 +181,21 @@ module _ (W : ℕ) where
         (λ e. rw e (record {
           from = remove-from 0 (a * 256 + l) rs (f .from);
           good = all-remove Good (a * 256 + l) rs (f .good);
-          under = under-remove N (a * 256 + l) rs (f .under);
+          within = within-remove N (a * 256 + l) rs (f .within);
         }))
         (λ e. rw e f)
 
     -- while all that is named fits, room is no matter
-    pub answer-plain : (A : ℕ) (N rs : List Route) (u : Update) → need W N ≤ A → Names N u → Fair N rs → plain (answer W A rs u) ≡ plainly (hopAt rs (at u)) u
+    pub answer-plain : (A : ℕ) (N rs : List Route) (u : Update) → need W N ≤ A → Names N u → Fair N rs
+        → plain (answer W A rs u) ≡ plainly (hopAt rs (at u)) u
     unfolding answer
     answer-plain A N rs (announce a l h) r m f =
         bool (tooLong W l) (λ e. rw e) (λ e.
         bool (stray W a l) (λ d. rw (e, d)) (λ d.
         bool (badHop h) (λ c. rw (e, d, c)) (λ c.
         let g : Good (route a l h) = good-hop a l h e c in
-        let i : need W (insert (route a l h) rs) ≤ need W N = need-le W N (insert (route a l h) rs) (under-insert N rs a l h g (f .good) m (rw (e, d)) (f .under)) (W / 8 - 1) in
+        let j = within-insert N rs a l h g (f .good) m (rw (e, d)) (f .within) in
+        let i : need W (insert (route a l h) rs) ≤ need W N = need-le W N (insert (route a l h) rs) j (W / 8 - 1) in
         rw (e, d, c, le-ltb A (need W (insert (route a l h) rs)) (omega arith))
         (bool (eqb (hopAt rs (a * 256 + l)) 0) (λ b. rw b) (λ b. rw b)))))
     answer-plain A N rs (withdraw a l) r m f =

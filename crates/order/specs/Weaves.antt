@@ -1,5 +1,5 @@
--- An interleaving is a list of records of which each is marked with the feed that it comes from: the unmarked ones in order are the
--- first feed, the marked ones in order the second. Every marked list gives one, and each comes from one. Assumes nothing.
+-- An interleaving is a list of records of which each is marked with the feed that it comes from: the unmarked ones in order are
+-- the first feed, the marked ones in order the second. Every marked list gives one, and each comes from one. Assumes nothing.
 --
 --     x₁ y₁• x₂ x₃ y₂•        first  x₁ x₂ x₃        second  y₁ y₂        all  x₁ y₁ x₂ x₃ y₂
 use mathlib.Core.Path.{_≡_, refl, ap}

@@ -3,11 +3,11 @@ use mathlib.Core.Path.{_≡_, refl, ap, _∙_}
 use mathlib.Core.Logic.{_≢_}
 use mathlib.Core.List.{List, _++_}
 use Prim.Native.Nat.{ℕ, _+_}
-use native.Mathlib.Omega.{arith}
 use lib.ListN.{length, drop}
 use Rattle.routes.specs.Answers.{Update, refused, isRefused}
 use Rattle.routes.specs.Seen.{Answer, gives, refuses, countOn, frontOn}
 use Rattle.logic.specs.Cases.{less}
+use Rattle.laws.specs.Given.{refused-one, given-refused}
 use Rattle.words.specs.Table.{seen}
 use Rattle.audit.specs.declared.Cleared.{Cleared}
 use Rattle.audit.specs.Told.{toldClear, Clears as Below}
@@ -21,8 +21,9 @@ use Rattle.feed.specs.declared.Ran.the-variants.{Stopped, Refused as Unfit}
 use Rattle.feed.specs.Runs.{runAnswer, reported, Runs as Run}
 use Rattle.lengths.specs.Marks.{wordsFor}
 use Rattle.listing.specs.Listed.{Listed, unlisted, listed, listedIn}
-use Rattle.lengths_build.specs.Answer.{buildOn, buildAnswer}
+use Rattle.lengths_build.specs.Answer.{buildOn}
 use Rattle.lengths_build.specs.declared.Built.{Built}
+use Rattle.lengths_build.specs.Answer.{buildAnswer}
 use Rattle.lengths_build.specs.Build.{LeavesOn}
 use Rattle.toggleash.specs.Face.{refusal, updated, wrote, ran, Clears, Updates, Writes, Runs}
 use Rattle.toggleash.specs.Copies.{built, Builds}
@@ -55,18 +56,20 @@ module _ (ws b c : List ℕ) (n : ℕ) (f : Fills (seen 4 ws) b n c) where
   pub written-some : n ≢ 0 → Writes ws b c (record { refusal = 0; bytes = n })
   written-some h = record { answer = go (countOn (seen 4 ws) (length b)) refl; front = front }
     where
-      go : (a : Answer ℕ) → countOn (seen 4 ws) (length b) ≡ a → record { refusal = 0; bytes = n } ≡ wrote (countOn (seen 4 ws) (length b))
+      go : (a : Answer ℕ) → countOn (seen 4 ws) (length b) ≡ a
+          → record { refusal = 0; bytes = n } ≡ wrote (countOn (seen 4 ws) (length b))
       go (gives m) e = let q : n ≡ m = f .count ∙ front-length (seen 4 ws) (length b) m e in rw (e, q)
       go (refuses m) e = absurd (h (f .count ∙ ap length (front-none (seen 4 ws) (length b) m e)))
 
-  pub written-told : (r : Counted) (k : ℕ) (x : Written) → k ≡ length b → toldCount r ≡ countOn (seen 4 ws) k → x ≡ wrote (toldCount r) → Writes ws b c x
+  pub written-told : (r : Counted) (k : ℕ) (x : Written) → k ≡ length b → toldCount r ≡ countOn (seen 4 ws) k
+      → x ≡ wrote (toldCount r) → Writes ws b c x
   written-told r k x e t w = record { answer = w ∙ ap wrote (t ∙ ap (countOn (seen 4 ws)) e); front = front }
 
 -- ---- the run
 
 told-refused : (r : Outcome) (n : ℕ) → runAnswer r ≡ refuses n → r ≡ Unfit n
-told-refused (Stopped x) n e = absurd (let z : _≡_ {A = ℕ} 0 1 = cc in omega arith)
-told-refused (Unfit m) n e = ap Unfit (cc)
+told-refused (Stopped x) n e = absurd (given-refused e)
+told-refused (Unfit m) n e = ap Unfit (refused-one e)
 
 pub ran-so : (ws feed b vs c : List ℕ) (r : Outcome) (x : Fields) → Run ws feed b vs c r → x ≡ ran (runAnswer r)
     → Runs ws feed b vs c x
@@ -86,10 +89,7 @@ build-kept unlisted ws vs n p e = p
 build-kept (listed rs) ws vs n p e =
     less (length ws) (wordsFor rs)
     (λ h _. p .refused h)
-    (λ h d. absurd (other _ n (rw d at e)))
-  where
-    other : {T : Type 0} (c : T) (n : ℕ) → gives c ≡ refuses n → ⊥
-    other c n e = let z : _≡_ {A = ℕ} 0 1 = cc in omega arith
+    (λ h d. absurd (given-refused (rw d at e)))
 
 pub built-so : (bytes ws vs : List ℕ) (r : Built) (x : Numbers) → buildAnswer r ≡ buildOn (listedIn bytes) (length ws)
     → LeavesOn (listedIn bytes) ws vs → x ≡ built (buildAnswer r) → Builds bytes ws vs x

@@ -4,7 +4,8 @@ use mathlib.Core.List.{List, _++_}
 use Prim.Native.Nat.{ℕ, _≤_}
 use lib.ListN.{length, drop}
 use Rattle.routes.specs.Answers.{Update, Reply, done, found, none, refused}
-use Rattle.routes.specs.Seen.{Answer, gives, refuses, Counts, answerOn, afterOn, clearOn, clearedOn, countOn, frontOn, runOn, ranOn, repliedOn, recordsOn, answersOn}
+use Rattle.routes.specs.Seen.{Answer, gives, refuses, Counts, answerOn, afterOn, clearOn, clearedOn, countOn, frontOn}
+use Rattle.routes.specs.Seen.{runOn, ranOn, repliedOn, recordsOn, answersOn}
 use Rattle.words.specs.Table.{seen}
 use Rattle.paths.specs.Alike.{Alike}
 use Rattle.update.specs.Update.{Touches}
@@ -45,7 +46,14 @@ wrote (refuses n) = record { refusal = n; bytes = 0 }
 
 abbrev pub ran : Answer Report → Fields
 ran (gives r) =
-    record { refusal = 0; stop = r .stop; consumed = r .consumed; written = r .written; accepted = r .accepted; refused = r .refused }
+    record {
+      refusal = 0;
+      stop = r .stop;
+      consumed = r .consumed;
+      written = r .written;
+      accepted = r .accepted;
+      refused = r .refused;
+    }
 ran (refuses n) = record { refusal = n; stop = 0; consumed = 0; written = 0; accepted = 0; refused = 0 }
 
 -- ---- what the calls that write promise of the lent memory

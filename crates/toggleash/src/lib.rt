@@ -13,7 +13,8 @@ ghost use Rattle.writing.specs.Told.{toldCount};
 ghost use Rattle.feed.specs.Runs.{runAnswer};
 ghost use Rattle.audit.specs.Told.{toldClear, toldCheck};
 ghost use Rattle.replies.specs.Said.{saidReply};
-ghost use Rattle.toggleash.specs.Face.{refusal as refusalOf, counted, looked, updated, wrote, ran, Clears, Updates, Writes, Runs};
+ghost use Rattle.toggleash.specs.Face.{refusal as refusalOf, counted, looked, updated, wrote, ran};
+ghost use Rattle.toggleash.specs.Face.{Clears, Updates, Writes, Runs};
 
 #[repr(C)]
 pub struct Counted {
@@ -247,7 +248,8 @@ pub extern "C" fn toggleash_write_out(words: &[u32], buffer: &mut [u8]) -> Writt
 
 #[no_mangle]
 pub extern "C" fn toggleash_run(words: &mut [u32], feed: &[u8], reply: &mut [u8]) -> Ran
-    ensures { λ r. ⌜ Runs (now (words .entry)) (now (feed .entry)) (now (reply .entry)) (now (words .exit)) (now (reply .exit)) r ⌝ }
+    ensures { λ r.
+        ⌜ Runs (now (words .entry)) (now (feed .entry)) (now (reply .entry)) (now (words .exit)) (now (reply .exit)) r ⌝ }
 {
     report(feed::run(words, feed, reply))
 }

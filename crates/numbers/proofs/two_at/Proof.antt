@@ -25,10 +25,14 @@ cast-result-2 : tie.Need-cast-result-2
 cast-result-2 c = omega (arith, c .shared-slice-known2 .given (c .before .before .args .at + 1))
 
 add-result-2 : tie.Need-add-result-2
-add-result-2 c = omega (arith, c .before .shared-slice-known .given (c .before .before .args .at), c .shared-slice-known2 .given (c .before .before .args .at + 1))
+add-result-2 c =
+    let at = c .before .before .args .at in
+    omega (arith, c .before .shared-slice-known .given at, c .shared-slice-known2 .given (at + 1))
 
 returns : tie.Need-returns
-returns c = (refl, omega (arith, c .before .shared-slice-known .given (c .before .before .args .at), c .shared-slice-known2 .given (c .before .before .args .at + 1)))
+returns c =
+    let at = c .before .before .args .at in
+    (refl, omega (arith, c .before .shared-slice-known .given at, c .shared-slice-known2 .given (at + 1)))
 
 pub two-at-spec : {M : Type 1} → statement M
 two-at-spec =

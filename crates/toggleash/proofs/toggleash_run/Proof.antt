@@ -17,7 +17,9 @@ same-length-2 : tie.Need-same-length-2
 same-length-2 c = search needs
 
 returns : tie.Need-returns
-returns c = ran-so _ _ _ _ _ (c .before .before .before .before .before .run .result) _ (c .before .before .before .before .before .run .ensures) (c .report .ensures)
+returns c =
+    let run = c .before .before .before .before .before .run in
+    ran-so _ _ _ _ _ (run .result) _ (run .ensures) (c .report .ensures)
 
 pub toggleash-run-spec : {M : Type 1} → statement M
 toggleash-run-spec =

@@ -1,4 +1,5 @@
--- `toggleash::toggleash_write_out` meets its contract: where something was written, that is the count; else the count tells the refusal. Assumes nothing.
+-- `toggleash::toggleash_write_out` meets its contract: where something was written, that is the count; else the count tells the
+-- refusal. Assumes nothing.
 use Rattle.toggleash.proofs.Laws.{written-some, written-told}
 use borrow.Author.Needs.{needs}
 use Rattle.toggleash.proofs.toggleash_write_out.Statement.{statement}
@@ -23,7 +24,10 @@ same-length-2 : tie.Need-same-length-2
 same-length-2 c = search needs
 
 returns-2 : tie.Need-returns-2
-returns-2 c = written-told _ _ _ _ (c .before .before .before .before .before .fill .ensures) (c .before .count .result) _ _ (c .before .before .before .before .before .fill .kept .1 .0) (c .before .count .ensures) (c .size .ensures)
+returns-2 c =
+    let fill = c .before .before .before .before .before .fill in
+    let count = c .before .count in
+    written-told _ _ _ _ (fill .ensures) (count .result) _ _ (fill .kept .1 .0) (count .ensures) (c .size .ensures)
 
 pub toggleash-write-out-spec : {M : Type 1} → statement M
 toggleash-write-out-spec =
