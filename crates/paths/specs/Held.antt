@@ -50,15 +50,16 @@ module _ (L a l k d x : ℕ) (s : Stands L a l k d x) (p : IsPrefix L a l) (insi
 abbrev pub hopFound : List ℕ → ℕ → ℕ → ℕ → ℕ → ℕ → ℕ
 hopFound ws b j k d x = cond (eqb j k) (slotsOf ws b (2 ^ d + x)) 0
 
--- the prefix a of length l was sought in a table: it stands at k, d, x, and its path stops at array b of level j
-pub record Sought (L : ℕ) (ws : List ℕ) (a l k d x j b : ℕ) : Type 0 where
+-- the prefix a of length l was sought in a table: it stands at k, d, x, its path stops at array b of level j, and its hop is g, 0 for none
+pub record Sought (L : ℕ) (ws : List ℕ) (a l k d x j b g : ℕ) : Type 0 where
   pub ok : Table L ws
   pub prefix : IsPrefix L a l
   pub inside : a < 2 ^ (8 * L)
   pub stands : Stands L a l k d x
   pub stops : Stops L ws a k j b
+  pub hop : g ≡ hopFound ws b j k d x
 
-module _ {L : ℕ} {ws : List ℕ} {a l k d x j b : ℕ} (s : Sought L ws a l k d x j b) where
+module _ {L : ℕ} {ws : List ℕ} {a l k d x j b g : ℕ} (s : Sought L ws a l k d x j b g) where
   wide : 8 * L < 256
   wide = omega (arith, s .ok .shape .levels)
 
@@ -73,9 +74,9 @@ module _ {L : ℕ} {ws : List ℕ} {a l k d x j b : ℕ} (s : Sought L ws a l k 
   sought-place e = stands-place L a l k d x (s .stands) (s .prefix) (s .inside) (arrayCount ws) (arraysOf ws) b (rw e at (s .stops .on .leads)) (s .stops .on .some)
 
   -- what is found there is what the list holds
-  pub sought-held : hopFound ws b j k d x ≡ list.held (listOf L ws) a l
+  pub sought-held : g ≡ list.held (listOf L ws) a l
   sought-held =
       let h = stands-held L a l k d x (s .stands) (s .prefix) (s .inside) (arraysOf ws) wide in
-      same j k
+      s .hop ∙ same j k
       (λ e t. rw t (sym (h ∙ held-place (arrayCount ws) L (arraysOf ws) b (front L a k) k d x (sought-place e))))
       (λ n t. rw t (sym (h ∙ gone n)))

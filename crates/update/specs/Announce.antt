@@ -33,7 +33,7 @@ use Rattle.arrays.specs.Missing.{need-more}
 use Rattle.address.specs.Address.{front, stands-level}
 use Rattle.paths.specs.Grown.{Grown}
 use Rattle.paths.specs.Stop.{Opened, stops-missing}
-use Rattle.paths.specs.Held.{stands-head, stands-small, stands-place, stands-route, hopFound, Sought, sought-held}
+use Rattle.paths.specs.Held.{stands-head, stands-small, stands-place, stands-route, Sought, sought-held}
 use Rattle.replies.specs.declared.Reply.the-variants.{Done, Refused}
 use Rattle.update.specs.Update.{Applies}
 use Rattle.update.specs.Seat.{Seat, Seated, seat-at}
@@ -57,12 +57,12 @@ count-of : (L : ℕ) (ws : List ℕ) → Table L ws → getD ws 0 0 ≡ needTo (
 count-of zero ws ok = absurd (omega (arith, ok .shape .some-level))
 count-of (suc J) ws ok = let e : suc J - 1 ≡ J = omega arith in rw e (count-need J ws ok)
 
-module _ {L : ℕ} {ws : List ℕ} {a l k d x j b : ℕ} (s : Sought L ws a l k d x j b) (h : ℕ) where
+module _ {L : ℕ} {ws : List ℕ} {a l k d x j b g : ℕ} (s : Sought L ws a l k d x j b g) (h : ℕ) where
   wide : 8 * L < 256
   wide = omega (arith, s .ok .shape .levels)
 
   -- this hop is held already: the list with the route is the list
-  pub announce-same : hopFound ws b j k d x ≡ h → 1 ≤ h → Applies L ws ws (announce a l h) (Done h 0)
+  pub announce-same : g ≡ h → 1 ≤ h → Applies L ws ws (announce a l h) (Done h 0)
   announce-same e hop =
       let q : list.held (listOf L ws) a l ≡ h = sym (sought-held s) ∙ e in
       record {
@@ -78,7 +78,7 @@ module _ {L : ℕ} {ws : List ℕ} {a l k d x j b : ℕ} (s : Sought L ws a l k 
       }
 
   -- it is not: the prefix is not held, or held with another hop
-  module _ (other : hopFound ws b j k d x ≢ h) (hop : 1 ≤ h) where
+  module _ (other : g ≢ h) (hop : 1 ≤ h) where
     same-route : routeOf (8 * L - (8 * k + d)) (front L a k * 2 ^ d + x) (8 * k + d) h ≡ route a l h
     same-route = stands-route L a l k d x (s .stands) (s .prefix) (s .inside) h
 
@@ -96,31 +96,31 @@ module _ {L : ℕ} {ws : List ℕ} {a l k d x j b : ℕ} (s : Sought L ws a l k 
       pub announce-full : r ≡ 0 → Applies L ws vs (announce a l h) (Refused 8)
       announce-full z =
           let w = o .none z in
-          let free : hopFound ws b j k d x ≡ 0 = same j k (λ e _. absurd (omega (arith, w .1, s .ok .header .count, used-full (arraysOf ws) 0 (arrayCount ws)))) (λ _ t. rw t) in
+          let free : g ≡ 0 = s .hop ∙ same j k (λ e _. absurd (omega (arith, w .1, s .ok .header .count, used-full (arraysOf ws) 0 (arrayCount ws)))) (λ _ t. rw t) in
           rw (w .0) (refuses L ws (announce a l h) 8 (s .ok)
           (rw (eq-eqb (list.held (listOf L ws) a l) 0 (sym (sought-held s) ∙ free), needs, lt-ltb (arrayCount ws) (getD ws 0 0 + (k - j)) (w .1))))
 
       -- the path is open, and its last array has a seat for the route
       module _ (some : r ≢ 0) where
-        g : Grown L ws vs a j k r
-        g = o .some some
+        grown : Grown L ws vs a j k r
+        grown = o .some some
 
         place : Place (arrayCount vs) L (arraysOf vs) r (front L a k) k d x
-        place = stands-place L a l k d x (s .stands) (s .prefix) (s .inside) (arrayCount vs) (arraysOf vs) r (g .leads) (g .some)
+        place = stands-place L a l k d x (s .stands) (s .prefix) (s .inside) (arrayCount vs) (arraysOf vs) r (grown .leads) (grown .some)
 
         pub announce-seat : Seat vs r k d x
-        announce-seat = seat-at L r vs r (front L a k) k d x (g .ok) place
+        announce-seat = seat-at L r vs r (front L a k) k d x (grown .ok) place
 
         same-before : listOf L vs ≡ listOf L ws
-        same-before = same-list (8 * L) (held (arraysOf vs)) (held (arraysOf ws)) (g .held)
+        same-before = same-list (8 * L) (held (arraysOf vs)) (held (arraysOf ws)) (grown .held)
 
         lv : Level (arrayCount vs) (arraysOf vs) r k
-        lv = rw (g .leads) at (node-level (arrayCount vs) L (arraysOf vs) (g .ok .shape) (front L a k) k (rw (g .leads) (g .some)))
+        lv = rw (grown .leads) at (node-level (arrayCount vs) L (arraysOf vs) (grown .ok .shape) (front L a k) k (rw (grown .leads) (grown .some)))
 
         room : need (8 * L) (insert (route a l h) (listOf L ws)) ≤ arrayCount ws
         room =
-            let e : arrayCount vs ≡ arrayCount ws = ap (λ (z : ℕ). z / arrayWords - 1) (g .size) in
-            omega (arith, needs, g .count, g .ok .header .count, used-full (arraysOf vs) 0 (arrayCount vs))
+            let e : arrayCount vs ≡ arrayCount ws = ap (λ (z : ℕ). z / arrayWords - 1) (grown .size) in
+            omega (arith, needs, grown .count, grown .ok .header .count, used-full (arraysOf vs) 0 (arrayCount vs))
 
         roomy : lacking (8 * L) (arrayCount ws) (listOf L ws) a l h ≡ false
         roomy =
@@ -131,18 +131,18 @@ module _ {L : ℕ} {ws : List ℕ} {a l k d x j b : ℕ} (s : Sought L ws a l k 
           -- the array is not empty
           filled : 2 ≤ r → HasSlot (arraysOf us) r ⊎ HasLink (arraysOf us) r
           filled two =
-              let lo : 1 ≤ d = ⊎-elim (λ (z : 1 ≤ d). z) (λ (z : k ≡ 0). absurd (omega (arith, sym (g .leads) ∙ ap (node (arraysOf vs) (front L a k)) z ∙ node-root (arraysOf vs) (front L a k)))) (s .stands .own) in
+              let lo : 1 ≤ d = ⊎-elim (λ (z : 1 ≤ d). z) (λ (z : k ≡ 0). absurd (omega (arith, sym (grown .leads) ∙ ap (node (arraysOf vs) (front L a k)) z ∙ node-root (arraysOf vs) (front L a k)))) (s .stands .own) in
               inl (record { s = 2 ^ d + x; low = omega (arith, pow-mono {i = 1} {j = d} lo); high = omega (arith, place .small, pow-mono {i = d} {j = 8} (place .deep)); some = rw (p .slot .here) hop })
 
           almost : Almost L r us
-          almost = reslot-almost L r vs us r (2 ^ d + x) h (g .some) (p .slot) (g .ok) (inr refl) (omega (arith, lv .level))
+          almost = reslot-almost L r vs us r (2 ^ d + x) h (grown .some) (p .slot) (grown .ok) (inr refl) (omega (arith, lv .level))
 
           slotted : Slotted (arraysOf vs) (arraysOf us) r (2 ^ d + x) h
-          slotted = reslot-slotted L r vs us r (2 ^ d + x) h (g .some) (p .slot)
+          slotted = reslot-slotted L r vs us r (2 ^ d + x) h (grown .some) (p .slot)
 
           with-route : listOf L us ≡ insert (route a l h) (listOf L ws)
           with-route =
-              slotted-insert (arrayCount vs) L (arraysOf vs) (arraysOf us) r (front L a k) k d x h (g .ok .shape) place
+              slotted-insert (arrayCount vs) L (arraysOf vs) (arraysOf us) r (front L a k) k d x h (grown .ok .shape) place
               slotted (8 * L) wide (omega (arith, s .stands .top, s .stands .deep)) hop
               ∙ ap₂ insert same-route same-before
 
@@ -150,12 +150,12 @@ module _ {L : ℕ} {ws : List ℕ} {a l k d x j b : ℕ} (s : Sought L ws a l k 
           announce-done = record {
             answer =
                 rw (roomy, ne-eqb h (list.held (listOf L ws) a l) (λ z. other (sought-held s ∙ sym z)))
-                (ap (done h) (p .count ∙ cells-exposed L (arraysOf vs) r (front L a k) k wide (s .stands .top) (g .leads) (g .some) (place .head) d x h (place .deep) (place .own) (place .small)
+                (ap (done h) (p .count ∙ cells-exposed L (arraysOf vs) r (front L a k) k wide (s .stands .top) (grown .leads) (grown .some) (place .head) d x h (place .deep) (place .own) (place .small)
                 ∙ ap₂ (cells (8 * L)) same-route same-before));
             table = almost-whole L r us almost filled;
-            size = p .slot .size ∙ g .size;
+            size = p .slot .size ∙ grown .size;
             list = with-route;
             kept = λ e. absurd (false≢true e);
             still = λ e. absurd (other (sought-held s ∙ ap (λ (rs : List Route). list.held rs a l) (sym e ∙ with-route) ∙ insert-same (route a l h) (listOf L ws)));
-            frame = λ c h n. spared-hung (s .ok .shape) (s .stands .top) (s .stops) g (p .slot) slotted c h (rw (stands-level L a l k d x (s .stands)) at n);
+            frame = λ c h n. spared-hung (s .ok .shape) (s .stands .top) (s .stops) grown (p .slot) slotted c h (rw (stands-level L a l k d x (s .stands)) at n);
           }

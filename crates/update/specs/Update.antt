@@ -35,14 +35,14 @@ abbrev pub Touches : ℕ → Update → List ℕ → List ℕ → ℕ → Type 0
 Touches L (announce a l h) ws vs c = Touched L (arraysOf vs) (arraysOf ws) a (level l) c
 Touches L (withdraw a l) ws vs c = Touched L (arraysOf ws) (arraysOf vs) a (level l) c
 
--- ---- any words ws become vs
+-- ---- any words ws become vs, seen as tables of L levels
 
-pub record Updates (ws vs : List ℕ) (u : Update) (r : Reply) : Type 0 where
-  pub answer : saidReply r ≡ answerOn 32 (seen 4 ws) u
-  pub list : seen 4 vs ≡ afterOn 32 (seen 4 ws) u
+pub record Updates (L : ℕ) (ws vs : List ℕ) (u : Update) (r : Reply) : Type 0 where
+  pub answer : saidReply r ≡ answerOn (8 * L) (seen L ws) u
+  pub list : seen L vs ≡ afterOn (8 * L) (seen L ws) u
   pub kept : isRefused (saidReply r) ≡ true → vs ≡ ws
-  pub still : seen 4 vs ≡ seen 4 ws → vs ≡ ws
-  pub frame : (c : ℕ) → 1 ≤ c → ¬ Touches 4 u ws vs c → Alike ws vs c
+  pub still : seen L vs ≡ seen L ws → vs ≡ ws
+  pub frame : (c : ℕ) → 1 ≤ c → ¬ Touches L u ws vs c → Alike ws vs c
 
 -- ---- the same of a table, once the update itself is without fault
 

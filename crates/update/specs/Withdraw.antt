@@ -19,7 +19,7 @@ use Rattle.laws.specs.Collect.{routes-from}
 use Rattle.routes.specs.Collect.{routeOf}
 use Rattle.array.specs.Tag.{levelIn}
 use Rattle.arrays.specs.Arrays.{held}
-use Rattle.arrays.specs.Words.{arraysOf, arrayCount, slotsOf}
+use Rattle.arrays.specs.Words.{arraysOf, arrayCount}
 use Rattle.arrays.specs.Table.{listOf}
 use Rattle.arrays.specs.Tree.{Level, node-level}
 use Rattle.arrays.specs.Slot.{Place, Slotted, same-node, slotted-remove}
@@ -27,7 +27,7 @@ use Rattle.arrays.specs.Reslot.{reslot-slotted, reslot-almost}
 use Rattle.address.specs.Address.{front, stands-level}
 use Rattle.paths.specs.Stop.{On}
 use Rattle.paths.specs.Shrunk.{Loose, Pruned}
-use Rattle.paths.specs.Held.{stands-route, hopFound, Sought, sought-place, sought-held}
+use Rattle.paths.specs.Held.{stands-route, Sought, sought-place, sought-held}
 use Rattle.replies.specs.declared.Reply.the-variants.{Done, Refused}
 use Rattle.update.specs.Update.{Applies}
 use Rattle.update.specs.Seat.{Seat, Seated, seat-at}
@@ -35,27 +35,21 @@ use Rattle.update.specs.Announce.{refuses, same-list}
 use Rattle.update.specs.Cells.{cells-exposed}
 use Rattle.update.specs.Spared.{spared-freed}
 
-module _ {L : ℕ} {ws : List ℕ} {a l k d x j b : ℕ} (s : Sought L ws a l k d x j b) where
+module _ {L : ℕ} {ws : List ℕ} {a l k d x j b g : ℕ} (s : Sought L ws a l k d x j b g) where
   -- 7: the prefix is not held
-  pub withdraw-none : hopFound ws b j k d x ≡ 0 → Applies L ws ws (withdraw a l) (Refused 7)
+  pub withdraw-none : g ≡ 0 → Applies L ws ws (withdraw a l) (Refused 7)
   withdraw-none e = refuses L ws (withdraw a l) 7 (s .ok) (rw (eq-eqb (list.held (listOf L ws) a l) 0 (sym (sought-held s) ∙ e)))
 
-  module _ (some : hopFound ws b j k d x ≢ 0) where
+  module _ (some : g ≢ 0) where
     -- the path goes all the way down
     arrived : j ≡ k
-    arrived = same j k (λ e _. e) (λ n t. absurd (some (rw t)))
+    arrived = same j k (λ e _. e) (λ n t. absurd (some (s .hop ∙ rw t)))
 
     place : Place (arrayCount ws) L (arraysOf ws) b (front L a k) k d x
     place = sought-place s arrived
 
     pub withdraw-seat : Seat ws b k d x
     withdraw-seat = seat-at L 0 ws b (front L a k) k d x (s .ok) place
-
-    withdraw-slot : slotsOf ws b (2 ^ d + x) ≡ hopFound ws b j k d x
-    withdraw-slot = rw (eq-eqb j k arrived)
-
-    pub withdraw-taken : 1 ≤ slotsOf ws b (2 ^ d + x)
-    withdraw-taken = rw withdraw-slot (omega arith)
 
     lv : Level (arrayCount ws) (arraysOf ws) b k
     lv = rw (place .leads) at (node-level (arrayCount ws) L (arraysOf ws) (s .ok .shape) (front L a k) k (rw (place .leads) (place .array)))
@@ -83,11 +77,11 @@ module _ {L : ℕ} {ws : List ℕ} {a l k d x j b : ℕ} (s : Sought L ws a l k 
         within = withdraw-loose .within;
       }
 
-      pub withdraw-done : (us : List ℕ) (h : ℕ) → Pruned L vs us b → h ≡ slotsOf ws b (2 ^ d + x) → Applies L ws us (withdraw a l) (Done h c)
-      withdraw-done us h pu eh = record {
+      pub withdraw-done : (us : List ℕ) → Pruned L vs us b → Applies L ws us (withdraw a l) (Done g c)
+      withdraw-done us pu = record {
         answer =
             rw (ne-eqb (list.held (listOf L ws) a l) 0 (λ z. some (sought-held s ∙ z)))
-            (ap₂ done (eh ∙ withdraw-slot ∙ sought-held s)
+            (ap₂ done (sought-held s)
             (p .count ∙ cells-exposed L (arraysOf ws) b (front L a k) k wide (s .stands .top) (place .leads) (place .array) (place .head) d x 0 (place .deep) (place .own) (place .small)
             ∙ ap (λ (r : Route). cells (8 * L) r (listOf L ws)) same-route));
         table = pu .ok;
