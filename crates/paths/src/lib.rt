@@ -1,5 +1,5 @@
-// Paths of arrays down an address, a level for each of its bytes: how far one goes, the arrays that it lacks gained, those left empty
-// released.
+// Paths of arrays down an address, a level for each of its bytes: how far one goes, the arrays that it lacks gained, those left
+// empty released.
 use address::Place;
 use array::tag::parent_in;
 use sizes::ARRAY_WORDS;
@@ -27,7 +27,8 @@ pub struct Stop {
 fn walk_down(words: &[u32], address: &[u8], k: usize) -> Stop
     requires { ⌜ (k < size (now address)) × (leastWords ≤ size (now words)) × (size (now words) ≤ mostWords) ⌝ }
     requires { ⌜ Shape (arrayCount (now words)) (size (now address)) (arraysOf (now words)) ⌝ }
-    ensures { λ r. ⌜ Stops (size (now (address .entry))) (now (words .entry)) (number (now (address .entry))) k (r .level) (r .array) ⌝ }
+    ensures { λ r. ⌜ Stops (size (now (address .entry))) (now (words .entry)) (number (now (address .entry)))
+        k (r .level) (r .array) ⌝ }
 {
     let mut a = 1;
     let mut j = 0;
@@ -83,11 +84,14 @@ pub fn find(words: &[u32], address: &[u8], length: u32) -> Found
     }
 }
 
-// The arrays of the levels j + 1 .. k on the path of an address, gained one below the other; a is that of level j. The last is returned.
+// The arrays of the levels j + 1 .. k on the path of an address, gained one below the other; a is that of level j. The last is
+// returned.
 fn hang_path(words: &mut [u32], address: &[u8], a: usize, j: usize, k: usize) -> usize
     requires { ⌜ (j < k) × (k < size (now address)) × (getD (now words) 0 0 + (k - j) ≤ arrayCount (now words)) ⌝ }
-    requires { ⌜ Tip (size (now address)) (now words) (front (size (now address)) (number (now address)) j) j a (byteOf (size (now address)) (number (now address)) j) ⌝ }
-    ensures { λ r. ⌜ Grown (size (now (address .entry))) (now (words .entry)) (now (words .exit)) (number (now (address .entry))) j k r ⌝ }
+    requires { ⌜ Tip (size (now address)) (now words) (front (size (now address)) (number (now address)) j) j a
+        (byteOf (size (now address)) (number (now address)) j) ⌝ }
+    ensures { λ r. ⌜ Grown (size (now (address .entry))) (now (words .entry)) (now (words .exit))
+        (number (now (address .entry))) j k r ⌝ }
 {
     let mut b = a;
     let mut i = j;
@@ -101,11 +105,13 @@ fn hang_path(words: &mut [u32], address: &[u8], a: usize, j: usize, k: usize) ->
     b
 }
 
-// The array of level k on the path of an address that stops at array a of level j, with those above it gained where they are missing;
-// 0, and nothing is changed, where there is no room.
+// The array of level k on the path of an address that stops at array a of level j, with those above it gained where they are
+// missing; 0, and nothing is changed, where there is no room.
 pub fn extend(words: &mut [u32], address: &[u8], a: usize, j: usize, k: usize) -> usize
-    requires { ⌜ (k < size (now address)) × Table (size (now address)) (now words) × Stops (size (now address)) (now words) (number (now address)) k j a ⌝ }
-    ensures { λ r. ⌜ Opened (size (now (address .entry))) (now (words .entry)) (now (words .exit)) (number (now (address .entry))) j k r ⌝ }
+    requires { ⌜ (k < size (now address)) × Table (size (now address)) (now words)
+        × Stops (size (now address)) (now words) (number (now address)) k j a ⌝ }
+    ensures { λ r. ⌜ Opened (size (now (address .entry))) (now (words .entry)) (now (words .exit))
+        (number (now (address .entry))) j k r ⌝ }
 {
     if j == k {
         return a;

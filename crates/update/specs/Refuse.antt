@@ -1,4 +1,5 @@
--- The refusals that come before the work, in document 01's order, and the work's promise as that of the whole call. Assumes nothing.
+-- The refusals that come before the work, in document 01's order, and the work's promise as that of the whole call.
+-- Assumes nothing.
 use mathlib.Core.Path.{_≡_, refl, sym, ap, ap₂, _∙_}
 use mathlib.Core.Logic.{_≢_}
 use mathlib.Core.Bool.{true, false, cond, true≢false}
@@ -42,18 +43,21 @@ refuses-size L ws u e = refuses L ws u 1 (rw (seen-misfit L ws e))
 -- 3, 4, 5
 faulty-by : (W : ℕ) (u : Update) (r : Reply) → faulty W u r ≡ cond (eqb (faultOf W u) 0) r (refused (faultOf W u))
 faulty-by W (announce a l h) r =
-    bool (tooLong W l) (λ e. rw e) (λ e. rw e (bool (stray W a l) (λ f. rw f) (λ f. rw f (bool (badHop h) (λ g. rw g) (λ g. rw g)))))
+    bool (tooLong W l) (λ e. rw e)
+    (λ e. rw e (bool (stray W a l) (λ f. rw f) (λ f. rw f (bool (badHop h) (λ g. rw g) (λ g. rw g)))))
 faulty-by W (withdraw a l) r =
     bool (tooLong W l) (λ e. rw e) (λ e. rw e (bool (stray W a l) (λ f. rw f) (λ f. rw f)))
 
 -- the prefix first, then the hop
 pub fault-prefix : (W a l h n : ℕ) → n ≡ faultOf W (withdraw a l) → n ≢ 0 → n ≡ faultOf W (announce a l h)
 fault-prefix W a l h n e z =
-    bool (tooLong W l) (λ t. rw t (rw t at e)) (λ t. bool (stray W a l) (λ f. rw (t, f) (rw (t, f) at e)) (λ f. absurd (z (rw (t, f) at e))))
+    bool (tooLong W l) (λ t. rw t (rw t at e))
+    (λ t. bool (stray W a l) (λ f. rw (t, f) (rw (t, f) at e)) (λ f. absurd (z (rw (t, f) at e))))
 
 pub fault-hop : (W a l h n : ℕ) → faultOf W (withdraw a l) ≡ 0 → n ≡ cond (badHop h) 5 0 → n ≡ faultOf W (announce a l h)
 fault-hop W a l h n e q =
-    bool (tooLong W l) (λ t. absurd (omega (arith, rw t at e))) (λ t. bool (stray W a l) (λ f. absurd (omega (arith, rw (t, f) at e))) (λ f. rw (t, f) q))
+    bool (tooLong W l) (λ t. absurd (omega (arith, rw t at e)))
+    (λ t. bool (stray W a l) (λ f. absurd (omega (arith, rw (t, f) at e))) (λ f. rw (t, f) q))
 
 module _ (L : ℕ) (ws : List ℕ) (u : Update) where
   refuses-fault : 1 ≤ L → L < levelBound → (n : ℕ) → misfits (length ws) ≡ false → n ≡ faultOf (8 * L) u → n ≢ 0
@@ -130,7 +134,8 @@ pub sound-route : (L a l h : ℕ) → faultOf (8 * L) (announce a l h) ≡ 0 →
 sound-route L a l h e =
     less (8 * L) l (λ _ t. absurd (omega (arith, rw t at e)))
     (λ w t. same (a % 2 ^ (8 * L - l)) 0
-    (λ q f. bool (badHop h) (λ g. absurd (omega (arith, rw (t, f, g) at e))) (λ g. (record { fits = w; clean = q }, hop-low h g, hop-high h g)))
+    (λ q f. bool (badHop h) (λ g. absurd (omega (arith, rw (t, f, g) at e)))
+    (λ g. (record { fits = w; clean = q }, hop-low h g, hop-high h g)))
     (λ _ f. absurd (omega (arith, rw (t, f) at e))))
 
 pub applied : (L : ℕ) (ws vs : List ℕ) (u : Update) (r : code.Reply) → Table L ws → faultOf (8 * L) u ≡ 0 → Applies L ws vs u r

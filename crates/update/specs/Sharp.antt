@@ -1,5 +1,5 @@
--- What an update promises leaves no choice: two outcomes that it allows agree in the answer, in what is seen, and, refused, in every word.
--- Assumes nothing.
+-- What an update promises leaves no choice: two outcomes that it allows agree in the answer, in what is seen, and, refused, in
+-- every word. Assumes nothing.
 use mathlib.Core.Path.{_≡_, sym, _∙_}
 use mathlib.Core.Bool.{true}
 use mathlib.Core.List.{List}

@@ -27,12 +27,12 @@ use Rattle.arrays.specs.Reslot.{reslot-slotted, reslot-almost}
 use Rattle.address.specs.Address.{front, stands-level}
 use Rattle.paths.specs.Stop.{On}
 use Rattle.paths.specs.Shrunk.{Loose, Pruned}
-use Rattle.paths.specs.Held.{stands-route, Sought, sought-place, sought-held}
+use Rattle.paths.specs.Held.{Sought, sought-wide, sought-route, sought-place, sought-held}
 use Rattle.replies.specs.declared.Reply.the-variants.{Done, Refused}
 use Rattle.update.specs.Update.{Applies}
 use Rattle.update.specs.Seat.{Seat, Seated, seat-at}
 use Rattle.update.specs.Announce.{refuses, same-list}
-use Rattle.update.specs.Cells.{cells-exposed}
+use Rattle.update.specs.Cells.{cells-place}
 use Rattle.update.specs.Spared.{spared-freed}
 
 module _ {L : ℕ} {ws : List ℕ} {a l k d x j b g : ℕ} (s : Sought L ws a l k d x j b g) where
@@ -52,7 +52,9 @@ module _ {L : ℕ} {ws : List ℕ} {a l k d x j b g : ℕ} (s : Sought L ws a l 
     withdraw-seat = seat-at L 0 ws b (front L a k) k d x (s .ok) place
 
     lv : Level (arrayCount ws) (arraysOf ws) b k
-    lv = rw (place .leads) at (node-level (arrayCount ws) L (arraysOf ws) (s .ok .shape) (front L a k) k (rw (place .leads) (place .array)))
+    lv =
+        rw (place .leads) at
+        (node-level (arrayCount ws) L (arraysOf ws) (s .ok .shape) (front L a k) k (rw (place .leads) (place .array)))
 
     used : 1 ≤ getD ws (arrayAt b) 0
     used = omega (arith, lv .level)
@@ -82,14 +84,17 @@ module _ {L : ℕ} {ws : List ℕ} {a l k d x j b g : ℕ} (s : Sought L ws a l 
         answer =
             rw (ne-eqb (list.held (listOf L ws) a l) 0 (λ z. some (sought-held s ∙ z)))
             (ap₂ done (sought-held s)
-            (p .count ∙ cells-exposed L (arraysOf ws) b (front L a k) k wide (s .stands .top) (place .leads) (place .array) (place .head) d x 0 (place .deep) (place .own) (place .small)
+            (p .count ∙ cells-place (arrayCount ws) L (arraysOf ws) b (front L a k) k d x 0 wide (s .stands .top) place
             ∙ ap (λ (r : Route). cells (8 * L) r (listOf L ws)) same-route));
         table = pu .ok;
         size = pu .freed .size ∙ p .slot .size;
         list = without-route;
         kept = λ e. absurd (false≢true e);
-        still = λ e. absurd (some (sought-held s ∙ ap (λ (rs : List Route). list.held rs a l) (sym e ∙ without-route) ∙ remove-same 0 (a * 256 + l) (listOf L ws) (routes-from (8 * L) wide (held (arraysOf ws)))));
-        frame = λ c h n. spared-freed (withdraw-loose .ok .shape) (pu .ok .shape) (s .stands .top) on (p .slot) slotted (pu .freed) deep c h (rw (stands-level L a l k d x (s .stands)) at n);
+        still = λ e. absurd (some (sought-held s ∙ ap (λ (rs : List Route). list.held rs a l) (sym e ∙ without-route)
+            ∙ remove-same 0 (a * 256 + l) (listOf L ws) (routes-from (8 * L) wide (held (arraysOf ws)))));
+        frame = λ c h n.
+            spared-freed (withdraw-loose .ok .shape) (pu .ok .shape) (s .stands .top) on (p .slot) slotted (pu .freed) deep c h
+            (rw (stands-level L a l k d x (s .stands)) at n);
       }
         where
           -- fewer are released than there are levels down to the array's
@@ -97,10 +102,10 @@ module _ {L : ℕ} {ws : List ℕ} {a l k d x j b g : ℕ} (s : Sought L ws a l 
           deep = omega (arith, pu .level, ap levelIn (p .slot .tag), lv .level)
 
           wide : 8 * L < 256
-          wide = omega (arith, s .ok .shape .levels)
+          wide = sought-wide s
 
           same-route : routeOf (8 * L - (8 * k + d)) (front L a k * 2 ^ d + x) (8 * k + d) 0 ≡ route a l 0
-          same-route = stands-route L a l k d x (s .stands) (s .prefix) (s .inside) 0
+          same-route = sought-route s 0
 
           without-route : listOf L us ≡ remove (a * 256 + l) (listOf L ws)
           without-route =

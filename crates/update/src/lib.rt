@@ -1,5 +1,5 @@
-// Announcements and withdrawals: a route put into a table of lent words, or taken out of it. An address is its bytes, as many as the
-// table has levels.
+// Announcements and withdrawals: a route put into a table of lent words, or taken out of it. An address is its bytes, as many as
+// the table has levels.
 use replies::Reply;
 use sizes::ARRAY_WORDS;
 ghost use mathlib.Core.Path.{_≡_};
@@ -46,7 +46,8 @@ fn route_fault(address: &[u8], length: u32, hop: u32) -> u32
     0
 }
 
-// The slot at a place of array a set to a hop, or to 0 for none. The block of that array alone is lent; the cells rewritten are counted.
+// The slot at a place of array a set to a hop, or to 0 for none. The block of that array alone is lent; the cells rewritten are
+// counted.
 fn reslot(words: &mut [u32], a: usize, p: address::Place, hop: u32) -> u32
     requires { ⌜ Seat (now words) a (p .level) (p .depth) (p .value) × (hop < hopBound) ⌝ }
     ensures { λ r. ⌜ Seated (now (words .entry)) (now (words .exit)) a (p .depth) (p .value) hop r ⌝ }
@@ -58,7 +59,8 @@ fn reslot(words: &mut [u32], a: usize, p: address::Place, hop: u32) -> u32
     array::change::reslot(&mut words[from..to], d, x, hop)
 }
 
-// A route announced to a table. A hop that is held already changes no word; another replaces the one held, in the array that is there.
+// A route announced to a table. A hop that is held already changes no word; another replaces the one held, in the array that is
+// there.
 fn announce_in(words: &mut [u32], address: &[u8], length: u32, hop: u32) -> Reply
     requires { ⌜ Table (size (now address)) (now words) × IsPrefix (size (now address)) (number (now address)) length ⌝ }
     requires { ⌜ (1 ≤ hop) × (hop ≤ 65535) ⌝ }

@@ -1,5 +1,6 @@
 -- `paths::extend` meets its contract: an array is missing for each level below the stop, and each return is a case of `Opened`.
 -- Assumes nothing.
+use Prim.Native.Nat.{_<_}
 use native.Mathlib.Omega.{arith}
 use lib.ListN.{length}
 use Rattle.address.specs.Number.{number}
@@ -12,7 +13,8 @@ returns : tie.Need-returns
 returns c =
     let s = c .before .before .before in
     let a = s .args in
-    opened-there (length (a .address .now)) (a .words .now) (number (a .address .now)) (a .k) (a .j) (a .a) (s .pre .1) (s .pre .2) (c .if1 .taken)
+    let n = a .address .now in
+    opened-there (length n) (a .words .now) (number n) (a .k) (a .j) (a .a) (s .pre .1) (s .pre .2) (c .if1 .taken)
 
 sub-n : tie.Need-sub-n
 sub-n c = search needs
@@ -33,14 +35,17 @@ returns-2 : tie.Need-returns-2
 returns-2 c =
     let s = c .before .before .before .before .before in
     let a = s .args in
-    opened-full (length (a .address .now)) (a .words .now) (number (a .address .now)) (a .k) (a .j) (a .a) (s .pre .1) (s .pre .2) (omega arith)
+    let n = a .address .now in
+    opened-full (length n) (a .words .now) (number n) (a .k) (a .j) (a .a) (s .pre .1) (s .pre .2) (omega arith)
 
 hang-path-requires : tie.Need-hang-path-requires
 hang-path-requires c κs =
     let s = c .before .before .before .before .before .before in
     let a = s .args in
+    let n = a .address .now in
     let p = s .pre .2 in
-    ((omega (arith, p .low), s .pre .0, omega arith), opened-tip (length (a .address .now)) (a .words .now) (number (a .address .now)) (a .k) (a .j) (a .a) (s .pre .1) p (omega (arith, p .low)))
+    let low : a .j < a .k = omega (arith, p .low) in
+    ((low, s .pre .0, omega arith), opened-tip (length n) (a .words .now) (number n) (a .k) (a .j) (a .a) (s .pre .1) p low)
 
 same-length : tie.Need-same-length
 same-length c = search needs
@@ -49,7 +54,9 @@ returns-3 : tie.Need-returns-3
 returns-3 c =
     let s = c .before .before .before .before .before .before .before .before .before in
     let a = s .args in
-    opened-grown (length (a .address .now)) (a .words .now) (number (a .address .now)) (a .k) (a .j) (a .a) (s .pre .1) (s .pre .2) (c .before .before .hang-path .last .0) (c .before .before .hang-path .result) (c .before .before .hang-path .ensures)
+    let n = a .address .now in
+    let h = c .before .before .hang-path in
+    opened-grown (length n) (a .words .now) (number n) (a .k) (a .j) (a .a) (s .pre .1) (s .pre .2) (h .last .0) (h .result) (h .ensures)
 
 pub extend-spec : {M : Type 1} → statement M
 extend-spec =

@@ -18,7 +18,9 @@ abbrev μ-loop : tie.MeasureT-loop
 loop-holds : tie.Need-loop-holds Inv-loop μ-loop
 loop-holds c =
     let s = c .before .before in
-    (omega arith, turn-first (length (s .args .address .now)) (s .args .words .now) (number (s .args .address .now)) (s .args .j) (s .args .a) (omega arith) (s .pre .1))
+    let a = s .args in
+    let n = a .address .now in
+    (omega arith, turn-first (length n) (a .words .now) (number n) (a .j) (a .a) (omega arith) (s .pre .1))
 
 byte-at-requires : tie.Need-byte-at-requires Inv-loop μ-loop
 byte-at-requires c κs = omega arith

@@ -17,7 +17,9 @@ abbrev μ-loop : tie.MeasureT-loop
 μ-loop words address k a₀ j₀ a j = k - j
 
 loop-holds : tie.Need-loop-holds Inv-loop μ-loop
-loop-holds c = (omega arith, omega arith, on-root (length (c .before .before .args .address .now)) (c .before .before .args .words .now) (number (c .before .before .args .address .now)) (omega arith))
+loop-holds c =
+    let a = c .before .before .args in
+    (omega arith, omega arith, on-root (length (a .address .now)) (a .words .now) (number (a .address .now)) (omega arith))
 
 byte-at-requires : tie.Need-byte-at-requires Inv-loop μ-loop
 byte-at-requires c κs = search needs
@@ -30,7 +32,9 @@ below-requires c κs =
 returns : tie.Need-returns Inv-loop μ-loop
 returns c =
     let l = c .before .before .before .before .loop in
-    record { on = l .inv .2; low = omega arith; off = λ h. rw (← (c .before .before .byte-at .ensures .0)) (sym (c .before .below .ensures .0) ∙ c .if1 .taken) }
+    let byte = c .before .before .byte-at in
+    let off = sym (c .before .below .ensures .0) ∙ c .if1 .taken in
+    record { on = l .inv .2; low = omega arith; off = λ h. rw (← (byte .ensures .0)) off }
 
 add-j : tie.Need-add-j Inv-loop μ-loop
 add-j c = search needs
@@ -43,7 +47,10 @@ loop-again c =
     let l = c .before .before .before .before .loop in
     let s = c .before .before .before .before .before .before .before in
     let e = c .before .below .ensures .0 in
-    let o = on-step (length (s .args .address .now)) (s .args .words .now) (number (s .args .address .now)) (s .pre .1) (l .j) (l .a) (c .before .before .byte-at .result) (l .inv .2) (omega arith) (c .before .before .byte-at .ensures .0) (λ z. c .if1 .left (e ∙ z)) in
+    let n = s .args .address .now in
+    let byte = c .before .before .byte-at in
+    let o = on-step (length n) (s .args .words .now) (number n) (s .pre .1) (l .j) (l .a) (byte .result) (l .inv .2) (omega arith)
+    (byte .ensures .0) (λ z. c .if1 .left (e ∙ z)) in
     (omega arith, omega arith, rw e o)
 
 returns-2 : tie.Need-returns-2 Inv-loop μ-loop

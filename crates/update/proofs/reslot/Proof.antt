@@ -41,8 +41,10 @@ returns c =
     let t = c .before .before .before .before .before in
     let p = t .args .p in
     let e : arrayAt (t .args .a) + arrayWords - arrayAt (t .args .a) ≡ arrayWords = omega arith in
-    let g = rw e at (c .before .before .reslot .ensures) in
-    rw e (seated (t .args .words .now) _ (c .before .before .reslot .last .0) (t .args .a) (p .level) (p .depth) (p .value) (t .args .hop) (c .before .before .reslot .result) (t .pre .0) (g .0) (g .1) refl)
+    let r = c .before .before .reslot in
+    let g = rw e at (r .ensures) in
+    rw e (seated (t .args .words .now) _ (r .last .0) (t .args .a) (p .level) (p .depth) (p .value) (t .args .hop) (r .result)
+    (t .pre .0) (g .0) (g .1) refl)
 
 pub reslot-spec : {M : Type 1} → statement M
 reslot-spec =
