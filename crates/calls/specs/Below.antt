@@ -89,7 +89,7 @@ lookup-below ws a r p =
 -- ---- toggleash_announce, toggleash_withdraw
 
 pub update-below : (ws vs : List ℕ) (u : Update) (r : Updated) → Updates ws vs u r
-    → Below (λ m. updated (saidReply m)) (update.Updates ws vs u) r
+    → Below (λ m. updated (saidReply m)) (update.Updates 4 ws vs u) r
 update-below ws vs u r p =
     let y : Reply = answerOn 32 (seen 4 ws) u in
     let e = said-back y in

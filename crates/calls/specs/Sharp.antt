@@ -46,13 +46,13 @@ lookup-agrees ws a r r′ p q = reply-one r r′ (p ∙ sym q)
 
 -- ---- announce, withdraw
 
-pub update-agrees : (ws : List ℕ) (u : Update) (vs vs′ : List ℕ) (r r′ : code.Reply) → Updates ws vs u r → Updates ws vs′ u r′
-    → update.Agree vs vs′ r r′
-update-agrees ws u vs vs′ r r′ p q = update.sharp ws vs vs′ u r r′ p q
+pub update-agrees : (ws : List ℕ) (u : Update) (vs vs′ : List ℕ) (r r′ : code.Reply) → Updates 4 ws vs u r → Updates 4 ws vs′ u r′
+    → update.Agree 4 vs vs′ r r′
+update-agrees ws u vs vs′ r r′ p q = update.sharp 4 ws vs vs′ u r r′ p q
 
 -- the work after the check, on a table
 pub work-agrees : (ws : List ℕ) (u : Update) (vs vs′ : List ℕ) (r r′ : code.Reply) → Applies 4 ws vs u r → Applies 4 ws vs′ u r′
-    → update.Agree vs vs′ r r′
+    → update.Agree 4 vs vs′ r r′
 work-agrees ws u vs vs′ r r′ p q =
     let e : r ≡ r′ = reply-one r r′ (p .answer ∙ sym (q .answer)) in
     let n : length vs ≡ length vs′ = p .size ∙ sym (q .size) in

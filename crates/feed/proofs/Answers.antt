@@ -38,11 +38,11 @@ is-table ws t =
 
 module _ (ws vs : List ℕ) (r : Reply) (feed : List ℕ) (i : ℕ) where
   pub asked-announce : (a l h : ℕ) → a ≡ fourAt feed (i + 1) → l ≡ getD feed (i + 5) 0 → h ≡ twoAt feed (i + 6)
-      → Updates ws vs (announce a l h) r → Asked ws (announceAt feed i) (saidReply r) vs
+      → Updates 4 ws vs (announce a l h) r → Asked ws (announceAt feed i) (saidReply r) vs
   asked-announce a l h ea el eh p = rw (← ea, ← el, ← eh) (updated r p)
 
   pub asked-withdraw : (a l : ℕ) → a ≡ fourAt feed (i + 1) → l ≡ getD feed (i + 5) 0
-      → Updates ws vs (withdraw a l) r → Asked ws (withdrawAt feed i) (saidReply r) vs
+      → Updates 4 ws vs (withdraw a l) r → Asked ws (withdrawAt feed i) (saidReply r) vs
   asked-withdraw a l ea el p = rw (← ea, ← el) (updated r p)
 
 pub asked-lookup : (ws : List ℕ) (r : Reply) (feed : List ℕ) (i a : ℕ) → a ≡ fourAt feed (i + 1)

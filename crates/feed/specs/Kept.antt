@@ -21,7 +21,7 @@ use Rattle.feed.specs.declared.Ran.the-variants.{Stopped, Refused}
 
 -- a record that is not accepted, a lookup among them, leaves every word
 pub asked-kept : {ws vs : List ℕ} {x : Record} {y : Reply} → Asked ws x y vs → isDone y ≡ false → vs ≡ ws
-asked-kept {ws} (updated {u} r p) e = p .still (p .list ∙ unaccepted (seen 4 ws) u (sym (ap isDone (p .answer)) ∙ e))
+asked-kept {ws} (updated {u} r p) e = p .still (p .list ∙ unaccepted 32 (seen 4 ws) u (sym (ap isDone (p .answer)) ∙ e))
 asked-kept (looked r p) e = refl
 
 -- ---- all of them

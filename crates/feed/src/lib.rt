@@ -166,10 +166,9 @@ fn announce(words: &mut [u32], feed: &[u8], at: usize) -> Reply
     requires { ⌜ IsTable (seen 4 (now words)) × (at + 8 ≤ length (now feed)) ⌝ }
     ensures { λ r. ⌜ Asked (now (words .entry)) (announceAt (now (feed .entry)) at) (saidReply r) (now (words .exit)) ⌝ }
 {
-    let address = numbers::four_at(feed, at + 1);
     let length = feed[at + 5] as u32;
     let hop = numbers::two_at(feed, at + 6);
-    update::announce_on(words, address, length, hop)
+    update::announce_on(words, &feed[at + 1..at + 5], length, hop)
 }
 
 // Answers the withdrawal at `at`.
@@ -177,9 +176,8 @@ fn withdraw(words: &mut [u32], feed: &[u8], at: usize) -> Reply
     requires { ⌜ IsTable (seen 4 (now words)) × (at + 6 ≤ length (now feed)) ⌝ }
     ensures { λ r. ⌜ Asked (now (words .entry)) (withdrawAt (now (feed .entry)) at) (saidReply r) (now (words .exit)) ⌝ }
 {
-    let address = numbers::four_at(feed, at + 1);
     let length = feed[at + 5] as u32;
-    update::withdraw_on(words, address, length)
+    update::withdraw_on(words, &feed[at + 1..at + 5], length)
 }
 
 // Answers the lookup at `at`.

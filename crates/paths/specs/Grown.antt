@@ -1,7 +1,8 @@
--- Fresh arrays hung in a row along an address, below the deepest array of its path: nothing held changes, and no other array does.
--- Assumes nothing.
+-- Fresh arrays hung in a row along an address, below the deepest array of its path: nothing held changes, and no other array
+-- does. Assumes nothing.
 --
---     root ── level j ── (fresh) ── (fresh) ── level k         each fresh array is the one that may be empty until the next hangs below it
+--     root ── level j ── (fresh) ── (fresh) ── level k
+--     each fresh array is the one that may be empty until the next hangs below it
 use mathlib.Core.Path.{_≡_, refl, sym, ap, _∙_}
 use mathlib.Core.Logic.{_≢_, inl, ⊎-elim}
 use mathlib.Core.List.{List}
@@ -43,7 +44,8 @@ pub record Grown (L : ℕ) (ws vs : List ℕ) (a j k r : ℕ) : Type 0 where
 
 -- ---- one array
 
-module _ (L : ℕ) (ws : List ℕ) (q j b i : ℕ) (tip : Tip L ws q j b i) (deep : suc j < L) (room : getD ws 0 0 < arrayCount ws) where
+module _ (L : ℕ) (ws : List ℕ) (q j b i : ℕ) (tip : Tip L ws q j b i) (deep : suc j < L)
+    (room : getD ws 0 0 < arrayCount ws) where
   abbrev f : ℕ
   f = firstFree (arraysOf ws) 1 (arrayCount ws)
 
@@ -83,7 +85,8 @@ module _ (L : ℕ) (ws : List ℕ) (q j b i : ℕ) (tip : Tip L ws q j b i) (dee
     count = omega (arith, tip .ok .high);
     groups =
         let g = (f - 1) / 8 in
-        omega (arith, tip .ok .header .groups g (omega (arith, fo .high, tip .ok .high, tip .ok .low)), used-full (arraysOf ws) (perGroup * g) perGroup);
+        let e = tip .ok .header .groups g (omega (arith, fo .high, tip .ok .high, tip .ok .low)) in
+        omega (arith, e, used-full (arraysOf ws) (perGroup * g) perGroup);
   }
 
   -- a path that led somewhere leads there
@@ -109,7 +112,9 @@ module _ (L : ℕ) (ws : List ℕ) (q j b i : ℕ) (tip : Tip L ws q j b i) (dee
     some = fo .low;
     leads = leads;
     cells = w;
-    off = hang .links f y (fo .low) w (inl (λ e. other (arrayCount ws) L (arraysOf ws) (arraysOf vs) b i f hang (sym e))) ∙ hang .no-link y w;
+    off =
+        let n : f ≢ b = λ e. other (arrayCount ws) L (arraysOf ws) (arraysOf vs) b i f hang (sym e) in
+        hang .links f y (fo .low) w (inl n) ∙ hang .no-link y w;
   }
 
 -- ---- in a row, from level j to level i
@@ -120,11 +125,21 @@ pub record Turn (L : ℕ) (ws vs : List ℕ) (a j i b : ℕ) : Type 0 where
   pub grown : Grown L ws vs a j i b
   pub tip : Tip L vs (front L a i) i b (byteOf L a i)
 
-pub grown-none : (L : ℕ) (ws : List ℕ) (a j b : ℕ) → Almost L b ws → 1 ≤ b → node (arraysOf ws) (front L a j) j ≡ b → Grown L ws ws a j j b
-grown-none L ws a j b ok h e = record { ok = ok; some = h; size = refl; leads = e; held = λ v l. refl; count = omega arith; others = λ c l n w m. refl }
+pub grown-none : (L : ℕ) (ws : List ℕ) (a j b : ℕ) → Almost L b ws → 1 ≤ b → node (arraysOf ws) (front L a j) j ≡ b
+    → Grown L ws ws a j j b
+grown-none L ws a j b ok h e = record {
+  ok = ok;
+  some = h;
+  size = refl;
+  leads = e;
+  held = λ v l. refl;
+  count = omega arith;
+  others = λ c l n w m. refl;
+}
 
 pub turn-first : (L : ℕ) (ws : List ℕ) (a j b : ℕ) → j < L → Tip L ws (front L a j) j b (byteOf L a j) → Turn L ws ws a j j b
-turn-first L ws a j b h t = record { low = omega arith; high = h; grown = grown-none L ws a j b (t .ok) (t .some) (t .leads); tip = t }
+turn-first L ws a j b h t =
+    record { low = omega arith; high = h; grown = grown-none L ws a j b (t .ok) (t .some) (t .leads); tip = t }
 
 module _ {L : ℕ} {ws vs : List ℕ} {a j i b : ℕ} (t : Turn L ws vs a j i b) where
   -- there is room for one more
@@ -135,9 +150,12 @@ module _ {L : ℕ} {ws vs : List ℕ} {a j i b : ℕ} (t : Turn L ws vs a j i b)
   there : (n : ℕ) → n ≤ i → 1 ≤ node (arraysOf vs) (front L a n) n
   there n h =
       let e : i - n + n ≡ i = omega arith in
-      rw (← (front-up L a (i - n) n i e (omega (arith, t .high)))) (node-above (arrayCount vs) L (arraysOf vs) (t .tip .ok .shape) (i - n) (front L a i) n (rw (e, t .tip .leads) (t .tip .some)))
+      let o : 1 ≤ node (arraysOf vs) (front L a i) (i - n + n) = rw (e, t .tip .leads) (t .tip .some) in
+      rw (← (front-up L a (i - n) n i e (omega (arith, t .high))))
+      (node-above (arrayCount vs) L (arraysOf vs) (t .tip .ok .shape) (i - n) (front L a i) n o)
 
-  module _ (deep : suc i < L) (room : getD vs 0 0 < arrayCount vs) (y f : ℕ) (ey : y ≡ byteOf L a i) (ef : f ≡ firstFree (arraysOf vs) 1 (arrayCount vs)) where
+  module _ (deep : suc i < L) (room : getD vs 0 0 < arrayCount vs) (y f : ℕ) (ey : y ≡ byteOf L a i)
+      (ef : f ≡ firstFree (arraysOf vs) 1 (arrayCount vs)) where
     pub turn-gains : Gains vs b y f
     turn-gains = rw (ey, ef) (can-gain L vs (front L a i) i b (byteOf L a i) (t .tip) deep room)
 
@@ -152,24 +170,30 @@ module _ {L : ℕ} {ws vs : List ℕ} {a j i b : ℕ} (t : Turn L ws vs a j i b)
     U = gained vs b Y F
 
     leads-on : node (arraysOf U) (front L a (suc i)) (suc i) ≡ F
-    leads-on = ap (λ (q : ℕ). node (arraysOf U) q (suc i)) (front-more L a i (omega arith)) ∙ leads L vs (front L a i) i b Y (t .tip) deep room
+    leads-on =
+        ap (λ (q : ℕ). node (arraysOf U) q (suc i)) (front-more L a i (omega arith))
+        ∙ leads L vs (front L a i) i b Y (t .tip) deep room
 
     others : (c : ℕ) → 1 ≤ c → ((n : ℕ) → j ≤ n → n ≤ suc i → node (arraysOf U) (front L a n) n ≢ c) → Alike ws U c
     others c h n w m =
+        let kept : (k : ℕ) → k ≤ i → node (arraysOf U) (front L a k) k ≡ node (arraysOf vs) (front L a k) k =
+        λ k hi. stay L vs (front L a i) i b Y (t .tip) deep room (front L a k) k (there k hi) in
         gained-alike vs b Y F (can-gain L vs (front L a i) i b Y (t .tip) deep room) c h
         (λ e. n (suc i) (omega (arith, t .low)) (omega arith) (leads-on ∙ sym e))
         (λ e. n i (t .low) (omega arith) (stay-tip L vs (front L a i) i b Y (t .tip) deep room ∙ sym e)) w m
-        ∙ t .grown .others c h (λ k lo hi e. n k lo (omega arith) (stay L vs (front L a i) i b Y (t .tip) deep room (front L a k) k (there k hi) ∙ e)) w m
+        ∙ t .grown .others c h (λ k lo hi e. n k lo (omega arith) (kept k hi ∙ e)) w m
 
     grown : Grown L ws U a j (suc i) F
     grown =
         let g = gn L vs (front L a i) i b Y (t .tip) deep room in
+        let hg = hang L vs (front L a i) i b Y (t .tip) deep room in
         record {
           ok = ok L vs (front L a i) i b Y (t .tip) deep room;
           some = fo L vs (front L a i) i b Y (t .tip) deep room .low;
           size = gained-length L vs b Y F (t .tip .ok) g ∙ t .grown .size;
           leads = leads-on;
-          held = λ v l. hang-held (arrayCount vs) L (arraysOf vs) (arraysOf U) b Y F (hang L vs (front L a i) i b Y (t .tip) deep room) (t .tip .ok .shape) v l ∙ t .grown .held v l;
+          held = λ v l. hang-held (arrayCount vs) L (arraysOf vs) (arraysOf U) b Y F hg (t .tip .ok .shape) v l
+              ∙ t .grown .held v l;
           count = omega (arith, gained-counted L vs b Y F (t .tip .ok) g .count, t .grown .count, t .low);
           others = others;
         }
@@ -181,5 +205,6 @@ module _ {L : ℕ} {ws vs : List ℕ} {a j i b : ℕ} (t : Turn L ws vs a j i b)
           low = omega (arith, t .low);
           high = deep;
           grown = grown;
-          tip = rw (front-more L a i (omega arith)) (grow-tip L vs (front L a i) i b Y (t .tip) deep room (byteOf L a (suc i)) (byte-lt L a (suc i)));
+          tip = rw (front-more L a i (omega arith))
+              (grow-tip L vs (front L a i) i b Y (t .tip) deep room (byteOf L a (suc i)) (byte-lt L a (suc i)));
         })

@@ -12,6 +12,7 @@ use Rattle.tree.specs.Tree.{node-level}
 use Rattle.tree.specs.Need.{node-child}
 use Rattle.words.specs.Words.{arraysOf, arrayCount}
 use Rattle.words.specs.Almost.{Almost}
+use Rattle.words.specs.Reslot.{almost-loose}
 use Rattle.tree.specs.Missing.{missing, missing-none, missing-depth}
 use Rattle.numbers.specs.Front.{front, byteOf, byte-lt, front-more, front-up}
 use Rattle.paths.specs.Grown.{Grown, Tip, grown-none}
@@ -41,7 +42,8 @@ module _ (L : ℕ) (ws : List ℕ) (a : ℕ) (s : Shape (arrayCount ws) L (array
       ∙ ap (λ (c : ℕ). arraysOf ws .link c (byteOf L a j)) (o .leads)
 
   -- with the byte as the code has it
-  pub on-step : (j b y : ℕ) → On L ws a j b → j < L → y ≡ byteOf L a j → arraysOf ws .link b y ≢ 0 → On L ws a (j + 1) (arraysOf ws .link b y)
+  pub on-step : (j b y : ℕ) → On L ws a j b → j < L → y ≡ byteOf L a j → arraysOf ws .link b y ≢ 0
+      → On L ws a (j + 1) (arraysOf ws .link b y)
   on-step j b y o h ey n =
       let e : j + 1 ≡ suc j = omega arith in
       let d : node (arraysOf ws) (front L a (suc j)) (suc j) ≡ arraysOf ws .link b y = rw ey (next j b o h) in
@@ -59,16 +61,20 @@ module _ (L : ℕ) (ws : List ℕ) (a : ℕ) (s : Shape (arrayCount ws) L (array
       let lt : j < k = omega (arith, p .low) in
       let e : m + suc j ≡ k = omega arith in
       let d : k - j ≡ suc m = omega arith in
-      let x : 1 ≤ node (arraysOf ws) (front L a k / 2 ^ (8 * suc m)) j = rw (front-up L a (suc m) j k (omega arith) (omega arith), p .on .leads) (p .on .some) in
-      let y : node (arraysOf ws) (front L a k / 2 ^ (8 * m)) (suc j) ≡ 0 = rw (front-up L a m (suc j) k e (omega arith)) (next j b (p .on) (omega arith) ∙ p .off lt) in
-      rw d (ap (missing (arraysOf ws) (front L a k)) (sym e) ∙ missing-depth (arrayCount ws) L (arraysOf ws) s m j (front L a k) x y)))
+      let x : 1 ≤ node (arraysOf ws) (front L a k / 2 ^ (8 * suc m)) j =
+      rw (front-up L a (suc m) j k (omega arith) (omega arith), p .on .leads) (p .on .some) in
+      let y : node (arraysOf ws) (front L a k / 2 ^ (8 * m)) (suc j) ≡ 0 =
+      rw (front-up L a m (suc j) k e (omega arith)) (next j b (p .on) (omega arith) ∙ p .off lt) in
+      rw d (ap (missing (arraysOf ws) (front L a k)) (sym e)
+      ∙ missing-depth (arrayCount ws) L (arraysOf ws) s m j (front L a k) x y)))
 
   -- below the stop no array is on the path
   pub stops-below : (k j b n : ℕ) → k < L → Stops L ws a k j b → j < n → n ≤ k → node (arraysOf ws) (front L a n) n ≡ 0
   stops-below k j b n h p lo hi =
       let q : Stops L ws a n j b = record { on = p .on; low = omega arith; off = λ _. p .off (omega arith) } in
       same (node (arraysOf ws) (front L a n) n) 0 (λ e _. e)
-      (λ e _. absurd (omega (arith, stops-missing n j b (omega arith) q, missing-none (arrayCount ws) L (arraysOf ws) s n (front L a n) (omega arith))))
+      (λ e _. (let none = missing-none (arrayCount ws) L (arraysOf ws) s n (front L a n) (omega arith) in
+      absurd (omega (arith, stops-missing n j b (omega arith) q, none))))
 
   -- a path that stops short has no array of level k
   pub stops-short : (k j b : ℕ) → k < L → Stops L ws a k j b → j ≢ k → node (arraysOf ws) (front L a k) k ≡ 0
@@ -81,31 +87,18 @@ pub record Opened (L : ℕ) (ws vs : List ℕ) (a j k r : ℕ) : Type 0 where
   pub some : r ≢ 0 → Grown L ws vs a j k r
 
 module _ (L : ℕ) (ws : List ℕ) (a k j b : ℕ) (ok : Almost L 0 ws) (p : Stops L ws a k j b) where
-  -- any array may be empty
-  weaken : Almost L b ws
-  weaken = record {
-    whole = ok .whole;
-    low = ok .low;
-    high = ok .high;
-    shape = ok .shape;
-    filled = λ c l w n q. ok .filled c l w (λ e. omega arith) q;
-    blank = ok .blank;
-    right = ok .right;
-    header = ok .header;
-    rest = ok .rest;
-  }
-
   pub opened-there : j ≡ k → Opened L ws ws a j k b
   opened-there e = record {
     none = λ z. absurd (omega (arith, p .on .some));
-    some = λ n. rw (← e) (grown-none L ws a j b weaken (p .on .some) (p .on .leads));
+    some = λ n. rw (← e) (grown-none L ws a j b (almost-loose L b ws ok) (p .on .some) (p .on .leads));
   }
 
   pub opened-full : arrayCount ws < getD ws 0 0 + (k - j) → Opened L ws ws a j k 0
   opened-full q = record { none = λ z. (refl, q); some = λ n. absurd (n refl) }
 
   pub opened-tip : j < k → Tip L ws (front L a j) j b (byteOf L a j)
-  opened-tip l = record { ok = weaken; some = p .on .some; leads = p .on .leads; cells = byte-lt L a j; off = p .off l }
+  opened-tip l =
+      record { ok = almost-loose L b ws ok; some = p .on .some; leads = p .on .leads; cells = byte-lt L a j; off = p .off l }
 
   pub opened-grown : (vs : List ℕ) (r : ℕ) → Grown L ws vs a j k r → Opened L ws vs a j k r
   opened-grown vs r g = record { none = λ z. absurd (omega (arith, g .some)); some = λ n. g }

@@ -1,61 +1,22 @@
-// Paths of arrays down an IPv4 address: how far one goes, the arrays that it lacks gained, those left empty released.
+// Paths of arrays down an address, a level for each of its bytes: how far one goes, the arrays that it lacks gained, those left
+// empty released.
+use address::Place;
 use array::tag::parent_in;
 use sizes::ARRAY_WORDS;
 ghost use mathlib.Core.Path.{_≡_};
 ghost use Prim.Native.Nat.{_+_, _-_, _^_, _<_, _≤_};
 ghost use lib.ListN.{length as size, getD};
 ghost use Rattle.sizes.specs.Sizes.{leastWords, mostWords, arrayAt};
-ghost use Rattle.routes.specs.Room.{level as levelOf};
 ghost use Rattle.tree.specs.Shape.{Shape};
 ghost use Rattle.words.specs.Words.{arraysOf, arrayCount};
 ghost use Rattle.words.specs.Almost.{Table};
 ghost use Rattle.numbers.specs.Front.{front, byteOf};
-ghost use Rattle.address.specs.Address.{Stands};
+ghost use Rattle.address.specs.Address.{IsPrefix};
+ghost use Rattle.numbers.specs.Number.{number};
 ghost use Rattle.paths.specs.Grown.{Tip, Grown};
 ghost use Rattle.paths.specs.Stop.{Stops, Opened};
 ghost use Rattle.paths.specs.Shrunk.{Loose, Pruned};
-ghost use Rattle.paths.specs.Held.{hopFound};
-
-// Byte i of an address, the high one first.
-fn byte_of(address: u32, i: usize) -> usize
-    requires { ⌜ i < 4 ⌝ }
-    ensures { λ r. ⌜ (r ≡ byteOf 4 address i) × (r < 256) ⌝ }
-{
-    let s = 24 - 8 * i;
-    ((address >> s) % 256) as usize
-}
-
-// The level of a length.
-fn level(length: u32) -> usize
-    requires { ⌜ length ≤ 32 ⌝ }
-    ensures { λ r. ⌜ (r ≡ levelOf length) × (r < 4) ⌝ }
-{
-    if length == 0 {
-        return 0;
-    }
-    ((length - 1) / 8) as usize
-}
-
-// Where a prefix stands: the level of its array, and its length and value there.
-pub struct Place {
-    pub level: usize,
-    pub depth: usize,
-    pub value: usize,
-}
-
-pub fn place_of(address: u32, length: u32) -> Place
-    requires { ⌜ length ≤ 32 ⌝ }
-    ensures { λ r. ⌜ Stands 4 address length (r .level) (r .depth) (r .value) ⌝ }
-{
-    let k = level(length);
-    let d = length as usize - 8 * k;
-    let y = byte_of(address, k);
-    Place {
-        level: k,
-        depth: d,
-        value: y >> (8 - d),
-    }
-}
+ghost use Rattle.paths.specs.Held.{hopFound, Sought};
 
 // An array and its level.
 pub struct Stop {
@@ -64,15 +25,16 @@ pub struct Stop {
 }
 
 // The deepest array on the path of an address, down to level k.
-pub fn walk_down(words: &[u32], address: u32, k: usize) -> Stop
-    requires { ⌜ (k < 4) × (leastWords ≤ size (now words)) × (size (now words) ≤ mostWords) ⌝ }
-    requires { ⌜ Shape (arrayCount (now words)) 4 (arraysOf (now words)) ⌝ }
-    ensures { λ r. ⌜ Stops 4 (now (words .entry)) address k (r .level) (r .array) ⌝ }
+fn walk_down(words: &[u32], address: &[u8], k: usize) -> Stop
+    requires { ⌜ (k < size (now address)) × (leastWords ≤ size (now words)) × (size (now words) ≤ mostWords) ⌝ }
+    requires { ⌜ Shape (arrayCount (now words)) (size (now address)) (arraysOf (now words)) ⌝ }
+    ensures { λ r. ⌜ Stops (size (now (address .entry))) (now (words .entry)) (number (now (address .entry)))
+        k (r .level) (r .array) ⌝ }
 {
     let mut a = 1;
     let mut j = 0;
     while j < k {
-        let y = byte_of(address, j);
+        let y = address::byte_at(address, j);
         let b = words::below(words, a, y);
         if b == 0 {
             return Stop { array: a, level: j };
@@ -84,7 +46,7 @@ pub fn walk_down(words: &[u32], address: u32, k: usize) -> Stop
 }
 
 // The hop of the prefix at a place whose path stops at s, 0 where it is not held.
-pub fn hop_at(words: &[u32], s: Stop, p: Place) -> u32
+fn hop_at(words: &[u32], s: Stop, p: Place) -> u32
     requires { ⌜ (arrayAt (s .array + 1) ≤ size (now words)) × (p .depth ≤ 8) × (p .value < 2 ^ p .depth) ⌝ }
     ensures { λ r. ⌜ r ≡ hopFound (now (words .entry)) (s .array) (s .level) (p .level) (p .depth) (p .value) ⌝ }
 {
@@ -100,16 +62,42 @@ pub fn hop_at(words: &[u32], s: Stop, p: Place) -> u32
     words[ARRAY_WORDS * a + slot]
 }
 
-// The arrays of the levels j + 1 .. k on the path of an address, gained one below the other; a is that of level j. The last is returned.
-fn hang_path(words: &mut [u32], address: u32, a: usize, j: usize, k: usize) -> usize
-    requires { ⌜ (j < k) × (k < 4) × (getD (now words) 0 0 + (k - j) ≤ arrayCount (now words)) ⌝ }
-    requires { ⌜ Tip 4 (now words) (front 4 address j) j a (byteOf 4 address j) ⌝ }
-    ensures { λ r. ⌜ Grown 4 (now (words .entry)) (now (words .exit)) address j k r ⌝ }
+// A prefix that was sought: where it stands, where its path stops, and its hop, 0 where it is not held.
+pub struct Found {
+    pub place: Place,
+    pub stop: Stop,
+    pub hop: u32,
+}
+
+pub fn find(words: &[u32], address: &[u8], length: u32) -> Found
+    requires { ⌜ Table (size (now address)) (now words) × IsPrefix (size (now address)) (number (now address)) length ⌝ }
+    ensures { λ r. ⌜ Sought (size (now (address .entry))) (now (words .entry)) (number (now (address .entry))) length
+        (r .place .level) (r .place .depth) (r .place .value) (r .stop .level) (r .stop .array) (r .hop) ⌝ }
+{
+    let p = address::place_of(address, length);
+    let k = p.level;
+    let s = walk_down(words, address, k);
+    let hop = hop_at(words, s, p);
+    Found {
+        place: p,
+        stop: s,
+        hop: hop,
+    }
+}
+
+// The arrays of the levels j + 1 .. k on the path of an address, gained one below the other; a is that of level j. The last is
+// returned.
+fn hang_path(words: &mut [u32], address: &[u8], a: usize, j: usize, k: usize) -> usize
+    requires { ⌜ (j < k) × (k < size (now address)) × (getD (now words) 0 0 + (k - j) ≤ arrayCount (now words)) ⌝ }
+    requires { ⌜ Tip (size (now address)) (now words) (front (size (now address)) (number (now address)) j) j a
+        (byteOf (size (now address)) (number (now address)) j) ⌝ }
+    ensures { λ r. ⌜ Grown (size (now (address .entry))) (now (words .entry)) (now (words .exit))
+        (number (now (address .entry))) j k r ⌝ }
 {
     let mut b = a;
     let mut i = j;
     while i < k {
-        let y = byte_of(address, i);
+        let y = address::byte_at(address, i);
         let f = words::find_free(words);
         words::gain(words, b, y, f);
         b = f;
@@ -118,11 +106,13 @@ fn hang_path(words: &mut [u32], address: u32, a: usize, j: usize, k: usize) -> u
     b
 }
 
-// The array of level k on the path of an address that stops at array a of level j, with those above it gained where they are missing;
-// 0, and nothing is changed, where there is no room.
-pub fn open(words: &mut [u32], address: u32, a: usize, j: usize, k: usize) -> usize
-    requires { ⌜ (k < 4) × Table 4 (now words) × Stops 4 (now words) address k j a ⌝ }
-    ensures { λ r. ⌜ Opened 4 (now (words .entry)) (now (words .exit)) address j k r ⌝ }
+// The array of level k on the path of an address that stops at array a of level j, with those above it gained where they are
+// missing; 0, and nothing is changed, where there is no room.
+pub fn extend(words: &mut [u32], address: &[u8], a: usize, j: usize, k: usize) -> usize
+    requires { ⌜ (k < size (now address)) × Table (size (now address)) (now words)
+        × Stops (size (now address)) (now words) (number (now address)) k j a ⌝ }
+    ensures { λ r. ⌜ Opened (size (now (address .entry))) (now (words .entry)) (now (words .exit))
+        (number (now (address .entry))) j k r ⌝ }
 {
     if j == k {
         return a;
@@ -135,10 +125,10 @@ pub fn open(words: &mut [u32], address: u32, a: usize, j: usize, k: usize) -> us
     hang_path(words, address, a, j, k)
 }
 
-// Array a, and those above it, released while they are empty.
-pub fn prune(words: &mut [u32], a: usize)
-    requires { ⌜ Loose 4 (now words) a ⌝ }
-    ensures { λ _. ⌜ Pruned 4 (now (words .entry)) (now (words .exit)) a ⌝ }
+// Array a, and those above it, released while they are empty. The number of levels is what the promise speaks of, no more.
+pub fn prune(words: &mut [u32], levels: usize, a: usize)
+    requires { ⌜ Loose levels (now words) a ⌝ }
+    ensures { λ _. ⌜ Pruned levels (now (words .entry)) (now (words .exit)) a ⌝ }
 {
     let mut b = a;
     while b != 1 {

@@ -36,7 +36,7 @@ pub cleared : (ws vs : List ℕ) (r : Cleared) (n : ℕ) → Below 4 ws vs r →
 cleared ws vs r n b e =
     record { answer = e ∙ ap refusal (b .answer); left = b .left; kept = λ m q. b .kept m (b .answer ∙ q) }
 
-pub made : (ws vs : List ℕ) (u : Update) (r : Reply) (x : Updated) → Made ws vs u r → x ≡ updated (saidReply r)
+pub made : (ws vs : List ℕ) (u : Update) (r : Reply) (x : Updated) → Made 4 ws vs u r → x ≡ updated (saidReply r)
     → Updates ws vs u x
 made ws vs u r x m e =
     record {

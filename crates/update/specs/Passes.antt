@@ -24,7 +24,7 @@ seen-passes ws A rs e =
     let f = table-fits 4 ws t in
     sym (refusal-none ws 0 (fits-no-misfit _ f) refl (table-tells 4 ws (omega arith) (omega arith) f .from t))
 
-pub update-passes : (ws vs : List ℕ) (u : Update) (r : Reply) → Updates ws vs u r → Passes ws → Passes vs
+pub update-passes : (ws vs : List ℕ) (u : Update) (r : Reply) → Updates 4 ws vs u r → Passes ws → Passes vs
 update-passes ws vs u r p e =
     let t = seen-table 4 ws (passed ws 0 e .0) in
     seen-passes vs _ _ (rw t at (p .list))

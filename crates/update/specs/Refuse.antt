@@ -1,15 +1,16 @@
--- The refusals that come before the work, in document 01's order, and the work's promise as that of the whole call. Assumes nothing.
+-- The refusals that come before the work, in document 01's order, and the work's promise as that of the whole call.
+-- Assumes nothing.
 use mathlib.Core.Path.{_≡_, refl, sym, ap, ap₂, _∙_}
 use mathlib.Core.Logic.{_≢_}
 use mathlib.Core.Bool.{true, false, cond, true≢false}
 use mathlib.Core.List.{List}
-use Prim.Native.Nat.{ℕ, _-_, _/_, _%_, _^_, _≤_}
+use Prim.Native.Nat.{ℕ, _-_, _*_, _/_, _%_, _^_, _≤_, _<_}
 use native.Mathlib.Omega.{arith}
 use lib.Dec.{eqb}
 use lib.ListN.{length}
 use borrow.Author.Tests.{eq-eqb, ne-eqb}
 use Rattle.logic.specs.Cases.{bool, less, same}
-use Rattle.sizes.specs.Sizes.{arrayWords}
+use Rattle.sizes.specs.Sizes.{arrayWords, levelBound}
 use Rattle.routes.specs.Route.{Route, tooLong, stray, badHop}
 use Rattle.routes.specs.Answers.{Update, announce, withdraw, Reply, refused, isDone, faulty, verdict, answer}
 use Rattle.routes.specs.Seen.{Seen, misfit, foreign, table, misfits, answerOn, afterOn}
@@ -24,53 +25,58 @@ use Rattle.replies.specs.declared.Reply.the-variants.{Refused}
 use Rattle.update.specs.Update.{faultOf, refusalOf, Updates, Applies}
 
 -- what is not accepted leaves what the words are seen to be
-pub unaccepted : (s : Seen) (u : Update) → isDone (answerOn 32 s u) ≡ false → afterOn 32 s u ≡ s
-unaccepted misfit u e = refl
-unaccepted foreign u e = refl
-unaccepted (table A rs) u e = rw e
+pub unaccepted : (W : ℕ) (s : Seen) (u : Update) → isDone (answerOn W s u) ≡ false → afterOn W s u ≡ s
+unaccepted W misfit u e = refl
+unaccepted W foreign u e = refl
+unaccepted W (table A rs) u e = rw e
 
 -- a refusal that leaves the words
-refuses : (ws : List ℕ) (u : Update) (n : ℕ) → answerOn 32 (seen 4 ws) u ≡ refused n → Updates ws ws u (Refused n)
-refuses ws u n e =
-    let l = sym (unaccepted (seen 4 ws) u (ap isDone e)) in
+refuses : (L : ℕ) (ws : List ℕ) (u : Update) (n : ℕ) → answerOn (8 * L) (seen L ws) u ≡ refused n → Updates L ws ws u (Refused n)
+refuses L ws u n e =
+    let l = sym (unaccepted (8 * L) (seen L ws) u (ap isDone e)) in
     record { answer = sym e; list = l; kept = λ _. refl; still = λ _. refl; frame = λ c h n w b. refl }
 
 -- 1
-refuses-size : (ws : List ℕ) (u : Update) → misfits (length ws) ≡ true → Updates ws ws u (Refused 1)
-refuses-size ws u e = refuses ws u 1 (rw (seen-misfit 4 ws e))
+refuses-size : (L : ℕ) (ws : List ℕ) (u : Update) → misfits (length ws) ≡ true → Updates L ws ws u (Refused 1)
+refuses-size L ws u e = refuses L ws u 1 (rw (seen-misfit L ws e))
 
 -- 3, 4, 5
 faulty-by : (W : ℕ) (u : Update) (r : Reply) → faulty W u r ≡ cond (eqb (faultOf W u) 0) r (refused (faultOf W u))
 faulty-by W (announce a l h) r =
-    bool (tooLong W l) (λ e. rw e) (λ e. rw e (bool (stray W a l) (λ f. rw f) (λ f. rw f (bool (badHop h) (λ g. rw g) (λ g. rw g)))))
+    bool (tooLong W l) (λ e. rw e)
+    (λ e. rw e (bool (stray W a l) (λ f. rw f) (λ f. rw f (bool (badHop h) (λ g. rw g) (λ g. rw g)))))
 faulty-by W (withdraw a l) r =
     bool (tooLong W l) (λ e. rw e) (λ e. rw e (bool (stray W a l) (λ f. rw f) (λ f. rw f)))
 
 -- the prefix first, then the hop
 pub fault-prefix : (W a l h n : ℕ) → n ≡ faultOf W (withdraw a l) → n ≢ 0 → n ≡ faultOf W (announce a l h)
 fault-prefix W a l h n e z =
-    bool (tooLong W l) (λ t. rw t (rw t at e)) (λ t. bool (stray W a l) (λ f. rw (t, f) (rw (t, f) at e)) (λ f. absurd (z (rw (t, f) at e))))
+    bool (tooLong W l) (λ t. rw t (rw t at e))
+    (λ t. bool (stray W a l) (λ f. rw (t, f) (rw (t, f) at e)) (λ f. absurd (z (rw (t, f) at e))))
 
 pub fault-hop : (W a l h n : ℕ) → faultOf W (withdraw a l) ≡ 0 → n ≡ cond (badHop h) 5 0 → n ≡ faultOf W (announce a l h)
 fault-hop W a l h n e q =
-    bool (tooLong W l) (λ t. absurd (omega (arith, rw t at e))) (λ t. bool (stray W a l) (λ f. absurd (omega (arith, rw (t, f) at e))) (λ f. rw (t, f) q))
+    bool (tooLong W l) (λ t. absurd (omega (arith, rw t at e)))
+    (λ t. bool (stray W a l) (λ f. absurd (omega (arith, rw (t, f) at e))) (λ f. rw (t, f) q))
 
-refuses-fault : (ws : List ℕ) (u : Update) (n : ℕ) → misfits (length ws) ≡ false → n ≡ faultOf 32 u → n ≢ 0 → Updates ws ws u (Refused n)
-unfolding answer
-refuses-fault ws u n e f z =
-    let any : (r : Reply) → faulty 32 u r ≡ refused n = λ r. faulty-by 32 u r ∙ rw (← f, ne-eqb n 0 z) in
-    refuses ws u n
-    (seen-cases 4 ws (omega arith) (omega arith)
-    (λ m _. absurd (true≢false (sym m ∙ e)))
-    (λ _ _ s. rw s (any (refused 2)))
-    (λ _ _ _ s. rw s (any (verdict 32 (arrayCount ws) (listOf 4 ws) u))))
+module _ (L : ℕ) (ws : List ℕ) (u : Update) where
+  refuses-fault : 1 ≤ L → L < levelBound → (n : ℕ) → misfits (length ws) ≡ false → n ≡ faultOf (8 * L) u → n ≢ 0
+      → Updates L ws ws u (Refused n)
+  unfolding answer
+  refuses-fault some levels n e f z =
+      let any : (r : Reply) → faulty (8 * L) u r ≡ refused n = λ r. faulty-by (8 * L) u r ∙ rw (← f, ne-eqb n 0 z) in
+      refuses L ws u n
+      (seen-cases L ws some levels
+      (λ m _. absurd (true≢false (sym m ∙ e)))
+      (λ _ _ s. rw s (any (refused 2)))
+      (λ _ _ _ s. rw s (any (verdict (8 * L) (arrayCount ws) (listOf L ws) u))))
 
-pub refuses-table : (ws : List ℕ) (u : Update) (n : ℕ) → Table 4 ws → n ≡ faultOf 32 u → n ≢ 0 → Updates ws ws u (Refused n)
-refuses-table ws u n t f z = refuses-fault ws u n (fits-no-misfit (length ws) (table-fits 4 ws t)) f z
+  pub refuses-table : (n : ℕ) → Table L ws → n ≡ faultOf (8 * L) u → n ≢ 0 → Updates L ws ws u (Refused n)
+  refuses-table n t = refuses-fault (t .shape .some-level) (t .shape .levels) n (fits-no-misfit (length ws) (table-fits L ws t))
 
--- 2
-refuses-foreign : (ws : List ℕ) (u : Update) → misfits (length ws) ≡ false → faultOf 32 u ≡ 0 → tableB 4 ws ≡ false → Updates ws ws u (Refused 2)
-refuses-foreign ws u e f b = refuses ws u 2 (rw (seen-foreign 4 ws e b) (faulty-by 32 u (refused 2) ∙ rw f))
+  -- 2
+  refuses-foreign : misfits (length ws) ≡ false → faultOf (8 * L) u ≡ 0 → tableB L ws ≡ false → Updates L ws ws u (Refused 2)
+  refuses-foreign e f b = refuses L ws u 2 (rw (seen-foreign L ws e b) (faulty-by (8 * L) u (refused 2) ∙ rw f))
 
 -- ---- the first of them
 
@@ -88,15 +94,15 @@ module _ (ws : List ℕ) (f : ℕ) where
     pub refusal-none : f ≡ 0 → tableB 4 ws ≡ true → 0 ≡ refusalOf ws f
     refusal-none z b = rw (m, eq-eqb f 0 z, b)
 
-pub refused-by : (ws : List ℕ) (u : Update) (n : ℕ) → n ≡ refusalOf ws (faultOf 32 u) → n ≢ 0 → Updates ws ws u (Refused n)
+pub refused-by : (ws : List ℕ) (u : Update) (n : ℕ) → n ≡ refusalOf ws (faultOf 32 u) → n ≢ 0 → Updates 4 ws ws u (Refused n)
 refused-by ws u n e z =
     bool (misfits (length ws))
-    (λ m. rw (e ∙ sym (refusal-size ws (faultOf 32 u) m)) (refuses-size ws u m))
+    (λ m. rw (e ∙ sym (refusal-size ws (faultOf 32 u) m)) (refuses-size 4 ws u m))
     (λ m. same (faultOf 32 u) 0
     (λ f _. bool (tableB 4 ws)
     (λ b. absurd (z (e ∙ sym (refusal-none ws (faultOf 32 u) m f b))))
-    (λ b. rw (e ∙ sym (refusal-foreign ws (faultOf 32 u) m f b)) (refuses-foreign ws u m f b)))
-    (λ f _. refuses-fault ws u n m (e ∙ sym (refusal-fault ws (faultOf 32 u) m f)) z))
+    (λ b. rw (e ∙ sym (refusal-foreign ws (faultOf 32 u) m f b)) (refuses-foreign 4 ws u m f b)))
+    (λ f _. refuses-fault 4 ws u (omega arith) (omega arith) n m (e ∙ sym (refusal-fault ws (faultOf 32 u) m f)) z))
 
 -- ---- the work
 
@@ -113,10 +119,10 @@ passed ws f e =
     (λ z _. absurd (omega (arith, refusal-fault ws f m z))))
 
 -- no fault, and what that says
-pub sound-prefix : (a l : ℕ) → faultOf 32 (withdraw a l) ≡ 0 → IsPrefix 4 a l
-sound-prefix a l e =
-    less 32 l (λ _ t. absurd (omega (arith, rw t at e)))
-    (λ h t. same (a % 2 ^ (32 - l)) 0 (λ q _. record { fits = h; clean = q }) (λ _ f. absurd (omega (arith, rw (t, f) at e))))
+pub sound-prefix : (L a l : ℕ) → faultOf (8 * L) (withdraw a l) ≡ 0 → IsPrefix L a l
+sound-prefix L a l e =
+    less (8 * L) l (λ _ t. absurd (omega (arith, rw t at e)))
+    (λ h t. same (a % 2 ^ (8 * L - l)) 0 (λ q _. record { fits = h; clean = q }) (λ _ f. absurd (omega (arith, rw (t, f) at e))))
 
 hop-low : (h : ℕ) → badHop h ≡ false → 1 ≤ h
 hop-low h e = same h 0 (λ _ t. absurd (true≢false (rw t at e))) (λ n _. omega arith)
@@ -124,27 +130,28 @@ hop-low h e = same h 0 (λ _ t. absurd (true≢false (rw t at e))) (λ n _. omeg
 hop-high : (h : ℕ) → badHop h ≡ false → h ≤ 65535
 hop-high h e = same h 0 (λ z _. omega arith) (λ _ t. less 65535 h (λ _ f. absurd (true≢false (rw (t, f) at e))) (λ w _. w))
 
-pub sound-route : (a l h : ℕ) → faultOf 32 (announce a l h) ≡ 0 → IsPrefix 4 a l × (1 ≤ h) × (h ≤ 65535)
-sound-route a l h e =
-    less 32 l (λ _ t. absurd (omega (arith, rw t at e)))
-    (λ w t. same (a % 2 ^ (32 - l)) 0
-    (λ q f. bool (badHop h) (λ g. absurd (omega (arith, rw (t, f, g) at e))) (λ g. (record { fits = w; clean = q }, hop-low h g, hop-high h g)))
+pub sound-route : (L a l h : ℕ) → faultOf (8 * L) (announce a l h) ≡ 0 → IsPrefix L a l × (1 ≤ h) × (h ≤ 65535)
+sound-route L a l h e =
+    less (8 * L) l (λ _ t. absurd (omega (arith, rw t at e)))
+    (λ w t. same (a % 2 ^ (8 * L - l)) 0
+    (λ q f. bool (badHop h) (λ g. absurd (omega (arith, rw (t, f, g) at e)))
+    (λ g. (record { fits = w; clean = q }, hop-low h g, hop-high h g)))
     (λ _ f. absurd (omega (arith, rw (t, f) at e))))
 
-pub applied : (ws vs : List ℕ) (u : Update) (r : code.Reply) → Table 4 ws → faultOf 32 u ≡ 0 → Applies 4 ws vs u r
-    → Updates ws vs u r
+pub applied : (L : ℕ) (ws vs : List ℕ) (u : Update) (r : code.Reply) → Table L ws → faultOf (8 * L) u ≡ 0 → Applies L ws vs u r
+    → Updates L ws vs u r
 unfolding answer
-applied ws vs u r t f p = record {
-  answer = rw (seen-table 4 ws t) (p .answer ∙ sym none);
-  list = rw (seen-table 4 vs (p .table), seen-table 4 ws t, none)
+applied L ws vs u r t f p = record {
+  answer = rw (seen-table L ws t) (p .answer ∙ sym none);
+  list = rw (seen-table L vs (p .table), seen-table L ws t, none)
       (ap₂ table (ap (λ (n : ℕ). n / arrayWords - 1) (p .size)) (p .list ∙ rw (p .answer)));
   kept = p .kept;
-  still = λ e. p .still (held-in (rw (seen-table 4 vs (p .table), seen-table 4 ws t) at e));
+  still = λ e. p .still (held-in (rw (seen-table L vs (p .table), seen-table L ws t) at e));
   frame = p .frame;
 }
   where
     held-in : {A B : ℕ} {xs ys : List Route} → table A xs ≡ table B ys → xs ≡ ys
     held-in e = cc
 
-    none : faulty 32 u (verdict 32 (arrayCount ws) (listOf 4 ws) u) ≡ verdict 32 (arrayCount ws) (listOf 4 ws) u
-    none = faulty-by 32 u (verdict 32 (arrayCount ws) (listOf 4 ws) u) ∙ rw f
+    none : faulty (8 * L) u (verdict (8 * L) (arrayCount ws) (listOf L ws) u) ≡ verdict (8 * L) (arrayCount ws) (listOf L ws) u
+    none = faulty-by (8 * L) u (verdict (8 * L) (arrayCount ws) (listOf L ws) u) ∙ rw f

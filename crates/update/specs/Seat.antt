@@ -1,5 +1,5 @@
--- A slot of one array of the words, as the floor of one block has it: what that floor asks, and what its promise says of the words.
--- Assumes nothing.
+-- A slot of one array of the words, as the floor of one block has it: what that floor asks, and what its promise says of the
+-- words. Assumes nothing.
 use mathlib.Core.Path.{_≡_, refl, sym, ap, _∙_}
 use mathlib.Core.Logic.{_⊎_, ⊎-elim}
 use mathlib.Core.List.{List}
@@ -14,13 +14,14 @@ use Rattle.array.specs.Cell.{bestIn, linkIn}
 use Rattle.array.specs.Block.{slots, bests, links}
 use Rattle.array.specs.Right.{Right, right-ext}
 use Rattle.array.specs.Put.{anyUp, exposed, Spot, Reslotted}
+use Rattle.array.specs.Frame.{blockOf, withBlock, block-word, block-length, with-length, with-in, with-other}
 use Rattle.tree.specs.Arrays.{lev}
 use Rattle.words.specs.Words.{arraysOf, arrayCount, slotsOf, bestsOf}
 use Rattle.words.specs.Almost.{Almost}
 use Rattle.tree.specs.Tree.{node-level}
 use Rattle.tree.specs.Slot.{Place}
 use Rattle.words.specs.Reslot.{Reslot}
-use Rattle.array.specs.Frame.{blockOf, withBlock, block-word, block-length, with-length, with-in, with-other}
+use Rattle.words.specs.Lent.{slot as lent-slot, best as lent-best, link as lent-link}
 
 -- array a, of level k, is right, and has a slot of length d and value x
 pub record Seat (ws : List ℕ) (a k d x : ℕ) : Type 0 where
@@ -32,7 +33,8 @@ pub record Seat (ws : List ℕ) (a k d x : ℕ) : Type 0 where
   pub right : Right (k + 1) (slotsOf ws a) (bestsOf ws a)
 
 -- of a table but for one array
-pub seat-at : (L e : ℕ) (ws : List ℕ) (a q k d x : ℕ) → Almost L e ws → Place (arrayCount ws) L (arraysOf ws) a q k d x → Seat ws a k d x
+pub seat-at : (L e : ℕ) (ws : List ℕ) (a q k d x : ℕ) → Almost L e ws → Place (arrayCount ws) L (arraysOf ws) a q k d x
+    → Seat ws a k d x
 seat-at L e ws a q k d x ok p =
     let lv = rw (p .leads) at (node-level (arrayCount ws) L (arraysOf ws) (ok .shape) q k (rw (p .leads) (p .array))) in
     record {
@@ -44,106 +46,91 @@ seat-at L e ws a q k d x ok p =
       right = rw (lv .level) at (ok .right a (p .array) (lv .within) (omega (arith, lv .level)));
     }
 
--- ---- the block's slots, best cells and links are the array's
+-- ---- slots alike below slotEnd cover alike
 
-module _ (ws : List ℕ) (a : ℕ) where
-  block-slot : (s : ℕ) → s < slotEnd → slots (blockOf ws a) s ≡ slotsOf ws a s
-  block-slot s h = block-word ws a s (omega arith)
+module _ (f g : ℕ → ℕ) (e : (s : ℕ) → s < slotEnd → f s ≡ g s) where
+  any-ext : (n s : ℕ) → s < slotEnd → anyUp f s n ≡ anyUp g s n
+  unfolding anyUp
+  any-ext zero s h = refl
+  any-ext (suc n) s h = rw (e s h, any-ext n (s / 2) (omega arith))
 
-  block-cell : (i : ℕ) → i < cellCount → getD (blockOf ws a) (cellsAt + i) 0 ≡ getD ws (cellAt a i) 0
-  block-cell i h =
-      let e : wordAt a (cellsAt + i) ≡ cellAt a i = omega arith in
-      block-word ws a (cellsAt + i) (omega arith) ∙ ap (λ (n : ℕ). getD ws n 0) e
-
-  block-best : (i : ℕ) → i < cellCount → bests (blockOf ws a) i ≡ bestsOf ws a i
-  block-best i h = ap bestIn (block-cell i h)
-
-  block-link : (i : ℕ) → i < cellCount → links (blockOf ws a) i ≡ arraysOf ws .link a i
-  block-link i h = ap linkIn (block-cell i h)
-
-any-ext : (f g : ℕ → ℕ) → ((s : ℕ) → s < slotEnd → f s ≡ g s) → (n s : ℕ) → s < slotEnd → anyUp f s n ≡ anyUp g s n
-unfolding anyUp
-any-ext f g e zero s h = refl
-any-ext f g e (suc n) s h = rw (e s h, any-ext f g e n (s / 2) (omega arith))
-
-exposed-ext : (f g : ℕ → ℕ) → ((s : ℕ) → s < slotEnd → f s ≡ g s) → (d i n : ℕ) → i + n ≤ cellCount
-    → exposed f d i n ≡ exposed g d i n
-unfolding exposed
-exposed-ext f g e d i zero h = refl
-exposed-ext f g e d i (suc n) h =
-    rw (any-ext f g e (8 - d) (cellSlots + (i + n)) (omega arith), exposed-ext f g e d i n (omega arith))
+  exposed-ext : (d i n : ℕ) → i + n ≤ cellCount → exposed f d i n ≡ exposed g d i n
+  unfolding exposed
+  exposed-ext d i zero h = refl
+  exposed-ext d i (suc n) h = rw (any-ext (8 - d) (cellSlots + (i + n)) (omega arith), exposed-ext d i n (omega arith))
 
 -- ---- what the floor of one block asks and gives
 
 module _ (ws : List ℕ) (a k d x : ℕ) (s : Seat ws a k d x) where
+  block-slot : (r : ℕ) → r < slotEnd → slots (blockOf ws a) r ≡ slotsOf ws a r
+  block-slot = lent-slot ws a arrayWords refl
+
   pub seat-spot : Spot (blockOf ws a) d x
   seat-spot = record {
     block = block-length ws a (s .inside);
     depth = s .deep;
     value = s .small;
-    sound = right-ext (k + 1) (slotsOf ws a) (bestsOf ws a) (slots (blockOf ws a)) (bests (blockOf ws a)) (λ r l h. block-slot ws a r h) (block-best ws a) (s .right) .sound;
+    sound = right-ext (k + 1) (slotsOf ws a) (bestsOf ws a) (slots (blockOf ws a)) (bests (blockOf ws a))
+        (λ r l h. block-slot r h) (lent-best ws a arrayWords refl) (s .right) .sound;
   }
 
   slot-lt : 2 ^ d + x < slotEnd
   slot-lt = omega (arith, s .small, pow-mono {i = d} {j = 8} (s .deep))
 
-  pub seat-slot : slots (blockOf ws a) (2 ^ d + x) ≡ slotsOf ws a (2 ^ d + x)
-  seat-slot = block-slot ws a (2 ^ d + x) slot-lt
-
   seat-exposed : exposed (slots (blockOf ws a)) d (x * 2 ^ (8 - d)) (2 ^ (8 - d))
       ≡ exposed (slotsOf ws a) d (x * 2 ^ (8 - d)) (2 ^ (8 - d))
-  seat-exposed = exposed-ext (slots (blockOf ws a)) (slotsOf ws a) (block-slot ws a) d (x * 2 ^ (8 - d)) (2 ^ (8 - d)) fits
-    where
-      fits : x * 2 ^ (8 - d) + 2 ^ (8 - d) ≤ cellCount
-      fits =
-          let e : d + (8 - d) ≡ 8 = omega (arith, s .deep) in
-          let p : 2 ^ d * 2 ^ (8 - d) ≡ 256 = sym (pow-add 2 d (8 - d)) ∙ ap (λ (n : ℕ). 2 ^ n) e in
-          omega (arith, mul-le-mul-right (2 ^ (8 - d)) (s .small))
+  seat-exposed =
+      let e : d + (8 - d) ≡ 8 = omega (arith, s .deep) in
+      let p : 2 ^ d * 2 ^ (8 - d) ≡ 256 = sym (pow-add 2 d (8 - d)) ∙ ap (λ (n : ℕ). 2 ^ n) e in
+      let fits : x * 2 ^ (8 - d) + 2 ^ (8 - d) ≤ cellCount = omega (arith, mul-le-mul-right (2 ^ (8 - d)) (s .small)) in
+      exposed-ext (slots (blockOf ws a)) (slotsOf ws a) block-slot d (x * 2 ^ (8 - d)) (2 ^ (8 - d)) fits
 
-  seat-reslot : (m : List ℕ) (h : ℕ) → Reslotted (blockOf ws a) m (2 ^ d + x) h → Reslot ws (withBlock ws a m) a (2 ^ d + x) h
-  seat-reslot m h g = record {
-    size = with-length ws a m (s .inside) whole;
-    outside = with-other ws a m (s .inside) whole;
-    tag = tag;
-    links = λ i w. link i w ∙ g .same-links i w ∙ block-link ws a i w;
-    here = slot (2 ^ d + x) slot-lt ∙ g .here;
-    slots = λ r l w n. slot r w ∙ g .same-slots r l w n ∙ block-slot ws a r w;
-    right = rw lv (right-ext (k + 1) (slots m) (bests m) (slotsOf (withBlock ws a m) a) (bestsOf (withBlock ws a m) a) (λ r l w. slot r w) best right);
-  }
-    where
-      whole : length m ≡ arrayWords
-      whole = g .size ∙ block-length ws a (s .inside)
+  -- the block m has come back
+  module _ (m : List ℕ) (h : ℕ) (g : Reslotted (blockOf ws a) m (2 ^ d + x) h) where
+    abbrev vs : List ℕ
+    vs = withBlock ws a m
 
-      word : (i : ℕ) → i < arrayWords → getD (withBlock ws a m) (wordAt a i) 0 ≡ getD m i 0
-      word = with-in ws a m (s .inside) whole
+    whole : length m ≡ arrayWords
+    whole = g .size ∙ block-length ws a (s .inside)
 
-      tag : getD (withBlock ws a m) (arrayAt a) 0 ≡ getD ws (arrayAt a) 0
-      tag =
-          let e : arrayAt a ≡ wordAt a 0 = omega arith in
-          ap (λ (n : ℕ). getD (withBlock ws a m) n 0) e ∙ word 0 (omega arith) ∙ g .tag ∙ block-word ws a 0 (omega arith) ∙ ap (λ (n : ℕ). getD ws n 0) (sym e)
+    word : (i : ℕ) → i < arrayWords → getD vs (wordAt a i) 0 ≡ getD m i 0
+    word = with-in ws a m (s .inside) whole
 
-      slot : (r : ℕ) → r < slotEnd → slotsOf (withBlock ws a m) a r ≡ slots m r
-      slot r w = word r (omega arith)
+    tag : getD vs (arrayAt a) 0 ≡ getD ws (arrayAt a) 0
+    tag =
+        let e : wordAt a 0 ≡ arrayAt a = omega arith in
+        rw e at (word 0 (omega arith) ∙ g .tag ∙ block-word ws a 0 (omega arith))
 
-      cell : (i : ℕ) → i < cellCount → getD (withBlock ws a m) (cellAt a i) 0 ≡ getD m (cellsAt + i) 0
-      cell i w = let e : cellAt a i ≡ wordAt a (cellsAt + i) = omega arith in rw e (word (cellsAt + i) (omega arith))
+    slot : (r : ℕ) → r < slotEnd → slotsOf vs a r ≡ slots m r
+    slot r w = word r (omega arith)
 
-      best : (i : ℕ) → i < cellCount → bestsOf (withBlock ws a m) a i ≡ bests m i
-      best i w = ap bestIn (cell i w)
+    cell : (i : ℕ) → i < cellCount → getD vs (cellAt a i) 0 ≡ getD m (cellsAt + i) 0
+    cell i w = let e : cellAt a i ≡ wordAt a (cellsAt + i) = omega arith in rw e (word (cellsAt + i) (omega arith))
 
-      link : (i : ℕ) → i < cellCount → arraysOf (withBlock ws a m) .link a i ≡ links m i
-      link i w = ap linkIn (cell i w)
+    -- length 0 is the root's still: no other array has a place for it
+    not-first : 2 ≤ k + 1 → 1 ≡ 2 ^ d + x → ⊥
+    not-first z e =
+        ⊎-elim (λ (w : 1 ≤ d). omega (arith, pow-mono {i = 1} {j = d} w)) (λ (w : k ≡ 0). omega arith) (s .own)
 
-      -- length 0 is the root's still: no other array has a place for it
-      right : Right (k + 1) (slots m) (bests m)
-      right = record {
-        sound = g .sound;
-        first = λ z. g .same-slots 1 (omega arith) (omega arith) (λ e. ⊎-elim (λ (w : 1 ≤ d). omega (arith, pow-mono {i = 1} {j = d} w)) (λ (w : k ≡ 0). omega arith) (s .own))
-            ∙ block-slot ws a 1 (omega arith) ∙ s .right .first z;
-      }
+    right : Right (k + 1) (slots m) (bests m)
+    right = record {
+      sound = g .sound;
+      first = λ z. g .same-slots 1 (omega arith) (omega arith) (not-first z) ∙ block-slot 1 (omega arith) ∙ s .right .first z;
+    }
 
-      lv : lev (arraysOf (withBlock ws a m)) a ≡ k + 1
-      lv = ap levelIn tag ∙ s .level
+    seat-reslot : Reslot ws (withBlock ws a m) a (2 ^ d + x) h
+    seat-reslot =
+        let lv : lev (arraysOf vs) a ≡ k + 1 = ap levelIn tag ∙ s .level in
+        record {
+          size = with-length ws a m (s .inside) whole;
+          outside = with-other ws a m (s .inside) whole;
+          tag = tag;
+          links = λ i w. ap linkIn (cell i w) ∙ g .same-links i w ∙ lent-link ws a arrayWords refl i w;
+          here = slot (2 ^ d + x) slot-lt ∙ g .here;
+          slots = λ r l w n. slot r w ∙ g .same-slots r l w n ∙ block-slot r w;
+          right = rw lv (right-ext (k + 1) (slots m) (bests m) (slotsOf vs a) (bestsOf vs a)
+              (λ r l w. slot r w) (λ i w. ap bestIn (cell i w)) right);
+        }
 
 -- ---- a seat set to a hop, or to 0: vs is ws but for that slot and the array's best cells, and so many cells were rewritten
 
@@ -153,5 +140,7 @@ pub record Seated (ws vs : List ℕ) (a d x hop cells : ℕ) : Type 0 where
 
 -- with the words as the code has them
 pub seated : (ws vs m : List ℕ) (a k d x hop cells : ℕ) → Seat ws a k d x → Reslotted (blockOf ws a) m (2 ^ d + x) hop
-    → cells ≡ exposed (slots (blockOf ws a)) d (x * 2 ^ (8 - d)) (2 ^ (8 - d)) → vs ≡ withBlock ws a m → Seated ws vs a d x hop cells
-seated ws vs m a k d x hop cells s g c e = rw e (record { slot = seat-reslot ws a k d x s m hop g; count = c ∙ seat-exposed ws a k d x s })
+    → cells ≡ exposed (slots (blockOf ws a)) d (x * 2 ^ (8 - d)) (2 ^ (8 - d)) → vs ≡ withBlock ws a m
+    → Seated ws vs a d x hop cells
+seated ws vs m a k d x hop cells s g c e =
+    rw e (record { slot = seat-reslot ws a k d x s m hop g; count = c ∙ seat-exposed ws a k d x s })

@@ -1,5 +1,5 @@
--- What an update promises leaves no choice: two outcomes that it allows agree in the answer, in what is seen, and, refused, in every word.
--- Assumes nothing.
+-- What an update promises leaves no choice: two outcomes that it allows agree in the answer, in what is seen, and, refused, in
+-- every word. Assumes nothing.
 use mathlib.Core.Path.{_≡_, sym, _∙_}
 use mathlib.Core.Bool.{true}
 use mathlib.Core.List.{List}
@@ -10,12 +10,12 @@ use Rattle.replies.specs.Said.{saidReply, reply-one}
 use Rattle.replies.specs.declared.Reply.{Reply}
 use Rattle.update.specs.Update.{Updates}
 
-pub record Agree (vs us : List ℕ) (r s : Reply) : Type 0 where
+pub record Agree (L : ℕ) (vs us : List ℕ) (r s : Reply) : Type 0 where
   pub answer : r ≡ s
-  pub seen : seen 4 vs ≡ seen 4 us
+  pub seen : seen L vs ≡ seen L us
   pub words : isRefused (saidReply r) ≡ true → vs ≡ us
 
-pub sharp : (ws vs us : List ℕ) (u : Update) (r s : Reply) → Updates ws vs u r → Updates ws us u s → Agree vs us r s
-sharp ws vs us u r s p q =
+pub sharp : (L : ℕ) (ws vs us : List ℕ) (u : Update) (r s : Reply) → Updates L ws vs u r → Updates L ws us u s → Agree L vs us r s
+sharp L ws vs us u r s p q =
     let e : r ≡ s = reply-one r s (p .answer ∙ sym (q .answer)) in
     record { answer = e; seen = p .list ∙ sym (q .list); words = λ z. p .kept z ∙ sym (q .kept (rw e at z)) }

@@ -26,8 +26,9 @@ reslot-alike : {ws vs : List ℕ} {a s h : ℕ} → Reslot ws vs a s h → (c : 
 reslot-alike {a = a} g c n w m = g .outside (wordAt c w) (less c a (λ l _. inl (omega arith)) (λ l _. inr (omega arith)))
 
 -- arrays hung at the levels j + 1 .. k, then a slot set in the last
-module _ {L : ℕ} {ws vs us : List ℕ} {a j k b r s h : ℕ} (shape : Shape (arrayCount ws) L (arraysOf ws)) (top : k < L) (stop : Stops L ws a k j b) (g : Grown L ws vs a j k r)
-    (re : Reslot vs us r s h) (sl : Slotted (arraysOf vs) (arraysOf us) r s h) where
+module _ {L : ℕ} {ws vs us : List ℕ} {a j k b r s h : ℕ} (shape : Shape (arrayCount ws) L (arraysOf ws)) (top : k < L)
+    (stop : Stops L ws a k j b) (g : Grown L ws vs a j k r) (re : Reslot vs us r s h)
+    (sl : Slotted (arraysOf vs) (arraysOf us) r s h) where
   hung-touched : (c i : ℕ) → j ≤ i → i ≤ k → node (arraysOf vs) (front L a i) i ≡ c → Touched L (arraysOf us) (arraysOf ws) a k c
   hung-touched c i lo hi e = record {
     i = i;
@@ -38,33 +39,38 @@ module _ {L : ℕ} {ws vs us : List ℕ} {a j k b r s h : ℕ} (shape : Shape (a
 
   pub spared-hung : (c : ℕ) → 1 ≤ c → ¬ Touched L (arraysOf us) (arraysOf ws) a k c → Alike ws us c
   spared-hung c l n w m =
-      reslot-alike re c (λ e. n (hung-touched c k (stop .low) (omega arith) (g .leads ∙ sym e))) w m ∙ g .others c l (λ i lo hi e. n (hung-touched c i lo hi e)) w m
+      reslot-alike re c (λ e. n (hung-touched c k (stop .low) (omega arith) (g .leads ∙ sym e))) w m
+      ∙ g .others c l (λ i lo hi e. n (hung-touched c i lo hi e)) w m
 
 up-zero : (t : Arrays) (b : ℕ) → up t 0 b ≡ b
 unfolding up
 up-zero t b = refl
 
 -- the arrays above an array of a path are those of the path
-up-front : (A L : ℕ) (t : Arrays) (a k b : ℕ) → Shape A L t → k < L → node t (front L a k) k ≡ b → 1 ≤ b → (n : ℕ) → n ≤ k → up t n b ≡ node t (front L a (k - n)) (k - n)
+up-front : (A L : ℕ) (t : Arrays) (a k b : ℕ) → Shape A L t → k < L → node t (front L a k) k ≡ b → 1 ≤ b → (n : ℕ) → n ≤ k
+    → up t n b ≡ node t (front L a (k - n)) (k - n)
 unfolding up
 up-front A L t a k b s top e h zero w = let z : k - 0 ≡ k = omega arith in rw z (sym e)
 up-front A L t a k b s top e h (suc n) w =
     let i = k - suc n in
     let z : k - n ≡ suc i = omega arith in
     let q : n + (k - n) ≡ k = omega arith in
-    let o : 1 ≤ node t (front L a (suc i)) (suc i) = rw (← z, ← (front-up L a n (k - n) k q (omega arith))) (node-above A L t s n (front L a k) (k - n) (rw (q, e) h)) in
+    let o : 1 ≤ node t (front L a (suc i)) (suc i) =
+    rw (← z, ← (front-up L a n (k - n) k q (omega arith))) (node-above A L t s n (front L a k) (k - n) (rw (q, e) h)) in
     let x = node-tag A L t s (front L a (suc i)) i o in
     let y : front L a (suc i) / 256 ≡ front L a i = front-up L a 1 i (suc i) (omega arith) (omega arith) in
     let l = node-level A L t s (front L a (suc i)) (suc i) o .level in
+    let tag = t .tag (node t (front L a (suc i)) (suc i)) in
     ap (par t) (up-front A L t a k b s top e h n (omega arith) ∙ ap (λ (m : ℕ). node t (front L a m) m) z)
-    ∙ (rw y at (up-tag (node t (front L a (suc i) / 256) i) (front L a (suc i)) i (t .tag (node t (front L a (suc i)) (suc i))) x l))
+    ∙ (rw y at (up-tag (node t (front L a (suc i) / 256) i) (front L a (suc i)) i tag x l))
   where
     up-tag : (p v i z : ℕ) → z ≡ tagOf p (v % 256) (i + 2) → levelIn z ≡ suc i + 1 → parentIn z ≡ p
     up-tag p v i z e l = omega arith
 
 -- a slot cleared in the array of level k, then it and those above it released while empty
-module _ {L : ℕ} {ws vs us : List ℕ} {a k b s h m : ℕ} (shape : Shape (arrayCount vs) L (arraysOf vs)) (left : Shape (arrayCount us) L (arraysOf us)) (top : k < L)
-    (on : On L vs a k b) (re : Reslot ws vs b s h) (sl : Slotted (arraysOf ws) (arraysOf vs) b s h) (f : Freed vs us b m) (deep : m ≤ k) where
+module _ {L : ℕ} {ws vs us : List ℕ} {a k b s h m : ℕ} (shape : Shape (arrayCount vs) L (arraysOf vs))
+    (left : Shape (arrayCount us) L (arraysOf us)) (top : k < L) (on : On L vs a k b) (re : Reslot ws vs b s h)
+    (sl : Slotted (arraysOf ws) (arraysOf vs) b s h) (f : Freed vs us b m) (deep : m ≤ k) where
   -- what is free is on no path
   off : (v i : ℕ) → arraysOf us .tag (node (arraysOf vs) v i) ≡ 0 → node (arraysOf us) v i ≡ 0
   off v i z =
@@ -76,18 +82,25 @@ module _ {L : ℕ} {ws vs us : List ℕ} {a k b s h m : ℕ} (shape : Shape (arr
       (λ (e : node (arraysOf us) v i ≡ 0). e)
       (f .paths v i))
 
+  -- the array n levels above b
+  above : (n : ℕ) → n ≤ k → up (arraysOf vs) n b ≡ node (arraysOf vs) (front L a (k - n)) (k - n)
+  above = up-front (arrayCount vs) L (arraysOf vs) a k b shape top (on .leads) (on .some)
+
   freed-touched : (c n : ℕ) → n ≤ m → up (arraysOf vs) n b ≡ c → Touched L (arraysOf ws) (arraysOf us) a k c
   freed-touched c n w e = record {
     i = k - n;
     high = omega arith;
-    on = sym (same-node (arraysOf ws) (arraysOf vs) (sl .tags) (sl .links) (front L a (k - n)) (k - n)) ∙ sym (up-front (arrayCount vs) L (arraysOf vs) a k b shape top (on .leads) (on .some) n (omega arith)) ∙ e;
+    on =
+        sym (same-node (arraysOf ws) (arraysOf vs) (sl .tags) (sl .links) (front L a (k - n)) (k - n))
+        ∙ sym (above n (omega arith)) ∙ e;
     edge = same n 0
         (λ q _. inl (omega arith))
         (λ q _. inr (let z : k - (n - 1) ≡ suc (k - n) = omega arith in
         rw (← z) (off (front L a (k - (n - 1))) (k - (n - 1))
-        (rw (← (up-front (arrayCount vs) L (arraysOf vs) a k b shape top (on .leads) (on .some) (n - 1) (omega arith))) (f .gone (n - 1) (omega arith))))));
+        (rw (← (above (n - 1) (omega arith))) (f .gone (n - 1) (omega arith))))));
   }
 
   pub spared-freed : (c : ℕ) → 1 ≤ c → ¬ Touched L (arraysOf ws) (arraysOf us) a k c → Alike ws us c
   spared-freed c l n w x =
-      f .others c l (λ i lo e. n (freed-touched c i lo e)) w x ∙ reslot-alike re c (λ e. n (freed-touched c 0 (omega arith) (up-zero (arraysOf vs) b ∙ sym e))) w x
+      f .others c l (λ i lo e. n (freed-touched c i lo e)) w x
+      ∙ reslot-alike re c (λ e. n (freed-touched c 0 (omega arith) (up-zero (arraysOf vs) b ∙ sym e))) w x

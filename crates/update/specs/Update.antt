@@ -1,5 +1,5 @@
--- What announce and withdraw promise. An answer is a reply of document 01; the words are seen before and after; what is refused, or
--- leaves the list as it is, changes nothing. Assumes nothing.
+-- What announce and withdraw promise. An answer is a reply of document 01; the words are seen before and after; what is refused,
+-- or leaves the list as it is, changes nothing. Assumes nothing.
 use mathlib.Core.Path.{_≡_}
 use mathlib.Core.Bool.{true, cond}
 use mathlib.Core.List.{List}
@@ -22,8 +22,8 @@ use Rattle.replies.specs.declared.Reply.{Reply}
 
 -- ---- which arrays may differ
 
--- array c stands on the path of address a in the larger of two tables, at the route's own level k, or above an array of the path that
--- the smaller lacks: that array was gained or freed, and c was linked to it
+-- array c stands on the path of address a in the larger of two tables, at the route's own level k, or above an array of the path
+-- that the smaller lacks: that array was gained or freed, and c was linked to it
 pub record Touched (L : ℕ) (big small : Arrays) (a k c : ℕ) : Type 0 where
   pub i : ℕ
   pub high : i ≤ k
@@ -35,14 +35,14 @@ abbrev pub Touches : ℕ → Update → List ℕ → List ℕ → ℕ → Type 0
 Touches L (announce a l h) ws vs c = Touched L (arraysOf vs) (arraysOf ws) a (level l) c
 Touches L (withdraw a l) ws vs c = Touched L (arraysOf ws) (arraysOf vs) a (level l) c
 
--- ---- any words ws become vs
+-- ---- any words ws become vs, seen as tables of L levels
 
-pub record Updates (ws vs : List ℕ) (u : Update) (r : Reply) : Type 0 where
-  pub answer : saidReply r ≡ answerOn 32 (seen 4 ws) u
-  pub list : seen 4 vs ≡ afterOn 32 (seen 4 ws) u
+pub record Updates (L : ℕ) (ws vs : List ℕ) (u : Update) (r : Reply) : Type 0 where
+  pub answer : saidReply r ≡ answerOn (8 * L) (seen L ws) u
+  pub list : seen L vs ≡ afterOn (8 * L) (seen L ws) u
   pub kept : isRefused (saidReply r) ≡ true → vs ≡ ws
-  pub still : seen 4 vs ≡ seen 4 ws → vs ≡ ws
-  pub frame : (c : ℕ) → 1 ≤ c → ¬ Touches 4 u ws vs c → Alike ws vs c
+  pub still : seen L vs ≡ seen L ws → vs ≡ ws
+  pub frame : (c : ℕ) → 1 ≤ c → ¬ Touches L u ws vs c → Alike ws vs c
 
 -- ---- the same of a table, once the update itself is without fault
 
@@ -61,6 +61,7 @@ abbrev pub faultOf : ℕ → Update → ℕ
 faultOf W (announce a l h) = cond (tooLong W l) 3 (cond (stray W a l) 4 (cond (badHop h) 5 0))
 faultOf W (withdraw a l) = cond (tooLong W l) 3 (cond (stray W a l) 4 0)
 
--- the first number before the work, 0 where there is none: 1 for the size, the update's own fault f, 2 for words that are no table
+-- the first number before the work, 0 where there is none: 1 for the size, the update's own fault f, 2 for words that are no
+-- table
 abbrev pub refusalOf : List ℕ → ℕ → ℕ
 refusalOf ws f = cond (misfits (length ws)) 1 (cond (eqb f 0) (cond (tableB 4 ws) 0 2) f)

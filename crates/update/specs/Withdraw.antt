@@ -19,7 +19,7 @@ use Rattle.laws.specs.Collect.{routes-from}
 use Rattle.routes.specs.Collect.{routeOf}
 use Rattle.array.specs.Tag.{levelIn}
 use Rattle.tree.specs.Arrays.{held}
-use Rattle.words.specs.Words.{arraysOf, arrayCount, slotsOf}
+use Rattle.words.specs.Words.{arraysOf, arrayCount}
 use Rattle.words.specs.Table.{listOf}
 use Rattle.tree.specs.Tree.{Level, node-level}
 use Rattle.tree.specs.Slot.{Place, Slotted, same-node, slotted-remove}
@@ -28,23 +28,23 @@ use Rattle.numbers.specs.Front.{front}
 use Rattle.address.specs.Address.{stands-level}
 use Rattle.paths.specs.Stop.{On}
 use Rattle.paths.specs.Shrunk.{Loose, Pruned}
-use Rattle.paths.specs.Held.{stands-route, hopFound, Sought, sought-place, sought-held}
+use Rattle.paths.specs.Held.{Sought, sought-wide, sought-route, sought-place, sought-held}
 use Rattle.replies.specs.declared.Reply.the-variants.{Done, Refused}
 use Rattle.update.specs.Update.{Applies}
 use Rattle.update.specs.Seat.{Seat, Seated, seat-at}
 use Rattle.update.specs.Announce.{refuses, same-list}
-use Rattle.update.specs.Cells.{cells-exposed}
+use Rattle.update.specs.Cells.{cells-place}
 use Rattle.update.specs.Spared.{spared-freed}
 
-module _ {L : ℕ} {ws : List ℕ} {a l k d x j b : ℕ} (s : Sought L ws a l k d x j b) where
+module _ {L : ℕ} {ws : List ℕ} {a l k d x j b g : ℕ} (s : Sought L ws a l k d x j b g) where
   -- 7: the prefix is not held
-  pub withdraw-none : hopFound ws b j k d x ≡ 0 → Applies L ws ws (withdraw a l) (Refused 7)
+  pub withdraw-none : g ≡ 0 → Applies L ws ws (withdraw a l) (Refused 7)
   withdraw-none e = refuses L ws (withdraw a l) 7 (s .ok) (rw (eq-eqb (list.held (listOf L ws) a l) 0 (sym (sought-held s) ∙ e)))
 
-  module _ (some : hopFound ws b j k d x ≢ 0) where
+  module _ (some : g ≢ 0) where
     -- the path goes all the way down
     arrived : j ≡ k
-    arrived = same j k (λ e _. e) (λ n t. absurd (some (rw t)))
+    arrived = same j k (λ e _. e) (λ n t. absurd (some (s .hop ∙ rw t)))
 
     place : Place (arrayCount ws) L (arraysOf ws) b (front L a k) k d x
     place = sought-place s arrived
@@ -52,14 +52,10 @@ module _ {L : ℕ} {ws : List ℕ} {a l k d x j b : ℕ} (s : Sought L ws a l k 
     pub withdraw-seat : Seat ws b k d x
     withdraw-seat = seat-at L 0 ws b (front L a k) k d x (s .ok) place
 
-    withdraw-slot : slotsOf ws b (2 ^ d + x) ≡ hopFound ws b j k d x
-    withdraw-slot = rw (eq-eqb j k arrived)
-
-    pub withdraw-taken : 1 ≤ slotsOf ws b (2 ^ d + x)
-    withdraw-taken = rw withdraw-slot (omega arith)
-
     lv : Level (arrayCount ws) (arraysOf ws) b k
-    lv = rw (place .leads) at (node-level (arrayCount ws) L (arraysOf ws) (s .ok .shape) (front L a k) k (rw (place .leads) (place .array)))
+    lv =
+        rw (place .leads) at
+        (node-level (arrayCount ws) L (arraysOf ws) (s .ok .shape) (front L a k) k (rw (place .leads) (place .array)))
 
     used : 1 ≤ getD ws (arrayAt b) 0
     used = omega (arith, lv .level)
@@ -84,19 +80,22 @@ module _ {L : ℕ} {ws : List ℕ} {a l k d x j b : ℕ} (s : Sought L ws a l k 
         within = withdraw-loose .within;
       }
 
-      pub withdraw-done : (us : List ℕ) (h : ℕ) → Pruned L vs us b → h ≡ slotsOf ws b (2 ^ d + x) → Applies L ws us (withdraw a l) (Done h c)
-      withdraw-done us h pu eh = record {
+      pub withdraw-done : (us : List ℕ) → Pruned L vs us b → Applies L ws us (withdraw a l) (Done g c)
+      withdraw-done us pu = record {
         answer =
             rw (ne-eqb (list.held (listOf L ws) a l) 0 (λ z. some (sought-held s ∙ z)))
-            (ap₂ done (eh ∙ withdraw-slot ∙ sought-held s)
-            (p .count ∙ cells-exposed L (arraysOf ws) b (front L a k) k wide (s .stands .top) (place .leads) (place .array) (place .head) d x 0 (place .deep) (place .own) (place .small)
+            (ap₂ done (sought-held s)
+            (p .count ∙ cells-place (arrayCount ws) L (arraysOf ws) b (front L a k) k d x 0 wide (s .stands .top) place
             ∙ ap (λ (r : Route). cells (8 * L) r (listOf L ws)) same-route));
         table = pu .ok;
         size = pu .freed .size ∙ p .slot .size;
         list = without-route;
         kept = λ e. absurd (false≢true e);
-        still = λ e. absurd (some (sought-held s ∙ ap (λ (rs : List Route). list.held rs a l) (sym e ∙ without-route) ∙ remove-same 0 (a * 256 + l) (listOf L ws) (routes-from (8 * L) wide (held (arraysOf ws)))));
-        frame = λ c h n. spared-freed (withdraw-loose .ok .shape) (pu .ok .shape) (s .stands .top) on (p .slot) slotted (pu .freed) deep c h (rw (stands-level L a l k d x (s .stands)) at n);
+        still = λ e. absurd (some (sought-held s ∙ ap (λ (rs : List Route). list.held rs a l) (sym e ∙ without-route)
+            ∙ remove-same 0 (a * 256 + l) (listOf L ws) (routes-from (8 * L) wide (held (arraysOf ws)))));
+        frame = λ c h n.
+            spared-freed (withdraw-loose .ok .shape) (pu .ok .shape) (s .stands .top) on (p .slot) slotted (pu .freed) deep c h
+            (rw (stands-level L a l k d x (s .stands)) at n);
       }
         where
           -- fewer are released than there are levels down to the array's
@@ -104,10 +103,10 @@ module _ {L : ℕ} {ws : List ℕ} {a l k d x j b : ℕ} (s : Sought L ws a l k 
           deep = omega (arith, pu .level, ap levelIn (p .slot .tag), lv .level)
 
           wide : 8 * L < 256
-          wide = omega (arith, s .ok .shape .levels)
+          wide = sought-wide s
 
           same-route : routeOf (8 * L - (8 * k + d)) (front L a k * 2 ^ d + x) (8 * k + d) 0 ≡ route a l 0
-          same-route = stands-route L a l k d x (s .stands) (s .prefix) (s .inside) 0
+          same-route = sought-route s 0
 
           without-route : listOf L us ≡ remove (a * 256 + l) (listOf L ws)
           without-route =

@@ -13,13 +13,13 @@ use Rattle.paths.proofs.prune.Statement.{statement}
 use Rattle.paths.proofs.prune.Tie as tie
 
 abbrev Inv-loop : tie.InvT-loop
-Inv-loop words₀ a b₀ words b = Shrunk 4 words₀ words a b
+Inv-loop words₀ levels a b₀ words b = Shrunk levels words₀ words a b
 
 abbrev μ-loop : tie.MeasureT-loop
-μ-loop words₀ a b₀ words b = levelIn (getD words (arrayAt b) 0)
+μ-loop words₀ levels a b₀ words b = levelIn (getD words (arrayAt b) 0)
 
 loop-holds : tie.Need-loop-holds Inv-loop μ-loop
-loop-holds c = shrunk-none 4 (c .before .args .words .now) (c .before .args .a) (c .before .pre)
+loop-holds c = shrunk-none (c .before .args .levels) (c .before .args .words .now) (c .before .args .a) (c .before .pre)
 
 empty-requires : tie.Need-empty-requires Inv-loop μ-loop
 empty-requires c κs =

@@ -1,37 +1,44 @@
 -- `update::announce_on` meets its contract: a fault is refused as on any words of the right size, and the work's promise on a table is the
 -- call's. Assumes nothing.
 use mathlib.Core.Path.{_≡_, sym, _∙_}
+use Prim.Native.Nat.{_*_}
+use lib.ListN.{length as size}
 use borrow.Author.Needs.{needs}
 use Rattle.routes.specs.Answers.{announce as update}
+use Rattle.numbers.specs.Number.{number}
 use Rattle.update.specs.Update.{faultOf}
 use Rattle.update.specs.Refuse.{refuses-table, sound-route, applied}
 use Rattle.update.proofs.announce_on.Statement.{statement}
 use Rattle.update.proofs.announce_on.Tie as tie
 
 -- past the test the update has no fault
-clean : (c : tie.Else1) → faultOf 32 (update (c .before .before .before .args .address) (c .before .before .before .args .length) (c .before .before .before .args .hop)) ≡ 0
+clean : (c : tie.Else1)
+    → (let t = c .before .before .before .before in let b = t .args .address .now in
+    faultOf (8 * size b) (update (number b) (t .args .length) (t .args .hop)) ≡ 0)
 clean c = sym (c .before .route-fault .ensures) ∙ c .if1 .left
 
 route-fault-requires : tie.Need-route-fault-requires
 route-fault-requires c κs = search needs
 
 returns : tie.Need-returns
-returns c = refuses-table _ _ _ (c .before .before .before .pre) (c .before .route-fault .ensures) (c .if1 .taken)
+returns c = refuses-table _ _ _ _ (c .before .before .before .before .pre) (c .before .route-fault .ensures) (c .if1 .taken)
 
 announce-in-requires : tie.Need-announce-in-requires
 announce-in-requires c κs =
-    let t = c .before .before .before .before in
-    let s = sound-route (t .args .address) (t .args .length) (t .args .hop) (clean (c .before)) in
-    (t .pre, s .0, s .1, s .2)
+    let t = c .before .before .before .before .before in
+    let b = t .args .address .now in
+    let s = sound-route (size b) (number b) (t .args .length) (t .args .hop) (clean (c .before)) in
+    ((t .pre, s .0), (s .1, s .2))
 
 same-length : tie.Need-same-length
 same-length c = search needs
 
 returns-2 : tie.Need-returns-2
 returns-2 c =
-    let t = c .before .before .before .before .before .before .before in
+    let f = c .before .before .before .before in
+    let t = f .before .before .before .before in
     let w = c .before .before .announce-in in
-    applied (t .args .words .now) (w .last .0) _ (w .result) (t .pre) (clean (c .before .before .before .before)) (w .ensures)
+    applied (size (t .args .address .now)) (t .args .words .now) (w .last .0) _ (w .result) (t .pre) (clean f) (w .ensures)
 
 pub announce-on-spec : {M : Type 1} → statement M
 announce-on-spec =

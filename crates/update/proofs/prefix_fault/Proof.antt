@@ -1,27 +1,44 @@
 -- `update::prefix_fault` meets its contract: the tests stand in document 01's order. Assumes nothing.
-use mathlib.Core.Path.{_∙_}
-use Prim.Native.Nat.{_-_, _%_, _^_}
+use mathlib.Core.Path.{_≡_, sym, _∙_}
+use mathlib.Core.Bool.{true, false}
+use Prim.Native.Nat.{_*_}
 use native.Mathlib.Omega.{arith}
-use borrow.Author.Tests.{lt-ltb, le-ltb, eq-eqb, ne-eqb}
+use lib.ListN.{length as size}
+use borrow.Author.Tests.{lt-ltb, le-ltb}
 use borrow.Author.Needs.{needs}
+use Rattle.routes.specs.Route.{stray}
+use Rattle.numbers.specs.Number.{number}
 use Rattle.update.proofs.prefix_fault.Statement.{statement}
 use Rattle.update.proofs.prefix_fault.Tie as tie
 
-returns : tie.Need-returns
-returns c = rw (lt-ltb 32 (c .before .args .length) (c .if1 .taken))
+cast-width : tie.Need-cast-width
+cast-width c = search needs
 
-low-bits-requires : tie.Need-low-bits-requires
-low-bits-requires c κs = search needs
+mul-width : tie.Need-mul-width
+mul-width c = search needs
+
+returns : tie.Need-returns
+returns c =
+    let a = c .before .before .args in
+    rw (lt-ltb (8 * size (a .address .now)) (a .length) (omega arith))
+
+stray-requires : tie.Need-stray-requires
+stray-requires c κs = search needs
 
 returns-2 : tie.Need-returns-2
 returns-2 c =
-    let a = c .before .before .before .args in
-    rw (le-ltb 32 (a .length) (omega arith), ne-eqb (a .address % 2 ^ (32 - a .length)) 0 (λ z. c .if2 .taken (c .before .low-bits .ensures ∙ z)))
+    let a = c .before .before .before .before .args in
+    let b = a .address .now in
+    let e : stray (8 * size b) (number b) (a .length) ≡ true = sym (c .before .stray .ensures) ∙ c .if2 .taken in
+    rw (le-ltb (8 * size b) (a .length) (omega arith), e)
 
 returns-3 : tie.Need-returns-3
 returns-3 c =
-    let a = c .before .before .before .args in
-    rw (le-ltb 32 (a .length) (omega arith), eq-eqb (a .address % 2 ^ (32 - a .length)) 0 (omega arith))
+    let a = c .before .before .before .before .args in
+    let b = a .address .now in
+    let e : stray (8 * size b) (number b) (a .length) ≡ false = sym (c .before .stray .ensures) ∙ c .if2 .left in
+    rw (le-ltb (8 * size b) (a .length) (omega arith), e)
 
 pub prefix-fault-spec : {M : Type 1} → statement M
-prefix-fault-spec = tie.close (tie.spec returns low-bits-requires returns-2 returns-3)
+prefix-fault-spec =
+    tie.close (tie.spec cast-width mul-width returns stray-requires returns-2 returns-3)

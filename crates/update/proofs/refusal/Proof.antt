@@ -26,10 +26,18 @@ is-table-requires : tie.Need-is-table-requires
 is-table-requires c κs = fits (c .before)
 
 returns-3 : tie.Need-returns-3
-returns-3 c = let a = c .before .before .before .before .before .before .args in refusal-foreign (a .words .now) (a .fault) (fits (c .before .before .before)) (c .before .before .if2 .left) (sym (c .before .is-table .ensures) ∙ not-true _ (c .if3 .taken))
+returns-3 c =
+    let f = c .before .before in
+    let a = f .before .before .before .before .args in
+    refusal-foreign (a .words .now) (a .fault) (fits (f .before)) (f .if2 .left)
+    (sym (c .before .is-table .ensures) ∙ not-true _ (c .if3 .taken))
 
 returns-4 : tie.Need-returns-4
-returns-4 c = let a = c .before .before .before .before .before .before .args in refusal-none (a .words .now) (a .fault) (fits (c .before .before .before)) (c .before .before .if2 .left) (sym (c .before .is-table .ensures) ∙ not-false _ (c .if3 .left))
+returns-4 c =
+    let f = c .before .before in
+    let a = f .before .before .before .before .args in
+    refusal-none (a .words .now) (a .fault) (fits (f .before)) (f .if2 .left)
+    (sym (c .before .is-table .ensures) ∙ not-false _ (c .if3 .left))
 
 pub refusal-spec : {M : Type 1} → statement M
 refusal-spec =

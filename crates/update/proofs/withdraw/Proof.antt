@@ -1,8 +1,11 @@
--- `update::withdraw` meets its contract: by the number that stands before the work, or by the work's promise on a table. Assumes nothing.
+-- `update::withdraw` meets its contract: by the number that stands before the work, or by the work's promise on a table. The bytes lent are
+-- the address. Assumes nothing.
 use mathlib.Core.Path.{_≡_, sym, ap, _∙_}
+use native.Mathlib.Omega.{arith}
 use borrow.Author.Needs.{needs}
 use Rattle.routes.specs.Answers.{withdraw as update}
 use Rattle.words.specs.Almost.{Table}
+use Rattle.address.specs.Four.{four-number}
 use Rattle.update.specs.Update.{faultOf, refusalOf}
 use Rattle.update.specs.Refuse.{refused-by, passed, sound-prefix, applied}
 use Rattle.update.proofs.withdraw.Statement.{statement}
@@ -10,13 +13,25 @@ use Rattle.update.proofs.withdraw.Tie as tie
 
 -- the number is the first of size, fault and table
 first : (c : tie.After-refusal)
-    → c .refusal .result ≡ refusalOf (c .before .before .before .before .args .words .now) (faultOf 32 (update (c .before .before .before .before .args .address) (c .before .before .before .before .args .length)))
-first c = c .refusal .ensures ∙ ap (refusalOf (c .before .before .before .before .args .words .now)) (c .before .prefix-fault .ensures)
+    → (let t = c .before .before .before .before .before .before in
+    c .refusal .result ≡ refusalOf (t .args .words .now) (faultOf 32 (update (t .args .address) (t .args .length))))
+first c =
+    let b = c .before .before .before .before in
+    let t = b .before .before in
+    let e = four-number (t .args .address) (omega arith) in
+    c .refusal .ensures ∙ ap (refusalOf (t .args .words .now)) (rw (b .four-of .ensures, e) at (c .before .prefix-fault .ensures))
 
 -- past the test the words are a table and the update has no fault
 clear : (c : tie.Else1)
-    → Table 4 (c .before .before .before .before .before .args .words .now) × (faultOf 32 (update (c .before .before .before .before .before .args .address) (c .before .before .before .before .before .args .length)) ≡ 0)
+    → (let t = c .before .before .before .before .before .before .before in
+    Table 4 (t .args .words .now) × (faultOf 32 (update (t .args .address) (t .args .length)) ≡ 0))
 clear c = passed _ _ (sym (first (c .before)) ∙ c .if1 .left)
+
+four-of-requires : tie.Need-four-of-requires
+four-of-requires c κs = search needs
+
+slice-aggregate-prefix-fault : tie.Need-slice-aggregate-prefix-fault
+slice-aggregate-prefix-fault c = search needs
 
 prefix-fault-requires : tie.Need-prefix-fault-requires
 prefix-fault-requires c κs = search needs
@@ -30,30 +45,41 @@ same-length c = search needs
 returns : tie.Need-returns
 returns c = refused-by _ _ _ (first (c .before)) (c .if1 .taken)
 
+slice-aggregate-withdraw-in : tie.Need-slice-aggregate-withdraw-in
+slice-aggregate-withdraw-in c = search needs
+
 withdraw-in-requires : tie.Need-withdraw-in-requires
 withdraw-in-requires c κs =
-    let t = c .before .before .before .before .before .before in
-    let s = sound-prefix (t .args .address) (t .args .length) (clear (c .before) .1) in
-    (clear (c .before) .0, s)
+    let b = c .before .before .before .before .before .before .before in
+    let t = b .before .before in
+    let p = clear (c .before .before) in
+    let s = sound-prefix 4 (t .args .address) (t .args .length) (p .1) in
+    rw (b .four-of .ensures, four-number (t .args .address) (omega arith)) (p .0, s)
 
 same-length-2 : tie.Need-same-length-2
 same-length-2 c = search needs
 
 returns-2 : tie.Need-returns-2
 returns-2 c =
-    let t = c .before .before .before .before .before .before .before .before .before in
     let w = c .before .before .withdraw-in in
-    let p = clear (c .before .before .before .before) in
-    applied (t .args .words .now) (w .last .0) _ (w .result) (p .0) (p .1) (w .ensures)
+    let f = c .before .before .before .before .before in
+    let b = f .before .before .before .before .before in
+    let t = b .before .before in
+    let p = clear f in
+    let g = rw (b .four-of .ensures, four-number (t .args .address) (omega arith)) at (w .ensures) in
+    applied 4 (t .args .words .now) (w .last .0) _ (w .result) (p .0) (p .1) g
 
 pub withdraw-spec : {M : Type 1} → statement M
 withdraw-spec =
     tie.close
     (tie.spec
+    four-of-requires
+    slice-aggregate-prefix-fault
     prefix-fault-requires
     refusal-requires
     same-length
     returns
+    slice-aggregate-withdraw-in
     withdraw-in-requires
     same-length-2
     returns-2)

@@ -1,0 +1,61 @@
+-- `update::reslot` meets its contract: what the floor of one block promises of the lent block holds of the array in the words. Assumes nothing.
+use mathlib.Core.Path.{_≡_, refl}
+use Prim.Native.Nat.{_+_, _-_}
+use native.Mathlib.Omega.{arith}
+use Rattle.sizes.specs.Sizes.{arrayWords, arrayAt}
+use Rattle.update.specs.Seat.{seat-spot, seated}
+use borrow.Author.Needs.{needs}
+use Rattle.update.proofs.reslot.Statement.{statement}
+use Rattle.update.proofs.reslot.Tie as tie
+
+mul-from : tie.Need-mul-from
+mul-from c = search needs
+
+add-to : tie.Need-add-to
+add-to c = search needs
+
+mul-reslot : tie.Need-mul-reslot
+mul-reslot c = search needs
+
+sub-reslot : tie.Need-sub-reslot
+sub-reslot c = search needs
+
+part-reslot-start : tie.Need-part-reslot-start
+part-reslot-start c = search needs
+
+part-reslot-end : tie.Need-part-reslot-end
+part-reslot-end c = search needs
+
+reslot-requires : tie.Need-reslot-requires
+reslot-requires c κs =
+    let t = c .before .before in
+    let p = t .args .p in
+    let e : arrayAt (t .args .a) + arrayWords - arrayAt (t .args .a) ≡ arrayWords = omega arith in
+    (rw e (seat-spot (t .args .words .now) (t .args .a) (p .level) (p .depth) (p .value) (t .pre .0)), t .pre .1)
+
+same-length : tie.Need-same-length
+same-length c = search needs
+
+returns : tie.Need-returns
+returns c =
+    let t = c .before .before .before .before .before in
+    let p = t .args .p in
+    let e : arrayAt (t .args .a) + arrayWords - arrayAt (t .args .a) ≡ arrayWords = omega arith in
+    let r = c .before .before .reslot in
+    let g = rw e at (r .ensures) in
+    rw e (seated (t .args .words .now) _ (r .last .0) (t .args .a) (p .level) (p .depth) (p .value) (t .args .hop) (r .result)
+    (t .pre .0) (g .0) (g .1) refl)
+
+pub reslot-spec : {M : Type 1} → statement M
+reslot-spec =
+    tie.close
+    (tie.spec
+    mul-from
+    add-to
+    mul-reslot
+    sub-reslot
+    part-reslot-start
+    part-reslot-end
+    reslot-requires
+    same-length
+    returns)
