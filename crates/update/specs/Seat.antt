@@ -21,7 +21,7 @@ use Rattle.words.specs.Almost.{Almost}
 use Rattle.tree.specs.Tree.{node-level}
 use Rattle.tree.specs.Slot.{Place}
 use Rattle.words.specs.Reslot.{Reslot}
-use Rattle.words.specs.Lent.{slot as lent-slot, best as lent-best, link as lent-link}
+use Rattle.words.specs.Lent.{lent-slot, lent-best, lent-link}
 
 -- array a, of level k, is right, and has a slot of length d and value x
 pub record Seat (ws : List ℕ) (a k d x : ℕ) : Type 0 where
@@ -63,7 +63,7 @@ module _ (f g : ℕ → ℕ) (e : (s : ℕ) → s < slotEnd → f s ≡ g s) whe
 
 module _ (ws : List ℕ) (a k d x : ℕ) (s : Seat ws a k d x) where
   block-slot : (r : ℕ) → r < slotEnd → slots (blockOf ws a) r ≡ slotsOf ws a r
-  block-slot = lent-slot ws a arrayWords refl
+  block-slot = lent-slot ws a
 
   pub seat-spot : Spot (blockOf ws a) d x
   seat-spot = record {
@@ -71,7 +71,7 @@ module _ (ws : List ℕ) (a k d x : ℕ) (s : Seat ws a k d x) where
     depth = s .deep;
     value = s .small;
     sound = right-ext (k + 1) (slotsOf ws a) (bestsOf ws a) (slots (blockOf ws a)) (bests (blockOf ws a))
-        (λ r l h. block-slot r h) (lent-best ws a arrayWords refl) (s .right) .sound;
+        (λ r l h. block-slot r h) (lent-best ws a) (s .right) .sound;
   }
 
   slot-lt : 2 ^ d + x < slotEnd
@@ -125,7 +125,7 @@ module _ (ws : List ℕ) (a k d x : ℕ) (s : Seat ws a k d x) where
           size = with-length ws a m (s .inside) whole;
           outside = with-other ws a m (s .inside) whole;
           tag = tag;
-          links = λ i w. ap linkIn (cell i w) ∙ g .same-links i w ∙ lent-link ws a arrayWords refl i w;
+          links = λ i w. ap linkIn (cell i w) ∙ g .same-links i w ∙ lent-link ws a i w;
           here = slot (2 ^ d + x) slot-lt ∙ g .here;
           slots = λ r l w n. slot r w ∙ g .same-slots r l w n ∙ block-slot r w;
           right = rw lv (right-ext (k + 1) (slots m) (bests m) (slotsOf vs a) (bestsOf vs a)
