@@ -62,7 +62,7 @@ fn run_table(words: &mut [u32], feed: &[u8], reply: &mut [u8]) -> Report
     };
     let mut stop = p.halt(feed, room);
     while stop == 5 {
-        p = p.record(words, feed, reply);
+        p = p.answer_next(words, feed, reply);
         stop = p.halt(feed, room);
     }
     Report {
@@ -110,7 +110,7 @@ impl Progress {
     }
 
     // Answers the record that is next, and hands back how far the run has come then.
-    fn record(self, words: &mut [u32], feed: &[u8], reply: &mut [u8]) -> Progress
+    fn answer_next(self, words: &mut [u32], feed: &[u8], reply: &mut [u8]) -> Progress
         requires { ⌜ Takes self (now words) (now feed) (now reply) ⌝ }
         ensures { λ r. ⌜ Took self (now (words .entry)) (now (feed .entry)) (now (reply .entry)) r (now (words .exit)) (now (reply .exit)) ⌝ }
     {
@@ -187,7 +187,7 @@ fn lookup(words: &[u32], feed: &[u8], at: usize) -> Reply
     requires { ⌜ IsTable (seen 4 (now words)) × (at + 5 ≤ length (now feed)) ⌝ }
     ensures { λ r. ⌜ Asked (now (words .entry)) (lookupAt (now (feed .entry)) at) (saidReply r) (now (words .entry)) ⌝ }
 {
-    lookup::lookup_on(words, numbers::four_at(feed, at + 1))
+    lookup::lookup_on(words, &feed[at + 1..at + 5])
 }
 
 // 1 for an update that was done.

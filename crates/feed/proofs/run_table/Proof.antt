@@ -19,17 +19,17 @@ halt-requires c κs = (omega arith, omega arith)
 loop-holds : tie.Need-loop-holds Inv-loop μ-loop
 loop-holds c = start _ _ _ _ (c .before .before .before .before .pre) (c .halt .ensures)
 
-record-requires : tie.Need-record-requires Inv-loop μ-loop
-record-requires c κs = going-takes _ _ _ _ _ _ _ (c .before .before .before .loop .inv) (c .before .before .loop-test .taken)
+answer-next-requires : tie.Need-answer-next-requires Inv-loop μ-loop
+answer-next-requires c κs = going-takes _ _ _ _ _ _ _ (c .before .before .before .loop .inv) (c .before .before .loop-test .taken)
 
 halt-requires-2 : tie.Need-halt-requires-2 Inv-loop μ-loop
-halt-requires-2 c κs = (c .before .before .before .before .«record» .ensures .placed .at, omega (arith, c .before .before .before .before .«record» .ensures .placed .out, c .before .before .before .before .«record» .kept .1 .1 .1 .0, c .before .before .before .before .before .before .before .before .loop .inv .long))
+halt-requires-2 c κs = (c .before .before .before .before .answer-next .ensures .placed .at, omega (arith, c .before .before .before .before .answer-next .ensures .placed .out, c .before .before .before .before .answer-next .kept .1 .1 .1 .0, c .before .before .before .before .before .before .before .before .loop .inv .long))
 
 loop-less : tie.Need-loop-less Inv-loop μ-loop
-loop-less c = omega (arith, c .before .before .before .before .before .«record» .ensures .on, c .before .before .before .before .before .«record» .ensures .placed .at)
+loop-less c = omega (arith, c .before .before .before .before .before .answer-next .ensures .on, c .before .before .before .before .before .answer-next .ensures .placed .at)
 
 loop-again : tie.Need-loop-again Inv-loop μ-loop
-loop-again c = again _ _ _ _ _ _ _ (c .before .before .before .before .before .before .before .before .before .loop .inv) _ _ _ _ (c .before .before .before .before .before .before .before .before .loop-test .taken) (c .before .before .before .before .before .«record» .ensures) (c .before .before .before .before .before .«record» .kept .1 .1 .1 .0) (c .before .before .before .before .before .«record» .kept .1 .0) (c .halt2 .ensures)
+loop-again c = again _ _ _ _ _ _ _ (c .before .before .before .before .before .before .before .before .before .loop .inv) _ _ _ _ (c .before .before .before .before .before .before .before .before .loop-test .taken) (c .before .before .before .before .before .answer-next .ensures) (c .before .before .before .before .before .answer-next .kept .1 .1 .1 .0) (c .before .before .before .before .before .answer-next .kept .1 .0) (c .halt2 .ensures)
 
 last-requires : tie.Need-last-requires Inv-loop μ-loop
 last-requires c κs = search needs
@@ -54,7 +54,7 @@ run-table-spec =
     μ-loop
     halt-requires
     loop-holds
-    record-requires
+    answer-next-requires
     halt-requires-2
     loop-less
     loop-again
