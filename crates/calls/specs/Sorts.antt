@@ -2,7 +2,7 @@
 -- So the numbers of the C face are read as the replies that they were. Assumes nothing.
 use mathlib.Core.Bool.{Bool, true, false}
 use mathlib.Core.List.{List}
-use Prim.Native.Nat.{ℕ, zero, suc, _≤_}
+use Prim.Native.Nat.{ℕ, zero, suc, _-_, _*_, _≤_}
 use native.Mathlib.Omega.{arith}
 use lib.Dec.{ltb, eqb}
 use Rattle.logic.specs.Cases.{bool}
@@ -13,7 +13,9 @@ use Rattle.routes.specs.Cells.{cells}
 use Rattle.routes.specs.Answers.{Update, announce, withdraw, Reply, done, found, none, refused}
 use Rattle.routes.specs.Answers.{refuse, faulty, lacking, reloaded, verdict, answer, matched}
 use Rattle.routes.specs.Seen.{Seen, misfit, foreign, table, answerOn, lookupOn}
+use Rattle.address.specs.Address.{byteOf}
 use Rattle.arrays.specs.Table.{seen}
+use Rattle.arrays.specs.Words.{arraysOf, arrayCount, bestsOf}
 use Rattle.lookup.specs.Walk.{outside, deeper, turn, walkFrom, walk}
 
 -- ---- a lookup
@@ -43,7 +45,10 @@ turn-looks W A base b c m on f =
 walk-looks : (L : ℕ) (ws : List ℕ) (x n a : ℕ) (m : Match) → OfLookup (walkFrom L ws x n a m)
 unfolding walkFrom
 walk-looks L ws x zero a m = omega arith
-walk-looks L ws x (suc n) a m = turn-looks _ _ _ _ _ m (walkFrom L ws x n) (walk-looks L ws x n)
+walk-looks L ws x (suc n) a m =
+    let k = L - suc n in
+    let i = byteOf L x k in
+    turn-looks (8 * L) (arrayCount ws) (8 * k) (bestsOf ws a i) (arraysOf ws .link a i) m (walkFrom L ws x n) (walk-looks L ws x n)
 
 pub lookup-looks : (ws : List ℕ) (a : ℕ) → OfLookup (lookupOn 32 (seen 4 ws) (walk 4 ws a) a)
 lookup-looks ws a = go (seen 4 ws)
