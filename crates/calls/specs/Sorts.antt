@@ -48,7 +48,8 @@ walk-looks L ws x zero a m = omega arith
 walk-looks L ws x (suc n) a m =
     let k = L - suc n in
     let i = byteOf L x k in
-    turn-looks (8 * L) (arrayCount ws) (8 * k) (bestsOf ws a i) (arraysOf ws .link a i) m (walkFrom L ws x n) (walk-looks L ws x n)
+    turn-looks (8 * L) (arrayCount ws) (8 * k) (bestsOf ws a i) (arraysOf ws .link a i) m
+    (walkFrom L ws x n) (walk-looks L ws x n)
 
 pub lookup-looks : (ws : List ℕ) (a : ℕ) → OfLookup (lookupOn 32 (seen 4 ws) (walk 4 ws a) a)
 lookup-looks ws a = go (seen 4 ws)

@@ -9,7 +9,9 @@ use Rattle.feed.proofs.Progress.answer_next.Statement.{statement}
 use Rattle.feed.proofs.Progress.answer_next.Tie as tie
 
 shared-slice-read-size : tie.Need-shared-slice-read-size
-shared-slice-read-size c = omega (arith, size-pos (getD (c .before .before .before .before .args .feed .now) (c .before .before .before .before .args .self .at) 0))
+shared-slice-read-size c =
+    let a = c .before .before .before .before .args in
+    omega (arith, size-pos (getD (a .feed .now) (a .self .at) 0))
 
 size-requires : tie.Need-size-requires
 size-requires c κs = search needs
