@@ -5,13 +5,14 @@
 use mathlib.Core.Path.{_≡_, refl, sym, ap, _∙_}
 use mathlib.Core.Logic.{_≢_}
 use mathlib.Core.Bool.{Bool, true, false, cond}
-use mathlib.Core.List.{List, [], _∷_, _++_, append-assoc, append-nil}
+use mathlib.Core.List.{List, [], _∷_, _++_, append-nil}
 use Prim.Native.Nat.{ℕ, zero, suc, _%_}
 use native.Mathlib.Omega.{arith}
 use lib.Dec.{eqb}
 use lib.ListN.{length, getD, take, drop}
 use lib.Seq.{take-at}
 use Rattle.logic.specs.Cases.{bool}
+use Rattle.numbers.specs.Joined.{joined-append}
 use Rattle.routes.specs.Route.{Route, route, tooLong, stray, badHop, held}
 use Rattle.routes.specs.Match.{Match, longest}
 use Rattle.routes.specs.Match as match
@@ -77,9 +78,7 @@ others-append [] ys p q = q
 others-append (x ∷ xs) ys p q = (p .0, others-append xs ys (p .1) q)
 
 bytes-append : (xs ys : List Reply) → repliesBytes (xs ++ ys) ≡ repliesBytes xs ++ repliesBytes ys
-bytes-append [] ys = refl
-bytes-append (x ∷ xs) ys =
-    ap (λ zs. replyBytes x ++ zs) (bytes-append xs ys) ∙ sym (append-assoc (replyBytes x) (repliesBytes xs) (repliesBytes ys))
+bytes-append = joined-append replyBytes repliesBytes refl (λ x xs. refl)
 
 -- bytes are those of replies, none of them "refused 2"
 pub record Replied (bs : List ℕ) : Type 0 where
