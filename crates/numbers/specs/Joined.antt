@@ -1,4 +1,5 @@
--- Bytes of things one after the other: those of two lists in a row are those of the one, then those of the other. Assumes nothing.
+-- Bytes of things one after the other: those of two lists in a row are those of the one, then those of the other. Assumes
+-- nothing.
 use mathlib.Core.Path.{_≡_, sym, ap, _∙_}
 use mathlib.Core.List.{List, [], _∷_, _++_, append-assoc}
 use Prim.Native.Nat.{ℕ}
