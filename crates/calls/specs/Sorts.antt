@@ -13,9 +13,10 @@ use Rattle.routes.specs.Cells.{cells}
 use Rattle.routes.specs.Answers.{Update, announce, withdraw, Reply, done, found, none, refused}
 use Rattle.routes.specs.Answers.{refuse, faulty, lacking, reloaded, verdict, answer, matched}
 use Rattle.routes.specs.Seen.{Seen, misfit, foreign, table, answerOn, lookupOn}
+use Rattle.numbers.specs.Front.{byteOf}
 use Rattle.words.specs.Table.{seen}
 use Rattle.words.specs.Words.{arraysOf, arrayCount, bestsOf}
-use Rattle.lookup.specs.Walk.{byteAt, outside, deeper, walkFrom, walk}
+use Rattle.lookup.specs.Walk.{outside, deeper, turn, walkFrom, walk}
 
 -- ---- a lookup
 
@@ -33,24 +34,29 @@ refuse-looks : (n : ℕ) (b : Bool) (y : Reply) → 1 ≤ n → OfLookup y → O
 refuse-looks n true y h p = h
 refuse-looks n false y h p = p
 
-walk-looks : (W : ℕ) (ws : List ℕ) (x n a : ℕ) (m : Match) → OfLookup (walkFrom W ws x n a m)
-unfolding walkFrom
-walk-looks W ws x zero a m = omega arith
-walk-looks W ws x (suc n) a m =
-    let base : ℕ = W - 8 * suc n in
-    let b : ℕ = bestsOf ws a (byteAt x n) in
-    let c : ℕ = arraysOf ws .link a (byteAt x n) in
+turn-looks : (W A base b c : ℕ) (m : Match) (on : ℕ → Match → Reply) → ((c : ℕ) (m : Match) → OfLookup (on c m))
+    → OfLookup (turn W A base b c m on)
+turn-looks W A base b c m on f =
     refuse-looks 2 (outside W base b) _ (omega arith)
     (bool (eqb c 0)
     (λ e. rw e (best-looks (deeper base m b)))
-    (λ e. rw e (refuse-looks 2 (ltb (arrayCount ws) c) _ (omega arith) (walk-looks W ws x n c (deeper base m b)))))
+    (λ e. rw e (refuse-looks 2 (ltb A c) _ (omega arith) (f c (deeper base m b)))))
+
+walk-looks : (L : ℕ) (ws : List ℕ) (x n a : ℕ) (m : Match) → OfLookup (walkFrom L ws x n a m)
+unfolding walkFrom
+walk-looks L ws x zero a m = omega arith
+walk-looks L ws x (suc n) a m =
+    let k = L - suc n in
+    let i = byteOf L x k in
+    turn-looks (8 * L) (arrayCount ws) (8 * k) (bestsOf ws a i) (arraysOf ws .link a i) m
+    (walkFrom L ws x n) (walk-looks L ws x n)
 
 pub lookup-looks : (ws : List ℕ) (a : ℕ) → OfLookup (lookupOn 32 (seen 4 ws) (walk 4 ws a) a)
 lookup-looks ws a = go (seen 4 ws)
   where
     go : (s : Seen) → OfLookup (lookupOn 32 s (walk 4 ws a) a)
     go misfit = omega arith
-    go foreign = walk-looks 32 ws a 4 1 best.none
+    go foreign = walk-looks 4 ws a 4 1 best.none
     go (table A rs) = best-looks (longest 32 a rs)
 
 -- ---- an update

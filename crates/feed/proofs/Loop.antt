@@ -2,7 +2,7 @@
 --
 --     feed   ██████████████░░░░░░░░        reply   ██████████░░░░░░░░░░
 --            consumed      at                      written   out, the rest as it was
-use mathlib.Core.Path.{_≡_, refl, sym, ap, ap₂, subst, _∙_}
+use mathlib.Core.Path.{_≡_, refl, sym, ap, subst, _∙_}
 use mathlib.Core.Logic.{_≢_}
 use mathlib.Core.Bool.{Bool, true, false, cond}
 use mathlib.Core.List.{List, _++_}
@@ -12,6 +12,7 @@ use native.Mathlib.Omega.{arith}
 use lib.ListN.{length, getD, take, drop, take-append-drop}
 use lib.Seq.{length-sets, length-take-le, drop-drop}
 use lib.Dec.{eqb}
+use Rattle.numbers.specs.Wrote.{Wrote}
 use Rattle.routes.specs.Route.{Route}
 use Rattle.routes.specs.Answers.{Reply, reply, replies, isDone, isRefused}
 use Rattle.routes.specs.Bytes.{replyBytes}
@@ -26,12 +27,12 @@ use Rattle.update.specs.Update.{refusalOf}
 use Rattle.update.specs.Refuse.{refusal-size, refusal-foreign, refusal-none, passed}
 use Rattle.feed.specs.Runs.{reportOf, Runs}
 use Rattle.feed.specs.Series.{Asked, Series, nothing, more, Answered, answered}
-use Rattle.feed.specs.Turns.{IsTable, roomIn, listIn, one, here, Wrote, stateOf, Placed, Takes, Took}
+use Rattle.feed.specs.Turns.{IsTable, roomIn, listIn, one, here, stateOf, Placed, Takes, Took}
 use Rattle.feed.specs.declared.Progress.{Progress}
 use Rattle.feed.specs.declared.Report.{Report}
 use Rattle.feed.specs.declared.Ran.the-variants.{Stopped, Refused}
 use Rattle.feed.proofs.Answers.{table-eq}
-use Rattle.feed.proofs.Replies.{take-sets, drop-sets}
+use Rattle.feed.proofs.Replies.{wrote-before, wrote-after}
 
 -- ---- one record
 
@@ -71,10 +72,7 @@ module _ (p : Progress) (ws feed b : List ℕ) (t : Takes p ws feed b) (n : ℕ)
           refused = ref i;
         };
         list = answer .list ∙ ap (table A) (sym (ap listIn (answer .list)));
-        rest =
-            ap₂ (λ (m : ℕ) (l : List ℕ). drop m l) (w .place) (w .list)
-            ∙ drop-sets b (p .out) (replyBytes r) fits
-            ∙ ap (λ (m : ℕ). drop m b) (sym (w .place));
+        rest = wrote-after b (p .out) (replyBytes r) q c fits w;
         placed = record {
           at = omega (arith, t .clear .body);
           out = omega (arith, fits, w .place, ap length (w .list) ∙ length-sets b (p .out) (replyBytes r));
@@ -89,10 +87,7 @@ module _ (p : Progress) (ws feed b : List ℕ) (t : Takes p ws feed b) (n : ℕ)
       said = answer .answer
 
       reps : take q c ≡ take (p .out) b ++ replyBytes (reply 32 A rs (here feed (p .at)))
-      reps =
-          ap₂ (λ (m : ℕ) (l : List ℕ). take m l) (w .place) (w .list)
-          ∙ take-sets b (p .out) (replyBytes r) fits
-          ∙ ap (λ z. take (p .out) b ++ replyBytes z) said
+      reps = wrote-before b (p .out) (replyBytes r) q c fits w ∙ ap (λ z. take (p .out) b ++ replyBytes z) said
 
       acc : p .accepted + x ≡ tally (isDone (reply 32 A rs (here feed (p .at)))) (p .accepted)
       acc =
@@ -116,7 +111,8 @@ abbrev pub Ahead : ℕ → List ℕ → ℕ → State → List ℕ → List ℕ 
 Ahead A feed room s ws us =
     Series ws (recordsFrom (length feed) A feed room s) (replies 32 A (s .list) (recordsFrom (length feed) A feed room s)) us
 
-ahead-more : (A : ℕ) (feed : List ℕ) (room : ℕ) (s : State) {ws vs us : List ℕ} → halts feed room (s .consumed) (length (s .replies)) ≡ 5
+ahead-more : (A : ℕ) (feed : List ℕ) (room : ℕ) (s : State) {ws vs us : List ℕ}
+    → halts feed room (s .consumed) (length (s .replies)) ≡ 5
     → Asked ws (ahead feed s) (reply 32 A (s .list) (ahead feed s)) vs → Ahead A feed room (taken A feed s) vs us
     → Ahead A feed room s ws us
 ahead-more A feed room s e a x = rw (records-on A feed room s e) (more a x)
@@ -151,6 +147,11 @@ start ws feed b stop t e =
 out-length : (p : Progress) (feed b : List ℕ) → Placed p feed b → length (take (p .out) b) ≡ p .out
 out-length p feed b h = length-take-le (p .out) b (h .out)
 
+-- what is told of a run that has come to p
+abbrev told : Progress → ℕ → ℕ → ℕ → Report
+told p stop consumed written =
+    record { stop = stop; consumed = consumed; written = written; accepted = p .accepted; refused = p .refused }
+
 -- a run that ended as o, on a table of A arrays
 record Ended (o : Outcome) (A : ℕ) (b vs c : List ℕ) (r : Report) : Type 0 where
   report : r ≡ reportOf o
@@ -158,6 +159,12 @@ record Ended (o : Outcome) (A : ℕ) (b vs c : List ℕ) (r : Report) : Type 0 w
   replies : c ≡ o .end .replies ++ drop (length (o .end .replies)) b
 
 module _ (ws₀ feed b₀ ws b : List ℕ) (p : Progress) (stop : ℕ) (g : Going ws₀ feed b₀ ws b p stop) where
+  abbrev A₀ : ℕ
+  A₀ = roomIn (seen 4 ws₀)
+
+  abbrev state : State
+  state = stateOf p ws b
+
   going-clear : stop ≡ 5 → Clear feed (length b) (p .at) (p .out)
   going-clear e = rw (g .long) (halts-clear feed (length b₀) (p .at) (p .out) (sym (g .halted) ∙ e))
 
@@ -167,37 +174,37 @@ module _ (ws₀ feed b₀ ws b : List ℕ) (p : Progress) (stop : ℕ) (g : Goin
   pub going-takes : stop ≡ 5 → Takes p ws feed b
   going-takes e = record { isTable = is-table; placed = g .placed; clear = going-clear e }
 
-  same-room : roomIn (seen 4 ws) ≡ roomIn (seen 4 ws₀)
+  same-room : roomIn (seen 4 ws) ≡ A₀
   same-room = ap roomIn (g .list)
 
   halted-at : halts feed (length b₀) (p .at) (length (take (p .out) b)) ≡ stop
   halted-at = ap (halts feed (length b₀) (p .at)) (out-length p feed b (g .placed)) ∙ sym (g .halted)
 
-  pub again : (q : Progress) (vs c : List ℕ) (next : ℕ) → stop ≡ 5 → Took p ws feed b q vs c → length c ≡ length b → length vs ≡ length ws
-      → next ≡ halts feed (length b₀) (q .at) (q .out) → Going ws₀ feed b₀ vs c q next
+  pub again : (q : Progress) (vs c : List ℕ) (next : ℕ) → stop ≡ 5 → Took p ws feed b q vs c
+      → length c ≡ length b → length vs ≡ length ws → next ≡ halts feed (length b₀) (q .at) (q .out)
+      → Going ws₀ feed b₀ vs c q next
   again q vs c next e t lc lv h =
       record {
         placed = t .placed;
         list = t .list ∙ ap (λ (n : ℕ). table n (listIn (seen 4 vs))) same-room;
         left =
-            ap (λ (s : State). runs (length feed) A feed (length b₀) s) (t .state ∙ ap (λ (n : ℕ). taken n feed (stateOf p ws b)) same-room)
-            ∙ runs-enough (length feed) (length feed - 1) A feed (length b₀) (taken A feed (stateOf p ws b)) (omega arith)
+            ap (λ (s : State). runs (length feed) A₀ feed (length b₀) s) on
+            ∙ runs-enough (length feed) (length feed - 1) A₀ feed (length b₀) (taken A₀ feed state) (omega arith)
             (omega (arith, size-pos (getD feed (p .at) 0)))
-            ∙ sym (runs-on (length feed - 1) A feed (length b₀) (stateOf p ws b) (halted-at ∙ e))
-            ∙ ap (λ (n : ℕ). runs n A feed (length b₀) (stateOf p ws b)) m
+            ∙ sym (runs-on (length feed - 1) A₀ feed (length b₀) state (halted-at ∙ e))
+            ∙ ap (λ (n : ℕ). runs n A₀ feed (length b₀) state) m
             ∙ g .left;
         rest = t .rest ∙ dropped;
         long = lc ∙ g .long;
         wide = lv ∙ g .wide;
         halted = h;
         series = λ us x. g .series us
-            (ahead-more A feed (length b₀) (stateOf p ws b) (halted-at ∙ e) (rw same-room at (t .asked))
-            (subst (λ (s : State). Ahead A feed (length b₀) s vs us)
-            (t .state ∙ ap (λ (n : ℕ). taken n feed (stateOf p ws b)) same-room) x));
+            (ahead-more A₀ feed (length b₀) state (halted-at ∙ e) (rw same-room at (t .asked))
+            (subst (λ (s : State). Ahead A₀ feed (length b₀) s vs us) on x));
       }
     where
-      A : ℕ
-      A = roomIn (seen 4 ws₀)
+      on : stateOf q vs c ≡ taken A₀ feed state
+      on = t .state ∙ ap (λ (n : ℕ). taken n feed state) same-room
 
       m : suc (length feed - 1) ≡ length feed
       m = omega (arith, going-clear e .body, size-pos (getD feed (p .at) 0))
@@ -210,34 +217,31 @@ module _ (ws₀ feed b₀ ws b : List ℕ) (p : Progress) (stop : ℕ) (g : Goin
 
   -- ---- the end
 
-  ended : stop ≢ 5 → whole ws₀ feed b₀ ≡ record { stop = stop; end = cond (eqb stop 0) (finish (stateOf p ws b)) (stateOf p ws b) }
+  ended : stop ≢ 5 → whole ws₀ feed b₀ ≡ record { stop = stop; end = cond (eqb stop 0) (finish state) state }
   ended n =
       sym (g .left)
-      ∙ runs-enough (length feed) (suc (length feed)) (roomIn (seen 4 ws₀)) feed (length b₀) (stateOf p ws b) (omega arith) (omega arith)
-      ∙ runs-stop (length feed) (roomIn (seen 4 ws₀)) feed (length b₀) (stateOf p ws b) stop halted-at n
+      ∙ runs-enough (length feed) (suc (length feed)) A₀ feed (length b₀) state (omega arith) (omega arith)
+      ∙ runs-stop (length feed) A₀ feed (length b₀) state stop halted-at n
 
   kept : b ≡ take (p .out) b ++ drop (length (take (p .out) b)) b₀
   kept = rw (out-length p feed b (g .placed), ← (g .rest)) (sym (take-append-drop (p .out) b))
 
-  report : (z : Bool) → Ended (record { stop = stop; end = cond z (finish (stateOf p ws b)) (stateOf p ws b) })
-      (roomIn (seen 4 ws₀)) b₀ ws b
-      (record { stop = stop; consumed = p .at + one z; written = p .out; accepted = p .accepted; refused = p .refused })
+  report : (z : Bool)
+      → Ended (record { stop = stop; end = cond z (finish state) state }) A₀ b₀ ws b (told p stop (p .at + one z) (p .out))
   report true = record {
-    report = λ i. record { stop = stop; consumed = p .at + 1; written = sym (out-length p feed b (g .placed)) i; accepted = p .accepted; refused = p .refused };
+    report = λ i. told p stop (p .at + 1) (sym (out-length p feed b (g .placed)) i);
     list = g .list;
     replies = kept;
   }
   report false = record {
-    report = λ i. record { stop = stop; consumed = add-zero (p .at) i; written = sym (out-length p feed b (g .placed)) i; accepted = p .accepted; refused = p .refused };
+    report = λ i. told p stop (add-zero (p .at) i) (sym (out-length p feed b (g .placed)) i);
     list = g .list;
     replies = kept;
   }
 
   -- no record is left
-  all-asked : stop ≢ 5 → Ahead (roomIn (seen 4 ws₀)) feed (length b₀) (fresh (listIn (seen 4 ws₀))) ws₀ ws
-  all-asked n =
-      g .series ws
-      (rw (records-stop (roomIn (seen 4 ws₀)) feed (length b₀) (stateOf p ws b) (length feed) (λ e. n (sym halted-at ∙ e))) nothing)
+  all-asked : stop ≢ 5 → Ahead A₀ feed (length b₀) (fresh (listIn (seen 4 ws₀))) ws₀ ws
+  all-asked n = g .series ws (rw (records-stop A₀ feed (length b₀) state (length feed) (λ e. n (sym halted-at ∙ e))) nothing)
 
   runs-as : (s : Seen) → seen 4 ws₀ ≡ s → IsTable s → (r : Report)
       → Ended (run (roomIn s) (listIn s) feed (length b₀)) (roomIn s) b₀ ws b r
@@ -254,7 +258,7 @@ module _ (ws₀ feed b₀ ws b : List ℕ) (p : Progress) (stop : ℕ) (g : Goin
       }
 
   pub stopped : IsTable (seen 4 ws₀) → (n : ℕ) → stop ≢ 5 → n ≡ one (eqb stop 0)
-      → Runs ws₀ feed b₀ ws b (Stopped (record { stop = stop; consumed = p .at + n; written = p .out; accepted = p .accepted; refused = p .refused }))
+      → Runs ws₀ feed b₀ ws b (Stopped (told p stop (p .at + n) (p .out)))
   stopped t n h e = runs-as (seen 4 ws₀) refl t _ (rw (e, ended h) (report (eqb stop 0))) (all-asked h)
 
 -- ---- the test at the start

@@ -5,15 +5,16 @@ use Prim.Native.Nat.{ℕ, suc, _+_, _%_, _≤_}
 use native.Mathlib.Omega.{arith}
 use lib.ListN.{length, set, take, drop, length-append}
 use lib.Seq.{sets, sets-eq, take-at, drop-at, length-take-le}
+use Rattle.numbers.specs.Wrote.{Wrote}
 use Rattle.numbers.specs.Digits.{two}
 use Rattle.routes.specs.Bytes.{replyBytes}
 use Rattle.replies.specs.Said.{saidReply}
 use Rattle.replies.specs.declared.Reply.{Reply}
 use Rattle.replies.specs.declared.Reply.the-variants.{Done, Found, Nothing, Refused}
-use Rattle.feed.specs.Turns.{Wrote}
 
 module _ (b : List ℕ) (at : ℕ) (r : Reply) where
-  pub put-done : (h c : ℕ) (b₂ b₃ : List ℕ) → r ≡ Done h c → b₂ ≡ sets (set b at 16) (at + 1) (two h) → b₃ ≡ sets b₂ (at + 3) (two c)
+  pub put-done : (h c : ℕ) (b₂ b₃ : List ℕ) → r ≡ Done h c
+      → b₂ ≡ sets (set b at 16) (at + 1) (two h) → b₃ ≡ sets b₂ (at + 3) (two c)
       → Wrote b at (replyBytes (saidReply r)) (at + 5) b₃
   put-done h c b₂ b₃ e p q =
       let i : at + 1 ≡ suc at = omega arith in
@@ -36,14 +37,18 @@ module _ (b : List ℕ) (at : ℕ) (r : Reply) where
       let i : at + 1 ≡ suc at = omega arith in
       rw e (record { place = omega arith; list = rw i })
 
--- ---- a buffer after a write
+-- ---- a buffer after a write: what stands up to the place that follows, and after it
 
-module _ (b : List ℕ) (p : ℕ) (xs : List ℕ) (h : p + length xs ≤ length b) where
+module _ (b : List ℕ) (p : ℕ) (xs : List ℕ) (q : ℕ) (c : List ℕ) (h : p + length xs ≤ length b) (w : Wrote b p xs q c) where
   front : length (take p b ++ xs) ≡ p + length xs
   front = length-append (take p b) xs ∙ ap (λ (n : ℕ). n + length xs) (length-take-le p b (omega arith))
 
-  pub take-sets : take (p + length xs) (sets b p xs) ≡ take p b ++ xs
-  take-sets = rw (sets-eq xs b p h) (take-at (take p b ++ xs) (drop (p + length xs) b) (p + length xs) front)
+  pub wrote-before : take q c ≡ take p b ++ xs
+  wrote-before =
+      let n = p + length xs in
+      rw (w .place, w .list, sets-eq xs b p h) (take-at (take p b ++ xs) (drop n b) n front)
 
-  pub drop-sets : drop (p + length xs) (sets b p xs) ≡ drop (p + length xs) b
-  drop-sets = rw (sets-eq xs b p h) (drop-at (take p b ++ xs) (drop (p + length xs) b) (p + length xs) front)
+  pub wrote-after : drop q c ≡ drop q b
+  wrote-after =
+      let n = p + length xs in
+      rw (w .place, w .list, sets-eq xs b p h) (drop-at (take p b ++ xs) (drop n b) n front)

@@ -1,22 +1,24 @@
--- No run writes the reply "refused 2": a table's list answers no record by it, and the reply bytes of a run can be read as replies in
--- one way only, as those answers. Assumes nothing.
+-- No run writes the reply "refused 2": a table's list answers no record with it, and the reply bytes of a run can be read as
+-- replies in one way only, as those answers. Assumes nothing.
 --
 --     reply   16 h h c c   19 7   17 h h l   18     the kind of a reply says where the next begins
 use mathlib.Core.Path.{_≡_, refl, sym, ap, _∙_}
 use mathlib.Core.Logic.{_≢_}
 use mathlib.Core.Bool.{Bool, true, false, cond}
-use mathlib.Core.List.{List, [], _∷_, _++_, append-assoc, append-nil}
+use mathlib.Core.List.{List, [], _∷_, _++_, append-nil}
 use Prim.Native.Nat.{ℕ, zero, suc, _%_}
 use native.Mathlib.Omega.{arith}
 use lib.Dec.{eqb}
 use lib.ListN.{length, getD, take, drop}
 use lib.Seq.{take-at}
 use Rattle.logic.specs.Cases.{bool}
+use Rattle.numbers.specs.Joined.{joined-append}
 use Rattle.routes.specs.Route.{Route, route, tooLong, stray, badHop, held}
 use Rattle.routes.specs.Match.{Match, longest}
 use Rattle.routes.specs.Match as match
 use Rattle.routes.specs.Cells.{cells}
-use Rattle.routes.specs.Answers.{lacking, reloaded, Update, announce, withdraw, Record, update, lookup, Reply, done, found, none, refused, refuse, faulty, verdict, answer, matched, reply}
+use Rattle.routes.specs.Answers.{Update, announce, withdraw, Record, update, lookup, Reply, done, found, none, refused}
+use Rattle.routes.specs.Answers.{lacking, reloaded, refuse, faulty, verdict, answer, matched, reply}
 use Rattle.routes.specs.Bytes.{replyBytes, repliesBytes, replySize}
 use Rattle.routes.specs.Runs.{State, recordAt, halts, taken, runs, fresh, run}
 use Rattle.routes.specs.Seen.{Seen, misfit, foreign, table, runOn, repliedOn}
@@ -28,7 +30,7 @@ use Rattle.feed.specs.declared.Ran.the-variants.{Stopped, Refused}
 
 -- ---- the answers
 
--- not "refused 2", nor by another number that has the same byte
+-- not "refused 2", nor with another number that has the same byte
 abbrev pub Other : Reply → Type 0
 Other (done h c) = Unit {0}
 Other (found h l) = Unit {0}
@@ -47,8 +49,10 @@ other-verdict W A rs (withdraw a l) =
 
 other-faulty : (W : ℕ) (u : Update) (r : Reply) → Other r → Other (faulty W u r)
 other-faulty W (announce a l h) r o =
-    other-refuse 3 (tooLong W l) _ (λ e. omega arith) (other-refuse 4 (stray W a l) _ (λ e. omega arith) (other-refuse 5 (badHop h) r (λ e. omega arith) o))
-other-faulty W (withdraw a l) r o = other-refuse 3 (tooLong W l) _ (λ e. omega arith) (other-refuse 4 (stray W a l) r (λ e. omega arith) o)
+    other-refuse 3 (tooLong W l) _ (λ e. omega arith)
+    (other-refuse 4 (stray W a l) _ (λ e. omega arith) (other-refuse 5 (badHop h) r (λ e. omega arith) o))
+other-faulty W (withdraw a l) r o =
+    other-refuse 3 (tooLong W l) _ (λ e. omega arith) (other-refuse 4 (stray W a l) r (λ e. omega arith) o)
 
 other-matched : (m : Match) → Other (matched m)
 other-matched match.none = tt
@@ -74,8 +78,7 @@ others-append [] ys p q = q
 others-append (x ∷ xs) ys p q = (p .0, others-append xs ys (p .1) q)
 
 bytes-append : (xs ys : List Reply) → repliesBytes (xs ++ ys) ≡ repliesBytes xs ++ repliesBytes ys
-bytes-append [] ys = refl
-bytes-append (x ∷ xs) ys = ap (λ zs. replyBytes x ++ zs) (bytes-append xs ys) ∙ sym (append-assoc (replyBytes x) (repliesBytes xs) (repliesBytes ys))
+bytes-append = joined-append replyBytes repliesBytes refl (λ x xs. refl)
 
 -- bytes are those of replies, none of them "refused 2"
 pub record Replied (bs : List ℕ) : Type 0 where
@@ -88,16 +91,20 @@ more : (bs : List ℕ) (y : Reply) → Other y → Replied bs → Replied (bs ++
 more bs y o p =
     record {
       replies = p .replies ++ (y ∷ []);
-      bytes = ap (λ xs. xs ++ replyBytes y) (p .bytes) ∙ ap (λ zs. repliesBytes (p .replies) ++ zs) (sym (append-nil (replyBytes y))) ∙ sym (bytes-append (p .replies) (y ∷ []));
+      bytes =
+          ap (λ xs. xs ++ replyBytes y) (p .bytes)
+          ∙ ap (λ zs. repliesBytes (p .replies) ++ zs) (sym (append-nil (replyBytes y)))
+          ∙ sym (bytes-append (p .replies) (y ∷ []));
       others = others-append (p .replies) (y ∷ []) (p .others) (o, tt);
     }
 
-runs-replied : (n A : ℕ) (feed : List ℕ) (room : ℕ) (s : State) → Replied (s .replies) → Replied (runs n A feed room s .end .replies)
+runs-replied : (n A : ℕ) (feed : List ℕ) (room : ℕ) (s : State) → Replied (s .replies)
+    → Replied (runs n A feed room s .end .replies)
 unfolding runs
 runs-replied zero A feed room s p = p
 runs-replied (suc n) A feed room s p =
     bool (eqb h 5)
-    (λ e. rw e (runs-replied n A feed room (taken A feed s) (more (s .replies) (reply 32 A (s .list) x) (reply-other 32 A (s .list) x) p)))
+    (λ e. rw e (runs-replied n A feed room (taken A feed s) (more (s .replies) y (reply-other 32 A (s .list) x) p)))
     (λ e. rw e (bool (eqb h 0) (λ z. rw z p) (λ z. rw z p)))
   where
     h : ℕ
@@ -106,8 +113,12 @@ runs-replied (suc n) A feed room s p =
     x : Record
     x = recordAt feed (s .consumed) (getD feed (s .consumed) 0)
 
+    y : Reply
+    y = reply 32 A (s .list) x
+
 pub run-replied : (A : ℕ) (rs : List Route) (feed : List ℕ) (room : ℕ) → Replied (run A rs feed room .end .replies)
-run-replied A rs feed room = runs-replied (length feed) A feed room (fresh rs) (record { replies = []; bytes = refl; others = tt })
+run-replied A rs feed room =
+    runs-replied (length feed) A feed room (fresh rs) (record { replies = []; bytes = refl; others = tt })
 
 -- ---- bytes read back as replies
 
@@ -149,7 +160,8 @@ others-read [] (z ∷ zs) o e = absurd (some z (repliesBytes zs) (sym e))
 others-read (y ∷ ys) [] o e = absurd (some y (repliesBytes ys) e)
 others-read (y ∷ ys) (z ∷ zs) o e = (
   begun z (repliesBytes zs) (rw e at (begins y (repliesBytes ys) (o .0))),
-  others-read ys zs (o .1) (sym (rest y (repliesBytes ys)) ∙ ap (λ (bs : List ℕ). drop (width bs) bs) e ∙ rest z (repliesBytes zs)),
+  others-read ys zs (o .1)
+      (sym (rest y (repliesBytes ys)) ∙ ap (λ (bs : List ℕ). drop (width bs) bs) e ∙ rest z (repliesBytes zs)),
 )
 
 others-at : (xs : List Reply) (y : Reply) (ys : List Reply) → Others (xs ++ (y ∷ ys)) → Other y
@@ -158,7 +170,8 @@ others-at (x ∷ xs) y ys o = others-at xs y ys (o .1)
 
 -- bytes that are those of such replies are not those of replies with "refused 2" among them
 no-second : (bs : List ℕ) → Replied bs → (xs ys : List Reply) → bs ≢ repliesBytes (xs ++ (refused 2 ∷ ys))
-no-second bs p xs ys e = others-at xs (refused 2) ys (others-read (p .replies) (xs ++ (refused 2 ∷ ys)) (p .others) (sym (p .bytes) ∙ e)) refl
+no-second bs p xs ys e =
+    others-at xs (refused 2) ys (others-read (p .replies) (xs ++ (refused 2 ∷ ys)) (p .others) (sym (p .bytes) ∙ e)) refl
 
 -- ---- the bytes that a run writes
 
@@ -177,5 +190,6 @@ pub replied : (ws feed b vs c : List ℕ) (r : Ran) → Runs ws feed b vs c r �
 replied ws feed b vs c r p = rw (p .replies) (written (seen 4 ws) feed b r (p .answer))
 
 -- and in whatever way they are read, "refused 2" is none of them
-pub never : (ws feed b vs c : List ℕ) (r : Ran) → Runs ws feed b vs c r → (xs ys : List Reply) → take (writtenBy r) c ≢ repliesBytes (xs ++ (refused 2 ∷ ys))
+pub never : (ws feed b vs c : List ℕ) (r : Ran) → Runs ws feed b vs c r → (xs ys : List Reply)
+    → take (writtenBy r) c ≢ repliesBytes (xs ++ (refused 2 ∷ ys))
 never ws feed b vs c r p = no-second (take (writtenBy r) c) (replied ws feed b vs c r p)

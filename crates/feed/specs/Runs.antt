@@ -1,4 +1,5 @@
--- What a run of a feed promises, for every feed, every lent reply and all words: by what the words are seen to be. Assumes nothing.
+-- What a run of a feed promises, for every feed, every lent reply and all words: by what the words are seen to be. Assumes
+-- nothing.
 use mathlib.Core.Path.{_≡_}
 use mathlib.Core.List.{List}
 use Prim.Native.Nat.{ℕ}

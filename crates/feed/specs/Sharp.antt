@@ -28,7 +28,8 @@ run-one (Stopped r) (Refused n) e = let z : _≡_ {A = ℕ} 0 1 = cc in absurd (
 run-one (Refused n) (Stopped r) e = let z : _≡_ {A = ℕ} 0 1 = cc in absurd (omega arith)
 run-one (Refused n) (Refused m) e = cc
 
-pub sharp : (ws feed b vs c : List ℕ) (r : Ran) (vs′ c′ : List ℕ) (r′ : Ran) → Runs ws feed b vs c r → Runs ws feed b vs′ c′ r′ → Agree vs c r vs′ c′ r′
+pub sharp : (ws feed b vs c : List ℕ) (r : Ran) (vs′ c′ : List ℕ) (r′ : Ran)
+    → Runs ws feed b vs c r → Runs ws feed b vs′ c′ r′ → Agree vs c r vs′ c′ r′
 sharp ws feed b vs c r vs′ c′ r′ p q =
     let e : r ≡ r′ = run-one r r′ (p .answer ∙ sym (q .answer)) in
     record {

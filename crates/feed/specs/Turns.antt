@@ -1,10 +1,10 @@
--- What the functions behind the run promise: the answer to one record, its reply, and how far the run has come then. Assumes nothing.
+-- What the functions behind the run promise: the answer to one record, its reply, and how far the run has come then. Assumes
+-- nothing.
 use mathlib.Core.Path.{_≡_}
 use mathlib.Core.Bool.{Bool, cond}
 use mathlib.Core.List.{List, []}
 use Prim.Native.Nat.{ℕ, _+_, _≤_, _<_}
 use lib.ListN.{length, getD, take, drop}
-use lib.Seq.{sets}
 use Rattle.routes.specs.Route.{Route}
 use Rattle.routes.specs.Answers.{Record, update, announce, withdraw, lookup, reply}
 use Rattle.numbers.specs.Digits.{twoAt, fourAt}
@@ -55,12 +55,7 @@ pub record Asks (ws feed : List ℕ) (i : ℕ) : Type 0 where
   pub more : 1 ≤ getD feed i 0
   pub body : i + size (getD feed i 0) ≤ length feed
 
--- ---- a reply
-
--- xs was written at p of b, which left c and the place q
-pub record Wrote (b : List ℕ) (p : ℕ) (xs : List ℕ) (q : ℕ) (c : List ℕ) : Type 0 where
-  pub place : q ≡ p + length xs
-  pub list : c ≡ sets b p xs
+-- ---- a count
 
 abbrev pub one : Bool → ℕ
 one b = cond b 1 0
@@ -69,7 +64,14 @@ one b = cond b 1 0
 
 -- the run's state, as its counters, the words and the reply bytes stand for it
 abbrev pub stateOf : Progress → List ℕ → List ℕ → State
-stateOf p ws b = record { list = listIn (seen 4 ws); consumed = p .at; replies = take (p .out) b; accepted = p .accepted; refused = p .refused }
+stateOf p ws b =
+    record {
+      list = listIn (seen 4 ws);
+      consumed = p .at;
+      replies = take (p .out) b;
+      accepted = p .accepted;
+      refused = p .refused;
+    }
 
 pub record Placed (p : Progress) (feed b : List ℕ) : Type 0 where
   pub at : p .at ≤ length feed

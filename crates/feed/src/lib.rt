@@ -4,6 +4,7 @@ ghost use mathlib.Core.Path.{_≡_};
 ghost use Prim.Native.Nat.{_+_, _<_, _≤_};
 ghost use lib.ListN.{length};
 ghost use lib.Dec.{eqb};
+ghost use Rattle.numbers.specs.Wrote.{Wrote};
 ghost use Rattle.routes.specs.Answers.{isDone, isRefused};
 ghost use Rattle.routes.specs.Bytes.{replyBytes};
 ghost use Rattle.routes.specs.Runs.{size as sizeOf, halts};
@@ -11,7 +12,7 @@ ghost use Rattle.words.specs.Table.{seen};
 ghost use Rattle.replies.specs.Said.{saidReply};
 ghost use Rattle.feed.specs.Runs.{Runs};
 ghost use Rattle.feed.specs.Series.{Asked};
-ghost use Rattle.feed.specs.Turns.{one, Wrote, IsTable, announceAt, withdrawAt, lookupAt, Asks, here, Takes, Took};
+ghost use Rattle.feed.specs.Turns.{one, IsTable, announceAt, withdrawAt, lookupAt, Asks, here, Takes, Took};
 ghost use Rattle.feed.specs.declared.Ran.the-variants.{Stopped};
 
 // How far a run has come: feed bytes consumed, reply bytes written, accepted updates, refused records.
@@ -39,7 +40,8 @@ pub enum Ran {
 // Runs a feed on lent words and writes the replies to the front of lent bytes. Only here the words are checked: each record
 // leaves a table a table.
 pub fn run(words: &mut [u32], feed: &[u8], reply: &mut [u8]) -> Ran
-    ensures { λ r. ⌜ Runs (now (words .entry)) (now (feed .entry)) (now (reply .entry)) (now (words .exit)) (now (reply .exit)) r ⌝ }
+    ensures { λ r. ⌜ Runs (now (words .entry)) (now (feed .entry)) (now (reply .entry))
+        (now (words .exit)) (now (reply .exit)) r ⌝ }
 {
     let n = update::refusal(words, 0);
     if n != 0 {
@@ -51,7 +53,8 @@ pub fn run(words: &mut [u32], feed: &[u8], reply: &mut [u8]) -> Ran
 // The run on words that are a table.
 fn run_table(words: &mut [u32], feed: &[u8], reply: &mut [u8]) -> Report
     requires { ⌜ IsTable (seen 4 (now words)) ⌝ }
-    ensures { λ r. ⌜ Runs (now (words .entry)) (now (feed .entry)) (now (reply .entry)) (now (words .exit)) (now (reply .exit)) (Stopped r) ⌝ }
+    ensures { λ r. ⌜ Runs (now (words .entry)) (now (feed .entry)) (now (reply .entry))
+        (now (words .exit)) (now (reply .exit)) (Stopped r) ⌝ }
 {
     let room = reply.len();
     let mut p = Progress {
@@ -62,7 +65,7 @@ fn run_table(words: &mut [u32], feed: &[u8], reply: &mut [u8]) -> Report
     };
     let mut stop = p.halt(feed, room);
     while stop == 5 {
-        p = p.record(words, feed, reply);
+        p = p.answer_next(words, feed, reply);
         stop = p.halt(feed, room);
     }
     Report {
@@ -110,9 +113,10 @@ impl Progress {
     }
 
     // Answers the record that is next, and hands back how far the run has come then.
-    fn record(self, words: &mut [u32], feed: &[u8], reply: &mut [u8]) -> Progress
+    fn answer_next(self, words: &mut [u32], feed: &[u8], reply: &mut [u8]) -> Progress
         requires { ⌜ Takes self (now words) (now feed) (now reply) ⌝ }
-        ensures { λ r. ⌜ Took self (now (words .entry)) (now (feed .entry)) (now (reply .entry)) r (now (words .exit)) (now (reply .exit)) ⌝ }
+        ensures { λ r. ⌜ Took self (now (words .entry)) (now (feed .entry)) (now (reply .entry))
+            r (now (words .exit)) (now (reply .exit)) ⌝ }
     {
         let at = self.at;
         let out = self.out;
@@ -185,7 +189,7 @@ fn lookup(words: &[u32], feed: &[u8], at: usize) -> Reply
     requires { ⌜ IsTable (seen 4 (now words)) × (at + 5 ≤ length (now feed)) ⌝ }
     ensures { λ r. ⌜ Asked (now (words .entry)) (lookupAt (now (feed .entry)) at) (saidReply r) (now (words .entry)) ⌝ }
 {
-    lookup::lookup_on(words, numbers::four_at(feed, at + 1))
+    lookup::lookup_on(words, &feed[at + 1..at + 5])
 }
 
 // 1 for an update that was done.

@@ -1,4 +1,5 @@
--- One level of the longest match: the best of a cell stands for the last hop held among the lengths of its array. Assumes nothing.
+-- One level of the longest match: the best of a cell stands for the last hop held among the lengths of its array. Assumes
+-- nothing.
 use mathlib.Core.Path.{_≡_, refl}
 use mathlib.Core.Bool.{false, cond}
 use Prim.Native.Nat.{ℕ, zero, suc, _+_, _*_, _/_, _%_, _^_, _≤_, _<_}
@@ -34,10 +35,11 @@ hit-deeper (suc h) base d m b w =
     let q : (d * hopBound + suc h) / hopBound ≡ d = omega arith in
     rw (ne-eqb (suc h) 0 (λ e. omega arith), p, q, ne-eqb (suc h) 0 (λ e. omega arith))
 
-half : (s e : ℕ) → s / 2 / 2 ^ e ≡ s / 2 ^ suc e
-half s e = let q : suc e ≡ 1 + e = omega arith in rw q (shr-shr s 1 e)
+halved : (s e : ℕ) → s / 2 / 2 ^ e ≡ s / 2 ^ suc e
+halved s e = let q : suc e ≡ 1 + e = omega arith in rw q (shr-shr s 1 e)
 
--- g is the hop of each length along an address, f the slots of the array whose lengths are base + 1 .. base + d, s the last one's slot
+-- g is the hop of each length along an address, f the slots of the array whose lengths are base + 1 .. base + d, s the slot of
+-- the last one
 pub level-last : (g f : ℕ → ℕ) → ((s : ℕ) → 1 ≤ s → s < slotEnd → f s < hopBound) → (base : ℕ) (m : Match) (d s : ℕ) → 2 ^ d ≤ s
     → s < slotEnd
     → last g base ≡ deeper base m (bestOf f (s / 2 ^ d) 0) → ((j e : ℕ) → e + j ≡ d → 1 ≤ j → g (base + j) ≡ f (s / 2 ^ e))
@@ -51,16 +53,18 @@ level-last g f hops base m (suc d) s l b start along =
     let e : base + suc d ≡ suc (base + d) = omega arith in
     let q : s / 1 ≡ s = omega arith in
     let here : g (suc (base + d)) ≡ f s = rw (e, q) at (along (suc d) 0 (omega arith) (omega arith)) in
-    let above = level-last g f hops base m d (s / 2) (omega (arith, l, pow-succ' 2 d)) (omega arith) (rw (half s d) start) (λ j k p h. rw (half s k) (along j (suc k) (omega arith) h)) in
+    let above = level-last g f hops base m d (s / 2) (omega (arith, l, pow-succ' 2 d)) (omega arith) (rw (halved s d) start)
+    (λ j k p h. rw (halved s k) (along j (suc k) (omega arith) h)) in
     rw (e, here, above, ← e) (hit-deeper (f s) base (suc d) m (bestOf f (s / 2) d) (hops s (omega (arith, l, pow-pos (suc d))) b))
 
--- nothing is held further down
-pub last-skip : (g : ℕ → ℕ) (base n : ℕ) → ((l : ℕ) → base < l → l ≤ base + n → g l ≡ 0) → last g (base + n) ≡ last g base
+-- lengths with nothing held add nothing
+pub last-past : (g : ℕ → ℕ) (k n : ℕ) → k ≤ n → ((l : ℕ) → k < l → l ≤ n → g l ≡ 0) → last g n ≡ last g k
 unfolding last
-last-skip g base zero z = let e : base + 0 ≡ base = omega arith in rw e
-last-skip g base (suc n) z =
-    let e : base + suc n ≡ suc (base + n) = omega arith in
-    rw (e, z (suc (base + n)) (omega arith) (omega arith)) (last-skip g base n (λ l h w. z l h (omega arith)))
+last-past g k zero h z = let q : k ≡ 0 = omega arith in rw q
+last-past g k (suc n) h z =
+    same k (suc n)
+    (λ q _. rw q)
+    (λ q _. rw (z (suc n) (omega arith) (omega arith)) (last-past g k n (omega arith) (λ l a b. z l a (omega arith))))
 
 -- the last hop above level k, whose lengths begin past 8 * k
 abbrev pub upTo : (ℕ → ℕ) → ℕ → Match

@@ -1,7 +1,8 @@
 -- On a table the layout's walk gives the longest match over the list. Assumes nothing.
 --
---     lengths        0 .. 8    9 .. 16    17 .. 24    25 .. 32     each run of lengths is one array of the path, and the best of its
---     arrays       root ──▶ array ──▶ array ──▶ array              cell the last hop of the run; where the path ends, nothing is held below
+--     lengths    0 .. 8    9 .. 16    17 .. 24    25 .. 32     each run of lengths is one array of the path, and the best of
+--     arrays     root ──▶  array ──▶  array ──▶   array        its cell the last hop of the run; where the path ends, nothing
+--                                                              is held below
 use mathlib.Core.Path.{_≡_, sym, ap, _∙_}
 use mathlib.Core.Logic.{⊎-elim}
 use mathlib.Core.Bool.{false}
@@ -14,9 +15,9 @@ use borrow.Author.Tests.{eq-eqb, ne-eqb, le-ltb}
 use Rattle.sizes.specs.Sizes.{cellSlots, levelBound}
 use Rattle.routes.specs.Match.{longest, last}
 use Rattle.routes.specs.Answers.{matched}
-use Rattle.routes.specs.Seen.{lookupOn}
 use Rattle.logic.specs.Cases.{same}
 use Rattle.laws.specs.Longest.{longest-walk}
+use Rattle.numbers.specs.Front.{front, byteOf, front-more}
 use Rattle.array.specs.Right.{Right}
 use Rattle.tree.specs.Arrays.{Arrays, at, node, held}
 use Rattle.tree.specs.Shape.{Child}
@@ -26,20 +27,10 @@ use Rattle.words.specs.Words.{arraysOf, arrayCount, slotsOf, bestsOf}
 use Rattle.words.specs.Table.{listOf, seen}
 use Rattle.words.specs.Almost.{Table}
 use Rattle.words.specs.View.{seen-cases}
-use Rattle.lookup.specs.Walk.{byteAt, outside, deeper, walkFrom, walk, walked}
-use Rattle.lookup.specs.Level.{best-inside, level-last, level-first, last-skip, upTo}
+use Rattle.lookup.specs.Walk.{outside, deeper, walkFrom, walk, walked, lookedUp}
+use Rattle.lookup.specs.Level.{best-inside, level-last, level-first, last-past, upTo}
 
 -- ---- bytes of an address
-
--- the bits before the last n bytes
-abbrev head : ℕ → ℕ → ℕ
-head x n = x / 2 ^ (8 * n)
-
-head-up : (x n : ℕ) → head x (suc n) ≡ head x n / 256
-head-up x n = let e : 8 * suc n ≡ 8 * n + 8 = omega arith in rw e (sym (shr-shr x (8 * n) 8))
-
-head-down : (x n : ℕ) → head x n ≡ head x (suc n) * 256 + byteAt x n
-head-down x n = rw (head-up x n) (omega arith)
 
 -- the first j bits of a byte that stands below v
 cut : (v i e j : ℕ) → e + j ≡ 8 → (v * 256 + i) / 2 ^ e ≡ v * 2 ^ j + i / 2 ^ e
@@ -55,11 +46,12 @@ slot-cut i e j p = cut 1 i e j p ∙ omega arith
 byte-cut : (i e j : ℕ) → e + j ≡ 8 → i < 256 → i / 2 ^ e < 2 ^ j
 byte-cut i e j p b = let q : j + e ≡ 8 = omega arith in shr-lt j e (rw q b)
 
--- the first 8 * k + j bits of an address of L bytes, n of them after byte k
-bits : (L x k n e j : ℕ) → k + suc n ≡ L → e + j ≡ 8 → x / 2 ^ (8 * L - (8 * k + j)) ≡ head x (suc n) * 2 ^ j + byteAt x n / 2 ^ e
-bits L x k n e j p q =
-    let r : 8 * L - (8 * k + j) ≡ 8 * n + e = omega arith in
-    rw r (sym (shr-shr x (8 * n) e) ∙ ap (λ (y : ℕ). y / 2 ^ e) (head-down x n) ∙ cut (head x (suc n)) (byteAt x n) e j q)
+-- the first 8 * k + j bits of an address of L bytes
+bits : (L x k e j : ℕ) → k < L → e + j ≡ 8 → x / 2 ^ (8 * L - (8 * k + j)) ≡ front L x k * 2 ^ j + byteOf L x k / 2 ^ e
+bits L x k e j p q =
+    let s = 8 * L - 8 * suc k in
+    let r : 8 * L - (8 * k + j) ≡ s + e = omega arith in
+    rw r (sym (shr-shr x s e) ∙ ap (λ (y : ℕ). y / 2 ^ e) (front-more L x k p) ∙ cut (front L x k) (byteOf L x k) e j q)
 
 -- length 0 is held in the array of level 0
 held-root : (t : Arrays) (v w k : ℕ) → k ≡ 0 → held t v 0 ≡ t .slot (node t w k) 1
@@ -77,14 +69,14 @@ module _ (L : ℕ) (ws : List ℕ) (o : Table L ws) (x : ℕ) (small : x < 2 ^ (
   -- ---- level k, n levels above the last: its array, and the cell of the address there
   module _ (k n : ℕ) (p : k + suc n ≡ L) where
     abbrev a : ℕ
-    a = node t (head x (suc n)) k
+    a = node t (front L x k) k
 
     abbrev i : ℕ
-    i = byteAt x n
+    i = byteOf L x k
 
     module _ (there : 1 ≤ a) where
       level : Level (arrayCount ws) t a k
-      level = node-level (arrayCount ws) L t (o .shape) (head x (suc n)) k there
+      level = node-level (arrayCount ws) L t (o .shape) (front L x k) k there
 
       right : Right (k + 1) (slotsOf ws a) (bestsOf ws a)
       right = rw (level .level) at (o .right a there (level .within) (omega (arith, level .level)))
@@ -92,66 +84,75 @@ module _ (L : ℕ) (ws : List ℕ) (o : Table L ws) (x : ℕ) (small : x < 2 ^ (
       -- a length of this level
       along-slot : (j e : ℕ) → e + j ≡ 8 → 1 ≤ j → along (8 * k + j) ≡ slotsOf ws a ((cellSlots + i) / 2 ^ e)
       along-slot j e q h =
-          ap (λ (v : ℕ). held t v (8 * k + j)) (bits L x k n e j p q)
-          ∙ held-at t (head x (suc n)) k j (i / 2 ^ e) h (omega arith) (byte-cut i e j q (omega arith))
+          ap (λ (v : ℕ). held t v (8 * k + j)) (bits L x k e j (omega arith) q)
+          ∙ held-at t (front L x k) k j (i / 2 ^ e) h (omega arith) (byte-cut i e j q (omega arith))
           ∙ at-some t a (2 ^ j + i / 2 ^ e) there
           ∙ ap (slotsOf ws a) (sym (slot-cut i e j q))
 
       -- the best of the cell is in its range, and is the longest match down to this level
-      inside : outside (8 * L) (8 * L - 8 * suc n) (bestsOf ws a i) ≡ false
+      inside : outside (8 * L) (8 * k) (bestsOf ws a i) ≡ false
       inside =
           rw (right .sound .best i (omega arith))
-          (best-inside (8 * L) (slotsOf ws a) (8 * L - 8 * suc n) 8 (cellSlots + i) (right .sound .hops) (omega arith)
+          (best-inside (8 * L) (slotsOf ws a) (8 * k) 8 (cellSlots + i) (right .sound .hops) (omega arith)
           (omega arith) (omega arith))
 
-      down-to : deeper (8 * L - 8 * suc n) (upTo along k) (bestsOf ws a i) ≡ last along (8 * suc k)
+      down-to : deeper (8 * k) (upTo along k) (bestsOf ws a i) ≡ last along (8 * suc k)
       down-to =
-          let e : 8 * L - 8 * suc n ≡ 8 * k = omega arith in
           let f : 8 * suc k ≡ 8 * k + 8 = omega arith in
           let q : (cellSlots + i) / 256 ≡ 1 = omega arith in
-          let begins = level-first along (slotsOf ws a) k (right .sound .hops 1 (omega arith) (omega arith)) (held-root t (x / 2 ^ (8 * L - 0)) (head x (suc n)) k) (λ h. right .first (omega arith)) in
-          rw (right .sound .best i (omega arith), e, f)
+          let hop = right .sound .hops 1 (omega arith) (omega arith) in
+          let root = held-root t (x / 2 ^ (8 * L - 0)) (front L x k) k in
+          let begins = level-first along (slotsOf ws a) k hop root (λ h. right .first (omega arith)) in
+          rw (right .sound .best i (omega arith), f)
           (sym (level-last along (slotsOf ws a) (right .sound .hops) (8 * k) (upTo along k) 8 (cellSlots + i) (omega arith)
           (omega arith) (rw q begins) along-slot))
 
       -- the array below the cell
-      below : node t (head x n) (suc k) ≡ t .link a i
-      below = ap (λ (v : ℕ). node t v (suc k)) (head-down x n) ∙ node-child t (head x (suc n)) k i (omega arith) there
+      abbrev next : ℕ
+      next = node t (front L x (suc k)) (suc k)
+
+      below : next ≡ t .link a i
+      below =
+          ap (λ (v : ℕ). node t v (suc k)) (front-more L x k (omega arith))
+          ∙ node-child t (front L x k) k i (omega arith) there
 
       -- where the path ends, nothing longer is held
       nothing : t .link a i ≡ 0 → (l : ℕ) → 8 * suc k < l → l ≤ 8 * L → along l ≡ 0
       nothing z l h w = same (along l) 0 (λ q _. q) (λ q _. absurd (omega (
         arith,
         below,
-        above (arrayCount ws) L t (o .shape) (8 * L) (suc k) (head x n) (omega arith) (record {
+        above (arrayCount ws) L t (o .shape) (8 * L) (suc k) (front L x (suc k)) (omega arith) (record {
           v = x / 2 ^ (8 * L - l);
           l = l;
           long = h;
           fits = w;
           small = let e : l + (8 * L - l) ≡ 8 * L = omega arith in shr-lt l (8 * L - l) (rw e small);
-          head = let e : 8 * L - l + (l - 8 * suc k) ≡ 8 * n = omega arith in shr-shr x (8 * L - l) (l - 8 * suc k) ∙ rw e;
+          head =
+              let e : 8 * L - l + (l - 8 * suc k) ≡ 8 * L - 8 * suc k = omega arith in
+              shr-shr x (8 * L - l) (l - 8 * suc k) ∙ rw e;
           held = omega arith;
         }),
       )))
 
       ends : t .link a i ≡ 0 → last along (8 * suc k) ≡ last along (8 * L)
-      ends z =
-          let e : 8 * suc k + 8 * n ≡ 8 * L = omega arith in
-          sym (rw e at (last-skip along (8 * suc k) (8 * n) (λ l h w. nothing z l h (omega arith))))
+      ends z = sym (last-past along (8 * suc k) (8 * L) (omega arith) (nothing z))
 
       -- one turn of the walk: it ends here, or goes on at the array below
-      turns : (suc k < L → 1 ≤ node t (head x n) (suc k) → walkFrom (8 * L) ws x n (node t (head x n) (suc k)) (last along (8 * suc k)) ≡ matched (last along (8 * L)))
-          → walkFrom (8 * L) ws x (suc n) a (upTo along k) ≡ matched (last along (8 * L))
+      turns : (suc k < L → 1 ≤ next → walkFrom L ws x n next (last along (8 * suc k)) ≡ matched (last along (8 * L)))
+          → walkFrom L ws x (suc n) a (upTo along k) ≡ matched (last along (8 * L))
       unfolding walkFrom
       turns on =
+          let e : L - suc n ≡ k = omega arith in
+          let c = t .link a i in
           ⊎-elim
-          (λ (z : t .link a i ≡ 0). rw (inside, eq-eqb (t .link a i) 0 z, down-to) (ap matched (ends z)))
-          (λ (c : Child (arrayCount ws) L t a i (t .link a i)).
-          rw (inside, ne-eqb (t .link a i) 0 (λ z. omega (arith, c .some)), le-ltb (arrayCount ws) (t .link a i) (c .within), down-to, ← below)
-          (on (omega (arith, c .deep, level .level)) (rw below (c .some))))
+          (λ (z : c ≡ 0). rw (e, inside, eq-eqb c 0 z, down-to) (ap matched (ends z)))
+          (λ (h : Child (arrayCount ws) L t a i c).
+          rw (e, inside, ne-eqb c 0 (λ z. omega (arith, h .some)), le-ltb (arrayCount ws) c (h .within), down-to, ← below)
+          (on (omega (arith, h .deep, level .level)) (rw below (h .some))))
           (o .shape .links a i there (level .within) (omega arith))
 
-  onward : (n k : ℕ) → k + suc n ≡ L → 1 ≤ node t (head x (suc n)) k → walkFrom (8 * L) ws x (suc n) (node t (head x (suc n)) k) (upTo along k) ≡ matched (last along (8 * L))
+  onward : (n k : ℕ) → k + suc n ≡ L → 1 ≤ node t (front L x k) k
+      → walkFrom L ws x (suc n) (node t (front L x k) k) (upTo along k) ≡ matched (last along (8 * L))
   onward zero k p there = turns k zero p there (λ h b. absurd (omega arith))
   onward (suc n) k p there = turns k (suc n) p there (λ h b. onward n (suc k) (omega arith) b)
 
@@ -165,7 +166,7 @@ module _ (L : ℕ) (ws : List ℕ) (o : Table L ws) (x : ℕ) (small : x < 2 ^ (
 -- ---- on any words: by what they are seen to be
 
 pub walked-seen : (L : ℕ) (ws : List ℕ) (x : ℕ) → 1 ≤ L → L < levelBound → x < 2 ^ (8 * L)
-    → walked L ws x ≡ lookupOn (8 * L) (seen L ws) (walk L ws x) x
+    → walked L ws x ≡ lookedUp L ws x
 walked-seen L ws x some levels small =
     seen-cases L ws some levels
     (λ m e. rw (m, e))

@@ -1,23 +1,21 @@
--- The layout's walk: what a lookup gives on any words of a right size. It goes from the root down, reads one cell an array, a word with
--- its best and its link, and keeps the last best that it met. Assumes nothing.
+-- The layout's walk: what a lookup gives on any words of a right size. It goes from the root down, reads one cell an array, a
+-- word with its best and its link, and keeps the last best that it met. Assumes nothing.
 --
---     10.1.5.9    array 1, cell 10       array 3, cell 1        array 2, cell 5
---                 best 1/8, link 3 ──▶   best 0, link 2 ──▶     best 2/6, link 0        found 2 22          (hop / in-array length)
+--     10.1.5.9    array 1, cell 10       array 3, cell 1        array 2, cell 5                    (hop / in-array length)
+--                 best 1/8, link 3 ──▶   best 0, link 2 ──▶     best 2/6, link 0      found 2 22
 use mathlib.Core.Bool.{Bool, false, cond}
 use mathlib.Core.List.{List}
-use Prim.Native.Nat.{ℕ, zero, suc, _+_, _-_, _*_, _/_, _%_, _^_}
+use Prim.Native.Nat.{ℕ, zero, suc, _+_, _-_, _*_, _/_, _%_}
 use lib.Dec.{ltb, eqb}
 use lib.ListN.{length}
 use Rattle.sizes.specs.Sizes.{hopBound}
 use Rattle.routes.specs.Route.{tooLong}
 use Rattle.routes.specs.Match.{Match, none, found}
-use Rattle.routes.specs.Seen.{misfits}
+use Rattle.routes.specs.Seen.{misfits, lookupOn}
 use Rattle.routes.specs.Answers.{Reply, refused, refuse, matched}
+use Rattle.numbers.specs.Front.{byteOf}
 use Rattle.words.specs.Words.{arraysOf, arrayCount, bestsOf}
-
--- the byte of an address that n bytes follow
-abbrev pub byteAt : ℕ → ℕ → ℕ
-byteAt x n = x / 2 ^ (8 * n) % 256
+use Rattle.words.specs.Table.{seen}
 
 -- a best in an array below `base` bits: its hop, 0 for none, and its length
 abbrev pub hopOf : ℕ → ℕ
@@ -42,16 +40,22 @@ turn W A base b c m on =
     (refuse 2 (ltb A c)
     (on c (deeper base m b))))
 
--- from array a on, with n levels left and m found above; a link below the last level is out of range
+-- from array a on, with n of L levels left and m found above; a link below the last level is out of range
 unfoldable pub walkFrom : ℕ → List ℕ → ℕ → ℕ → ℕ → Match → Reply
-walkFrom W ws x zero a m = refused 2
-walkFrom W ws x (suc n) a m =
-    turn W (arrayCount ws) (W - 8 * suc n) (bestsOf ws a (byteAt x n)) (arraysOf ws .link a (byteAt x n)) m (walkFrom W ws x n)
+walkFrom L ws x zero a m = refused 2
+walkFrom L ws x (suc n) a m =
+    let k = L - suc n in
+    let i = byteOf L x k in
+    turn (8 * L) (arrayCount ws) (8 * k) (bestsOf ws a i) (arraysOf ws .link a i) m (walkFrom L ws x n)
 
 -- L levels, from the root
 abbrev pub walk : ℕ → List ℕ → ℕ → Reply
-walk L ws x = walkFrom (8 * L) ws x L 1 none
+walk L ws x = walkFrom L ws x L 1 none
 
 -- words of any size
 abbrev pub walked : ℕ → List ℕ → ℕ → Reply
 walked L ws x = refuse 1 (misfits (length ws)) (walk L ws x)
+
+-- what a lookup answers: by what the words are seen to be
+abbrev pub lookedUp : ℕ → List ℕ → ℕ → Reply
+lookedUp L ws x = lookupOn (8 * L) (seen L ws) (walk L ws x) x

@@ -2,3 +2,5 @@ pub mod Powers
 pub mod Digits
 pub mod Front
 pub mod Number
+pub mod Wrote
+pub mod Joined

@@ -14,7 +14,9 @@ same-length : tie.Need-same-length
 same-length c = search needs
 
 returns : tie.Need-returns
-returns c = let s = c .before .before .before .before .before .before .before .before .args in rw (here-1 (s .feed .now) (s .at) (c .before .before .before .before .if1 .taken)) (c .before .before .announce .ensures)
+returns c =
+    let s = c .before .before .before .before .before .before .before .before .args in
+    rw (here-1 (s .feed .now) (s .at) (c .before .before .before .before .if1 .taken)) (c .before .before .announce .ensures)
 
 withdraw-requires : tie.Need-withdraw-requires
 withdraw-requires c κs = asks-2 _ _ _ (c .before .before .before .before .before .before .pre) (c .before .if2 .taken)
@@ -23,7 +25,9 @@ same-length-2 : tie.Need-same-length-2
 same-length-2 c = search needs
 
 returns-2 : tie.Need-returns-2
-returns-2 c = let s = c .before .before .before .before .before .before .before .before .before .args in rw (here-2 (s .feed .now) (s .at) (c .before .before .before .before .if2 .taken)) (c .before .before .withdraw .ensures)
+returns-2 c =
+    let s = c .before .before .before .before .before .before .before .before .before .args in
+    rw (here-2 (s .feed .now) (s .at) (c .before .before .before .before .if2 .taken)) (c .before .before .withdraw .ensures)
 
 lookup-requires : tie.Need-lookup-requires
 lookup-requires c κs = asks-3 _ _ _ (c .before .before .before .before .before .before .pre) (c .before .before .if1 .left) (c .before .if2 .left)
@@ -32,7 +36,9 @@ same-length-3 : tie.Need-same-length-3
 same-length-3 c = search needs
 
 returns-3 : tie.Need-returns-3
-returns-3 c = let s = c .before .before .before .before .before .before .before .args in rw (here-3 (s .feed .now) (s .at) (c .before .before .before .if1 .left) (c .before .before .if2 .left)) (c .lookup .ensures)
+returns-3 c =
+    let s = c .before .before .before .before .before .before .before .args in
+    rw (here-3 (s .feed .now) (s .at) (c .before .before .before .if1 .left) (c .before .before .if2 .left)) (c .lookup .ensures)
 
 pub ask-spec : {M : Type 1} → statement M
 ask-spec =

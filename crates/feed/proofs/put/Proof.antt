@@ -83,7 +83,10 @@ same-length : tie.Need-same-length
 same-length c = let e = c .before .before .put-two2 .kept .0 ∙ c .before .before .before .before .before .before .put-two .kept .0 in e ∙ simp length-set
 
 returns : tie.Need-returns
-returns c = put-done _ _ _ _ _ _ _ (c .before .before .before .before .before .before .before .before .before .r .given .1) (c .before .before .before .before .before .before .put-two .ensures) (c .before .before .put-two2 .ensures)
+returns c =
+    let second = c .before .before in
+    let first = second .before .before .before .before in
+    put-done _ _ _ _ _ _ _ (first .before .before .before .r .given .1) (first .put-two .ensures) (second .put-two2 .ensures)
 
 same-length-2 : tie.Need-same-length-2
 same-length-2 c = simp length-set (c .before .before .put-two3 .kept .0 ∙ simp length-set)

@@ -1,4 +1,4 @@
--- The number at the start says whether the words are a table, and by what the run refuses. Assumes nothing.
+-- The number at the start says whether the words are a table, and with what the run refuses. Assumes nothing.
 use Rattle.feed.proofs.Loop.{run-refused, run-started}
 use borrow.Author.Needs.{needs}
 use Rattle.feed.proofs.run.Statement.{statement}

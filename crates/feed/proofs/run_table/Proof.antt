@@ -1,4 +1,5 @@
--- The invariant: what is left of the run from here is the whole run, and the rest of the reply is as it was. The measure is what is left of the feed. Assumes nothing.
+-- The invariant: what is left of the run from here is the whole run, and the rest of the reply is as it was. The measure is what is
+-- left of the feed. Assumes nothing.
 use native.Mathlib.Omega.{arith}
 use Prim.Native.Nat.{_-_}
 use lib.ListN.{length}
@@ -19,17 +20,28 @@ halt-requires c κs = (omega arith, omega arith)
 loop-holds : tie.Need-loop-holds Inv-loop μ-loop
 loop-holds c = start _ _ _ _ (c .before .before .before .before .pre) (c .halt .ensures)
 
-record-requires : tie.Need-record-requires Inv-loop μ-loop
-record-requires c κs = going-takes _ _ _ _ _ _ _ (c .before .before .before .loop .inv) (c .before .before .loop-test .taken)
+answer-next-requires : tie.Need-answer-next-requires Inv-loop μ-loop
+answer-next-requires c κs = going-takes _ _ _ _ _ _ _ (c .before .before .before .loop .inv) (c .before .before .loop-test .taken)
 
 halt-requires-2 : tie.Need-halt-requires-2 Inv-loop μ-loop
-halt-requires-2 c κs = (c .before .before .before .before .«record» .ensures .placed .at, omega (arith, c .before .before .before .before .«record» .ensures .placed .out, c .before .before .before .before .«record» .kept .1 .1 .1 .0, c .before .before .before .before .before .before .before .before .loop .inv .long))
+halt-requires-2 c κs =
+    let n = c .before .before .before .before in
+    let t = n .answer-next .ensures in
+    let l = n .before .before .before .before .loop in
+    (t .placed .at, omega (arith, t .placed .out, n .answer-next .kept .1 .1 .1 .0, l .inv .long))
 
 loop-less : tie.Need-loop-less Inv-loop μ-loop
-loop-less c = omega (arith, c .before .before .before .before .before .«record» .ensures .on, c .before .before .before .before .before .«record» .ensures .placed .at)
+loop-less c =
+    let t = c .before .before .before .before .before .answer-next .ensures in
+    omega (arith, t .on, t .placed .at)
 
 loop-again : tie.Need-loop-again Inv-loop μ-loop
-loop-again c = again _ _ _ _ _ _ _ (c .before .before .before .before .before .before .before .before .before .loop .inv) _ _ _ _ (c .before .before .before .before .before .before .before .before .loop-test .taken) (c .before .before .before .before .before .«record» .ensures) (c .before .before .before .before .before .«record» .kept .1 .1 .1 .0) (c .before .before .before .before .before .«record» .kept .1 .0) (c .halt2 .ensures)
+loop-again c =
+    let n = c .before .before .before .before .before in
+    let k = n .answer-next .kept in
+    let test = n .before .before .before in
+    again _ _ _ _ _ _ _ (test .before .loop .inv) _ _ _ _ (test .loop-test .taken) (n .answer-next .ensures) (k .1 .1 .1 .0) (k .1 .0)
+    (c .halt2 .ensures)
 
 last-requires : tie.Need-last-requires Inv-loop μ-loop
 last-requires c κs = search needs
@@ -44,7 +56,11 @@ same-length-2 : tie.Need-same-length-2 Inv-loop μ-loop
 same-length-2 c = c .before .before .before .loop .inv .long
 
 returns : tie.Need-returns Inv-loop μ-loop
-returns c = stopped _ _ _ _ _ _ _ (c .before .before .before .loop .inv) (c .before .before .before .before .before .before .before .before .pre) _ (c .before .before .loop-test .left) (c .before .last .ensures .0)
+returns c =
+    let test = c .before .before in
+    let l = test .before in
+    stopped _ _ _ _ _ _ _ (l .loop .inv) (l .before .before .before .before .before .pre) _ (test .loop-test .left)
+    (c .before .last .ensures .0)
 
 pub run-table-spec : {M : Type 1} → statement M
 run-table-spec =
@@ -54,7 +70,7 @@ run-table-spec =
     μ-loop
     halt-requires
     loop-holds
-    record-requires
+    answer-next-requires
     halt-requires-2
     loop-less
     loop-again

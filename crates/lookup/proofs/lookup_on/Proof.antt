@@ -1,23 +1,48 @@
 -- `lookup::lookup_on` gives what the walk gives; that this is what the words are seen to give is a law. Assumes nothing.
 use mathlib.Core.Path.{_∙_}
 use native.Mathlib.Omega.{arith}
+use lib.ListN.{length}
 use borrow.Author.Needs.{needs}
+use Rattle.numbers.specs.Number.{number, number-lt}
 use Rattle.words.specs.View.{fits-no-misfit}
-use Rattle.lookup.proofs.Laws.{sized-words, both}
+use Rattle.lookup.proofs.Laws.{gave-bad, gave-good, both}
 use Rattle.lookup.proofs.lookup_on.Statement.{statement}
 use Rattle.lookup.proofs.lookup_on.Tie as tie
 
 descend-requires : tie.Need-descend-requires
-descend-requires c κs = c .before .pre
+descend-requires c κs = search needs
 
-answer-requires : tie.Need-answer-requires
-answer-requires c κs = search needs
+cast-if1 : tie.Need-cast-if1
+cast-if1 c = search needs
+
+mul-if1 : tie.Need-mul-if1
+mul-if1 c = search needs
 
 returns : tie.Need-returns
 returns c =
-    let a = c .before .before .before .args in
-    both (a .words .now) (a .address) _ (omega arith)
-    (c .answer .ensures ∙ c .before .descend .ensures ∙ sized-words (a .words .now) (a .address) (fits-no-misfit _ (c .before .before .before .pre))) .0
+    let d = c .before in
+    let k = d .before in
+    let s = k .before .before in
+    let ws = s .args .words .now in
+    let bs = s .args .address .now in
+    both (length bs) ws (number bs) _ (s .pre .1) (s .pre .2) (number-lt bs (λ i. omega (arith, k .shared-slice-known2 .given i)))
+    (gave-bad (length bs) ws (number bs) _ (fits-no-misfit _ (s .pre .0)) (d .descend .ensures) (c .if1 .taken))
+    .0
+
+found-requires : tie.Need-found-requires
+found-requires c κs = search needs
+
+returns-2 : tie.Need-returns-2
+returns-2 c =
+    let d = c .before .before in
+    let k = d .before in
+    let s = k .before .before in
+    let ws = s .args .words .now in
+    let bs = s .args .address .now in
+    both (length bs) ws (number bs) _ (s .pre .1) (s .pre .2) (number-lt bs (λ i. omega (arith, k .shared-slice-known2 .given i)))
+    (c .found .ensures
+    ∙ gave-good (length bs) ws (number bs) _ (fits-no-misfit _ (s .pre .0)) (d .descend .ensures) (c .before .if1 .left))
+    .0
 
 pub lookup-on-spec : {M : Type 1} → statement M
-lookup-on-spec = tie.close (tie.spec descend-requires answer-requires returns)
+lookup-on-spec = tie.close (tie.spec descend-requires cast-if1 mul-if1 returns found-requires returns-2)

@@ -5,11 +5,13 @@ use Rattle.laws.specs.Turns.{size-pos}
 use Rattle.replies.specs.Said.{saidReply}
 use Rattle.feed.proofs.Loop.{took}
 use borrow.Author.Needs.{needs}
-use Rattle.feed.proofs.Progress.record.Statement.{statement}
-use Rattle.feed.proofs.Progress.record.Tie as tie
+use Rattle.feed.proofs.Progress.answer_next.Statement.{statement}
+use Rattle.feed.proofs.Progress.answer_next.Tie as tie
 
 shared-slice-read-size : tie.Need-shared-slice-read-size
-shared-slice-read-size c = omega (arith, size-pos (getD (c .before .before .before .before .args .feed .now) (c .before .before .before .before .args .self .at) 0))
+shared-slice-read-size c =
+    let a = c .before .before .before .before .args in
+    omega (arith, size-pos (getD (a .feed .now) (a .self .at) 0))
 
 size-requires : tie.Need-size-requires
 size-requires c κs = search needs
@@ -49,8 +51,8 @@ returns c =
     took _ _ _ _ t _ _ (saidReply (a .ask .result)) _ _ _ _ (a .before .before .size .ensures .0) (a .ask .ensures) (put .ensures)
     (c .before .before .before .accepts .ensures .0) (c .before .refuses .ensures .0)
 
-pub record-spec : {M : Type 1} → statement M
-record-spec =
+pub answer-next-spec : {M : Type 1} → statement M
+answer-next-spec =
     tie.close
     (tie.spec
     shared-slice-read-size
