@@ -18,7 +18,7 @@ use Rattle.lengths.specs.Layout.{headerWords}
 abbrev pub heldAt : List Route → ℕ → ℕ → ℕ
 heldAt rs m v = hopAt rs (v * 2 ^ (32 - m) * 256 + m)
 
--- those that are no routes
+-- of values of m bits, those that are no routes
 abbrev pub unheld : List Route → ℕ → List ℕ → List ℕ
 unheld rs m [] = []
 unheld rs m (v ∷ vs) = cond (eqb (heldAt rs m v) 0) (v ∷ unheld rs m vs) (unheld rs m vs)
