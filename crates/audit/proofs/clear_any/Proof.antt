@@ -12,8 +12,7 @@ misfit-requires : tie.Need-misfit-requires
 misfit-requires c κs = search needs
 
 returns : tie.Need-returns
-returns c =
-    λ L some levels. clear-refused L (c .before .before .before .args .words .now) _ (c .before .misfit .ensures) (c .if1 .taken)
+returns c = λ L some levels. search (needs, clear-refused)
 
 wipe-requires : tie.Need-wipe-requires
 wipe-requires c κs = search needs
