@@ -1,8 +1,8 @@
 -- What the loops and returns of `address` ask, over plain numbers and lists. Assumes nothing.
-use mathlib.Core.Path.{_≡_, refl, sym, ap, ap₂, _∙_}
-use mathlib.Core.Bool.{Bool, true, false, not}
+use mathlib.Core.Path.{_≡_, sym, ap, ap₂, _∙_}
+use mathlib.Core.Bool.{true, false, not}
 use mathlib.Core.List.{List}
-use Prim.Native.Nat.{ℕ, suc, _+_, _-_, _*_, _/_, _%_, _^_, _≤_, _<_}
+use Prim.Native.Nat.{ℕ, _+_, _-_, _*_, _/_, _%_, _^_, _≤_, _<_}
 use native.Mathlib.Nat.{mod-one, zero-mul, mul-le-mul-right}
 use native.Mathlib.Omega.{arith}
 use lib.Dec.{eqb}
@@ -10,7 +10,6 @@ use lib.ListN.{length, getD, drop}
 use lib.Pow.{pow-pos, mod-pow-add, mod-mod-pow}
 use borrow.Author.Tests.{eq-eqb, ne-eqb}
 use Rattle.routes.specs.Route.{stray}
-use Rattle.numbers.specs.Front.{byteOf}
 use Rattle.numbers.specs.Number.{number, AreBytes, number-byte, number-rest, number-some, number-end}
 
 -- ---- set_from

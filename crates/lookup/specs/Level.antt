@@ -6,13 +6,13 @@ use Prim.Native.Nat.{ℕ, zero, suc, _+_, _*_, _/_, _%_, _^_, _≤_, _<_}
 use native.Mathlib.Nat.{pow-succ'}
 use native.Mathlib.Omega.{arith}
 use lib.Dec.{eqb}
-use lib.Pow.{pow-pos, shr-shr}
+use lib.Pow.{pow-pos}
 use borrow.Author.Tests.{ne-eqb, le-ltb}
 use Rattle.sizes.specs.Sizes.{slotEnd, hopBound}
 use Rattle.routes.specs.Match.{Match, none, orShorter, last}
 use Rattle.logic.specs.Cases.{same}
 use Rattle.array.specs.Block.{bestOf}
-use Rattle.array.specs.Best.{best-parts}
+use Rattle.array.specs.Best.{best-parts, halved}
 use Rattle.lookup.specs.Walk.{hopOf, lengthOf, outside, deeper}
 
 -- ---- a best is in its range
@@ -35,9 +35,6 @@ hit-deeper (suc h) base d m b w =
     let q : (d * hopBound + suc h) / hopBound ≡ d = omega arith in
     rw (ne-eqb (suc h) 0 (λ e. omega arith), p, q, ne-eqb (suc h) 0 (λ e. omega arith))
 
-halved : (s e : ℕ) → s / 2 / 2 ^ e ≡ s / 2 ^ suc e
-halved s e = let q : suc e ≡ 1 + e = omega arith in rw q (shr-shr s 1 e)
-
 -- g is the hop of each length along an address, f the slots of the array whose lengths are base + 1 .. base + d, s the slot of
 -- the last one
 pub level-last : (g f : ℕ → ℕ) → ((s : ℕ) → 1 ≤ s → s < slotEnd → f s < hopBound) → (base : ℕ) (m : Match) (d s : ℕ) → 2 ^ d ≤ s
@@ -56,15 +53,6 @@ level-last g f hops base m (suc d) s l b start along =
     let above = level-last g f hops base m d (s / 2) (omega (arith, l, pow-succ' 2 d)) (omega arith) (rw (halved s d) start)
     (λ j k p h. rw (halved s k) (along j (suc k) (omega arith) h)) in
     rw (e, here, above, ← e) (hit-deeper (f s) base (suc d) m (bestOf f (s / 2) d) (hops s (omega (arith, l, pow-pos (suc d))) b))
-
--- lengths with nothing held add nothing
-pub last-past : (g : ℕ → ℕ) (k n : ℕ) → k ≤ n → ((l : ℕ) → k < l → l ≤ n → g l ≡ 0) → last g n ≡ last g k
-unfolding last
-last-past g k zero h z = let q : k ≡ 0 = omega arith in rw q
-last-past g k (suc n) h z =
-    same k (suc n)
-    (λ q _. rw q)
-    (λ q _. rw (z (suc n) (omega arith) (omega arith)) (last-past g k n (omega arith) (λ l a b. z l a (omega arith))))
 
 -- the last hop above level k, whose lengths begin past 8 * k
 abbrev pub upTo : (ℕ → ℕ) → ℕ → Match

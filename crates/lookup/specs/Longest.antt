@@ -8,15 +8,15 @@ use mathlib.Core.Logic.{⊎-elim}
 use mathlib.Core.Bool.{false}
 use mathlib.Core.List.{List}
 use Prim.Native.Nat.{ℕ, zero, suc, _+_, _-_, _*_, _/_, _%_, _^_, _≤_, _<_}
-use native.Mathlib.Nat.{mul-add-div-right, mul-assoc}
 use native.Mathlib.Omega.{arith}
-use lib.Pow.{pow-pos, pow-add, shr-shr, shr-lt}
+use lib.Pow.{shr-shr, shr-lt}
 use borrow.Author.Tests.{eq-eqb, ne-eqb, le-ltb}
 use Rattle.sizes.specs.Sizes.{cellSlots, levelBound}
 use Rattle.routes.specs.Match.{longest, last}
 use Rattle.routes.specs.Answers.{matched}
 use Rattle.logic.specs.Cases.{same}
-use Rattle.laws.specs.Longest.{longest-walk}
+use Rattle.laws.specs.Longest.{longest-walk, last-past}
+use Rattle.numbers.specs.Powers.{cut}
 use Rattle.numbers.specs.Front.{front, byteOf, front-more}
 use Rattle.array.specs.Right.{Right}
 use Rattle.tree.specs.Arrays.{Arrays, at, node, held}
@@ -28,20 +28,13 @@ use Rattle.words.specs.Table.{listOf, seen}
 use Rattle.words.specs.Almost.{Table}
 use Rattle.words.specs.View.{seen-cases}
 use Rattle.lookup.specs.Walk.{outside, deeper, walkFrom, walk, walked, lookedUp}
-use Rattle.lookup.specs.Level.{best-inside, level-last, level-first, last-past, upTo}
+use Rattle.lookup.specs.Level.{best-inside, level-last, level-first, upTo}
 
 -- ---- bytes of an address
 
--- the first j bits of a byte that stands below v
-cut : (v i e j : ℕ) → e + j ≡ 8 → (v * 256 + i) / 2 ^ e ≡ v * 2 ^ j + i / 2 ^ e
-cut v i e j p =
-    let q : j + e ≡ 8 = omega arith in
-    let r : 256 ≡ 2 ^ j * 2 ^ e = rw q at (pow-add 2 j e) in
-    rw (r, ← (mul-assoc v (2 ^ j) (2 ^ e))) (mul-add-div-right (pow-pos e) (v * 2 ^ j) i)
-
 -- the slot of those bits in the array of v
 slot-cut : (i e j : ℕ) → e + j ≡ 8 → (cellSlots + i) / 2 ^ e ≡ 2 ^ j + i / 2 ^ e
-slot-cut i e j p = cut 1 i e j p ∙ omega arith
+slot-cut i e j p = cut 1 i j e (omega arith) ∙ omega arith
 
 byte-cut : (i e j : ℕ) → e + j ≡ 8 → i < 256 → i / 2 ^ e < 2 ^ j
 byte-cut i e j p b = let q : j + e ≡ 8 = omega arith in shr-lt j e (rw q b)
@@ -51,7 +44,7 @@ bits : (L x k e j : ℕ) → k < L → e + j ≡ 8 → x / 2 ^ (8 * L - (8 * k +
 bits L x k e j p q =
     let s = 8 * L - 8 * suc k in
     let r : 8 * L - (8 * k + j) ≡ s + e = omega arith in
-    rw r (sym (shr-shr x s e) ∙ ap (λ (y : ℕ). y / 2 ^ e) (front-more L x k p) ∙ cut (front L x k) (byteOf L x k) e j q)
+    rw r (sym (shr-shr x s e) ∙ ap (λ (y : ℕ). y / 2 ^ e) (front-more L x k p) ∙ cut (front L x k) (byteOf L x k) j e (omega arith))
 
 -- length 0 is held in the array of level 0
 held-root : (t : Arrays) (v w k : ℕ) → k ≡ 0 → held t v 0 ≡ t .slot (node t w k) 1

@@ -1,7 +1,7 @@
 -- The number that bytes write down, the high one first, for any number of bytes. Assumes nothing.
 --
 --     10.1.4.0      number = 10 * 2 ^ 24 + 1 * 2 ^ 16 + 4 * 2 ^ 8 + 0
-use mathlib.Core.Path.{_≡_, refl, sym, ap, ap₂, _∙_}
+use mathlib.Core.Path.{_≡_, sym, ap, ap₂, _∙_}
 use mathlib.Core.List.{List, [], _∷_, _++_}
 use Prim.Native.Nat.{ℕ, zero, suc, _+_, _-_, _*_, _/_, _%_, _^_, _≤_, _<_}
 use native.Mathlib.Omega.{arith}

@@ -2,10 +2,8 @@
 use mathlib.Core.Path.{_≡_, refl, sym, ap, ap₂, _∙_}
 use mathlib.Core.Logic.{_⊎_, _≢_, inl, inr, ⊎-elim}
 use Prim.Native.Nat.{ℕ, zero, suc, _+_, _/_, _%_, _^_, _≤_, _<_}
-use native.Mathlib.Nat.{mod-lt}
 use native.Mathlib.Omega.{arith}
 use borrow.Author.Tests.{eq-eqb, ne-eqb}
-use lib.Pow.{pow-pos, pow-mono}
 use Rattle.logic.specs.Cases.{same}
 use Rattle.sizes.specs.Sizes.{slotEnd, cellCount, levelBound}
 use Rattle.routes.specs.Room.{level}
