@@ -9,12 +9,12 @@ ghost use lib.ListN.{length};
 ghost use Rattle.routes.specs.Bytes.{written};
 ghost use Rattle.routes.specs.Seen.{countOn, frontOn};
 ghost use Rattle.arrays.specs.Table.{listOf, seen};
-ghost use Rattle.writing.specs.Told.{toldCount, Fills};
-ghost use Rattle.writing.specs.Wrote.{Wrote};
+ghost use Rattle.writing.specs.Answer.{countAnswer, Fills};
+ghost use Rattle.numbers.specs.Wrote.{Wrote};
 ghost use Rattle.writing.specs.Halves.{halfOf};
 ghost use Rattle.writing.specs.Asked.{bytesOwn, bytesBelow, Puts, Within, Branches, Dumps};
 
-// The number of bytes of the list written out, or the number by which that is refused.
+// The number of bytes of the list written out, or the number with which that is refused.
 pub enum Counted {
     Bytes(usize),
     Refused(u32),
@@ -94,9 +94,9 @@ fn dump(words: &[u32], buffer: &mut [u8]) -> usize
     end + 1
 }
 
-// How many bytes writing out puts into a buffer of `room` bytes, or by which number it refuses.
+// How many bytes writing out puts into a buffer of `room` bytes, or the number with which it refuses.
 pub fn count(words: &[u32], room: usize) -> Counted
-    ensures { λ r. ⌜ toldCount r ≡ countOn (seen 4 (now (words .entry))) room ⌝ }
+    ensures { λ r. ⌜ countAnswer r ≡ countOn (seen 4 (now (words .entry))) room ⌝ }
 {
     let checked = audit::check(words);
     match checked {
