@@ -1,4 +1,5 @@
--- The number of an address by parts: one byte more, zeros behind the first bytes; and four bytes written down again. Assumes nothing.
+-- The number of an address by parts: one byte more, zeros behind the first bytes. And four bytes written down again. Assumes
+-- nothing.
 use mathlib.Core.Path.{_≡_, refl, sym, ap, _∙_}
 use mathlib.Core.List.{List, [], _∷_, _++_}
 use Prim.Native.Nat.{ℕ, zero, suc, _+_, _-_, _*_, _%_, _^_, _≤_, _<_}

@@ -123,7 +123,8 @@ size-back (refuses n) = refl
 
 -- two calls stand below it: the count, and the fill
 pub write-below : (ws b c : List ℕ) (r : Written) → Writes ws b c r
-    → Below (λ t. wrote (countAnswer t)) (λ t. (countAnswer t ≡ countOn (seen 4 ws) (length b)) × Fills (seen 4 ws) b (r .bytes) c) r
+    → Below (λ t. wrote (countAnswer t))
+    (λ t. (countAnswer t ≡ countOn (seen 4 ws) (length b)) × Fills (seen 4 ws) b (r .bytes) c) r
 write-below ws b c r p =
     let e = size-back (countOn (seen 4 ws) (length b)) in
     record {

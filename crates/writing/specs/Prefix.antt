@@ -1,7 +1,7 @@
--- The address of the prefix at which writing out stands, as bytes. Those that the prefix reaches into are its own, with zeros behind
--- it in the last one. The bytes behind are anything: a prefix further down has left its own there. Assumes nothing.
+-- The address of the prefix at which writing out stands, as bytes. Those that the prefix reaches into are its own, with zeros
+-- behind it in the last one. The bytes behind are anything: a prefix further down has left its own there. Assumes nothing.
 --
---     10.1.4.0/22, which has 10 bits below it:      it reaches into 4 - 10 / 8 = 3 bytes, 10, 1 and 4; 2 of them are whole
+--     10.1.4.0/22, which has 10 bits below it, reaches into 4 - 10 / 8 = 3 bytes: 10, 1 and 4. Two of them are whole
 use mathlib.Core.Path.{_≡_, refl, sym, ap, ap₂, _∙_}
 use mathlib.Core.Logic.{_≢_}
 use mathlib.Core.List.{List}
@@ -111,7 +111,8 @@ stand-leads a bits A q d x h e s w =
     let f : number (take k b) ≡ q = ap number (take-set-le k a k y (omega arith)) ∙ w in
     let g : getD b k 0 ≡ x * 2 ^ (bits % 8) = getD-set-same a k y 0 (omega arith) ∙ slot-byte A d x (bits % 8) e s in
     let m : (q * 2 ^ d + x) * 2 ^ (bits % 8) ≡ q * 256 + x * 2 ^ (bits % 8) =
-    add-mul (q * 2 ^ d) x (2 ^ (bits % 8)) ∙ ap (λ (n : ℕ). n + x * 2 ^ (bits % 8)) (mul-assoc q (2 ^ d) (2 ^ (bits % 8)) ∙ ap (λ (n : ℕ). q * n) z) in
+    add-mul (q * 2 ^ d) x (2 ^ (bits % 8))
+    ∙ ap (λ (n : ℕ). n + x * 2 ^ (bits % 8)) (mul-assoc q (2 ^ d) (2 ^ (bits % 8)) ∙ ap (λ (n : ℕ). q * n) z) in
     record {
       most = omega (arith, l);
       bytes =

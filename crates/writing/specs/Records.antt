@@ -17,7 +17,8 @@ unfolding bytesOf
 bytes-append [] ys = refl
 bytes-append (x ∷ xs) ys =
     let b : List ℕ = recordBytes (update (announce (x .addr) (x .len) (x .hop))) in
-    ap (λ (l : List ℕ). b ++ l) (bytes-append xs ys) ∙ sym (append-assoc b (recordsBytes (announced xs)) (recordsBytes (announced ys)))
+    ap (λ (l : List ℕ). b ++ l) (bytes-append xs ys)
+    ∙ sym (append-assoc b (recordsBytes (announced xs)) (recordsBytes (announced ys)))
 
 pub bytes-length : (rs : List Route) → length (bytesOf rs) ≡ 8 * length rs
 unfolding bytesOf

@@ -1,5 +1,5 @@
-// Writing a table's routes out into a lent buffer: lower address first, at equal address shorter length first. That is the order in
-// which a walk down the binary trie meets the prefixes, array below array.
+// Writing a table's routes out into a lent buffer: lower address first, at equal address shorter length first. That is the order
+// in which a walk down the binary trie meets the prefixes, array below array.
 use sizes::ARRAY_WORDS;
 use sizes::CELL_SLOTS;
 use sizes::CELLS_AT;
@@ -13,7 +13,7 @@ ghost use Rattle.arrays.specs.Table.{listOf, seen};
 ghost use Rattle.writing.specs.Answer.{countAnswer, Fills};
 ghost use Rattle.numbers.specs.Wrote.{Wrote};
 ghost use Rattle.writing.specs.Halves.{halfOf};
-ghost use Rattle.writing.specs.Asked.{bytesOwn, bytesBelow, Puts, Within, Branches, Keeps, Dumps};
+ghost use Rattle.writing.specs.Asked.{bytesOwn, bytesBelow, Puts, Within, Branches, Splits, Keeps, Dumps};
 ghost use Rattle.writing.specs.Prefix.{standAt};
 ghost use Rattle.address.specs.Parts.{filled};
 
@@ -23,7 +23,7 @@ pub enum Counted {
     Refused(u32),
 }
 
-// The byte of a prefix's address at i, where the prefix reaches into some bytes: 0 behind them.
+// The byte at i of the address of a prefix that reaches into some bytes: 0 behind them.
 fn byte_of(address: &[u8], reach: usize, i: usize) -> u8
     requires { ⌜ (reach ≤ length (now address)) × (i < length (now address)) ⌝ }
     ensures { λ r. ⌜ r ≡ getD (filled reach (now (address .entry))) i 0 ⌝ }
@@ -47,7 +47,8 @@ fn put_address(address: &[u8], reach: usize, buffer: &mut [u8], at: usize) -> us
     at + i
 }
 
-// The record of a prefix at `at`, unless its hop is 0; returns the place after it. The prefix has some bits below it in the address.
+// The record of a prefix at `at`, unless its hop is 0; returns the place after it. The prefix is the address without some bits at
+// its end.
 fn put(hop: u32, address: &[u8], bits: usize, buffer: &mut [u8], at: usize) -> usize
     requires { ⌜ Puts hop (now address) bits (now buffer) at ⌝ }
     ensures { λ r. ⌜ Wrote (now (buffer .entry)) at (bytesOwn bits (now (address .entry)) hop) r (now (buffer .exit)) ⌝ }
@@ -63,8 +64,8 @@ fn put(hop: u32, address: &[u8], bits: usize, buffer: &mut [u8], at: usize) -> u
     end + 3
 }
 
-// The slot of the lower half of the prefix in `slot`, 0 where there is none; the upper half's is the next. Slot s of an array has its
-// halves at 2 s and 2 s + 1; from slot 256 on it stands above a cell and has its halves in the array below that.
+// The slot of the lower half of the prefix in `slot`, 0 where there is none; the upper half's is the next. Slot s of an array has
+// its halves at 2 s and 2 s + 1; from slot 256 on it stands above a cell and has its halves in the array below that.
 fn half(words: &[u32], slot: usize) -> usize
     requires { ⌜ Within (now words) slot ⌝ }
     ensures { λ r. ⌜ r ≡ halfOf (now (words .entry)) slot ⌝ }
@@ -81,8 +82,8 @@ fn half(words: &[u32], slot: usize) -> usize
     ARRAY_WORDS * below + 2
 }
 
-// Makes the address that of the prefix in `slot`, whose whole bytes are there. A slot's number has the prefix's bits behind a 1, so moved
-// to the front of a byte they are its last byte.
+// Makes the address that of the prefix in `slot`, of which the whole bytes are there. The slot's number in its array is a 1 and the
+// prefix's bits in that array: with the zeros behind them they are its byte, and the 1 falls out in front.
 fn stand_at(address: &mut [u8], slot: usize, bits: usize)
     requires { ⌜ bits < 8 * length (now address) ⌝ }
     ensures { λ _. ⌜ now (address .exit) ≡ standAt (now (address .entry)) slot bits ⌝ }
@@ -91,8 +92,8 @@ fn stand_at(address: &mut [u8], slot: usize, bits: usize)
     address[k] = ((slot << (bits % 8)) % 256) as u8;
 }
 
-// The records of all below the prefix in `slot`: the lower half's own and what is below it, then the upper half's. Returns the place
-// after them. The address is left as that of another prefix, with the same whole bytes.
+// The records of all below the prefix in `slot`, which has some bits below it in the address. Returns the place after them. The
+// address is lent to be changed: it is left as another prefix's, with the same whole bytes.
 fn branch(
     words: &[u32],
     slot: usize,
@@ -103,7 +104,8 @@ fn branch(
 ) -> usize
     requires { ⌜ Branches (now words) slot (now address) bits (now buffer) at ⌝ }
     ensures kept { λ r. ⌜ Keeps (now (address .entry)) bits (now (address .exit)) ⌝ }
-    ensures wrote { λ r. ⌜ Wrote (now (buffer .entry)) at (bytesBelow (now (words .entry)) bits (now (address .entry))) r (now (buffer .exit)) ⌝ }
+    ensures wrote { λ r. ⌜ Wrote (now (buffer .entry)) at (bytesBelow (now (words .entry)) bits (now (address .entry)))
+        r (now (buffer .exit)) ⌝ }
 {
     if bits == 0 {
         return at;
@@ -112,6 +114,24 @@ fn branch(
     if low == 0 {
         return at;
     }
+    halves(words, low, address, bits, buffer, at)
+}
+
+// The same where its lower half stands in the slot `low`: that half's own record and what is below it, then the upper half's. Apart
+// from `branch`, so that the compiler tests for a half before it calls: most prefixes have none.
+fn halves(
+    words: &[u32],
+    low: usize,
+    address: &mut [u8],
+    bits: usize,
+    buffer: &mut [u8],
+    at: usize,
+) -> usize
+    requires { ⌜ Splits (now words) low (now address) bits (now buffer) at ⌝ }
+    ensures kept { λ r. ⌜ Keeps (now (address .entry)) bits (now (address .exit)) ⌝ }
+    ensures wrote { λ r. ⌜ Wrote (now (buffer .entry)) at (bytesBelow (now (words .entry)) bits (now (address .entry)))
+        r (now (buffer .exit)) ⌝ }
+{
     let high = low + 1;
     let rest = bits - 1;
     stand_at(address, low, rest);
@@ -129,7 +149,7 @@ fn dump(words: &[u32], buffer: &mut [u8]) -> usize
 {
     let mut address = [0u8; 4];
     let p = put(words[ROOT_SLOT], &address[..], 32, buffer, 0);
-    let end = branch(words, ROOT_SLOT, &mut address[..], 32, buffer, p);
+    let end = halves(words, ROOT_SLOT + 1, &mut address[..], 32, buffer, p);
     buffer[end] = 0;
     end + 1
 }
