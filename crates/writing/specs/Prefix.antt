@@ -2,7 +2,7 @@
 -- behind it in the last one. The bytes behind are anything: a prefix further down has left its own there. Assumes nothing.
 --
 --     10.1.4.0/22, which has 10 bits below it, reaches into 4 - 10 / 8 = 3 bytes: 10, 1 and 4. Two of them are whole
-use mathlib.Core.Path.{_≡_, refl, sym, ap, ap₂, _∙_}
+use mathlib.Core.Path.{_≡_, sym, ap, ap₂, _∙_}
 use mathlib.Core.Logic.{_≢_}
 use mathlib.Core.List.{List}
 use Prim.Native.Nat.{ℕ, suc, _+_, _-_, _*_, _/_, _%_, _^_, _≤_, _<_}
@@ -10,7 +10,7 @@ use native.Mathlib.Nat.{mul-assoc, add-mul}
 use native.Mathlib.Omega.{arith}
 use lib.ListN.{length, getD, take, set, length-set}
 use lib.Seq.{take-set-le, getD-set-same}
-use lib.Pow.{pow-pos, pow-add, shl-shr, shr-shr, shl-lt, split, high}
+use lib.Pow.{pow-add, shl-shr, shr-shr, shl-lt, high}
 use Rattle.logic.specs.Cases.{less}
 use Rattle.sizes.specs.Sizes.{wordAt}
 use Rattle.address.specs.Number.{number, AreBytes}

@@ -23,13 +23,15 @@ pub enum Counted {
     Refused(u32),
 }
 
-// The byte at i of the address of a prefix that reaches into some bytes: 0 behind them.
+// The byte at i of the address of a prefix that reaches into some bytes: 0 behind them. It is read first, so that the test needs no
+// jump.
 fn byte_of(address: &[u8], reach: usize, i: usize) -> u8
     requires { ⌜ (reach ≤ length (now address)) × (i < length (now address)) ⌝ }
     ensures { λ r. ⌜ r ≡ getD (filled reach (now (address .entry))) i 0 ⌝ }
 {
+    let y = address[i];
     if i < reach {
-        return address[i];
+        return y;
     }
     0
 }

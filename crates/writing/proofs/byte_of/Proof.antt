@@ -5,18 +5,18 @@ use borrow.Author.Needs.{needs}
 use Rattle.writing.proofs.byte_of.Statement.{statement}
 use Rattle.writing.proofs.byte_of.Tie as tie
 
-shared-slice-read-result : tie.Need-shared-slice-read-result
-shared-slice-read-result c = search needs
+shared-slice-read-y : tie.Need-shared-slice-read-y
+shared-slice-read-y c = search needs
 
 returns : tie.Need-returns
 returns c =
     let s = c .before .before in
-    sym (filled-own (s .args .address .now) (s .args .reach) (s .pre .0) (s .args .i) (c .before .if1 .taken))
+    sym (filled-own (s .args .address .now) (s .args .reach) (s .pre .0) (s .args .i) (c .if1 .taken))
 
 returns-2 : tie.Need-returns-2
 returns-2 c =
-    let s = c .before in
+    let s = c .before .before in
     sym (filled-zero (s .args .address .now) (s .args .reach) (s .pre .0) (s .args .i) (c .if1 .left))
 
 pub byte-of-spec : {M : Type 1} → statement M
-byte-of-spec = tie.close (tie.spec shared-slice-read-result returns returns-2)
+byte-of-spec = tie.close (tie.spec shared-slice-read-y returns returns-2)
