@@ -23,8 +23,8 @@ pub enum Counted {
     Refused(u32),
 }
 
-// The byte at i of the address of a prefix that reaches into some bytes: 0 behind them. It is read first, so that the test needs no
-// jump.
+// The byte at i of the address of a prefix that reaches into some bytes: 0 behind them. It is read first, so that the test needs
+// no jump.
 fn byte_of(address: &[u8], reach: usize, i: usize) -> u8
     requires { ⌜ (reach ≤ length (now address)) × (i < length (now address)) ⌝ }
     ensures { λ r. ⌜ r ≡ getD (filled reach (now (address .entry))) i 0 ⌝ }
@@ -84,8 +84,8 @@ fn half(words: &[u32], slot: usize) -> usize
     ARRAY_WORDS * below + 2
 }
 
-// Makes the address that of the prefix in `slot`, of which the whole bytes are there. The slot's number in its array is a 1 and the
-// prefix's bits in that array: with the zeros behind them they are its byte, and the 1 falls out in front.
+// Makes the address that of the prefix in `slot`, of which the whole bytes are there. The slot's number in its array is a 1 and
+// then the prefix's bits there: moved to the front of a byte they are the prefix's last, and the 1 falls out.
 fn stand_at(address: &mut [u8], slot: usize, bits: usize)
     requires { ⌜ bits < 8 * length (now address) ⌝ }
     ensures { λ _. ⌜ now (address .exit) ≡ standAt (now (address .entry)) slot bits ⌝ }
@@ -119,8 +119,8 @@ fn branch(
     halves(words, low, address, bits, buffer, at)
 }
 
-// The same where its lower half stands in the slot `low`: that half's own record and what is below it, then the upper half's. Apart
-// from `branch`, so that the compiler tests for a half before it calls: most prefixes have none.
+// The same where its lower half stands in the slot `low`: that half's own record and what is below it, then the upper half's.
+// Apart from `branch`, so that the compiler tests for a half before it calls: most prefixes have none.
 fn halves(
     words: &[u32],
     low: usize,
