@@ -1,3 +1,4 @@
 pub mod Address
 pub mod Four
 pub mod Bit
+pub mod Parts

@@ -25,7 +25,7 @@ use Rattle.audit.specs.declared.Checked.the-variants as checked
 use Rattle.replies.specs.Said.{saidReply, replyOf, said-back}
 use Rattle.lookup.specs.Walk.{walk}
 use Rattle.update.specs.Update as update
-use Rattle.writing.specs.Told.{toldCount, Fills, front-length, front-none}
+use Rattle.writing.specs.Answer.{countAnswer, Fills, front-length, front-none}
 use Rattle.writing.specs.declared.Counted.{Counted as Size}
 use Rattle.writing.specs.declared.Counted.the-variants as size
 use Rattle.feed.specs.Runs as feed
@@ -117,13 +117,14 @@ abbrev asSize : Answer ℕ → Size
 asSize (gives n) = size.Bytes n
 asSize (refuses n) = size.Refused n
 
-size-back : (a : Answer ℕ) → toldCount (asSize a) ≡ a
+size-back : (a : Answer ℕ) → countAnswer (asSize a) ≡ a
 size-back (gives n) = refl
 size-back (refuses n) = refl
 
 -- two calls stand below it: the count, and the fill
 pub write-below : (ws b c : List ℕ) (r : Written) → Writes ws b c r
-    → Below (λ t. wrote (toldCount t)) (λ t. (toldCount t ≡ countOn (seen 4 ws) (length b)) × Fills (seen 4 ws) b (r .bytes) c) r
+    → Below (λ t. wrote (countAnswer t))
+    (λ t. (countAnswer t ≡ countOn (seen 4 ws) (length b)) × Fills (seen 4 ws) b (r .bytes) c) r
 write-below ws b c r p =
     let e = size-back (countOn (seen 4 ws) (length b)) in
     record {

@@ -17,7 +17,7 @@ use Rattle.laws.specs.Round.{round-trip}
 use Rattle.words.specs.Table.{seen}
 use Rattle.audit.specs.Told.{Clears}
 use Rattle.audit.specs.declared.Cleared.{Cleared}
-use Rattle.writing.specs.Told.{Fills}
+use Rattle.writing.specs.Answer.{Fills}
 use Rattle.feed.specs.Runs.{Runs}
 use Rattle.feed.specs.declared.Ran.{Ran}
 use Rattle.feed.specs.declared.Ran.the-variants.{Stopped}

@@ -22,7 +22,7 @@ use Rattle.replies.specs.declared.Reply as code
 use Rattle.lookup.specs.Walk.{walk}
 use Rattle.update.specs.Update.{Updates, Applies}
 use Rattle.update.specs.Sharp as update
-use Rattle.writing.specs.Told as writing
+use Rattle.writing.specs.Answer as writing
 use Rattle.writing.specs.declared.Counted.{Counted}
 use Rattle.feed.specs.Runs.{Runs}
 use Rattle.feed.specs.Sharp as feed
@@ -65,8 +65,8 @@ work-agrees ws u vs vs′ r r′ p q =
 
 -- ---- count, fill, write_out
 
-pub count-agrees : (ws : List ℕ) (room : ℕ) (r r′ : Counted) → writing.toldCount r ≡ countOn (seen 4 ws) room
-    → writing.toldCount r′ ≡ countOn (seen 4 ws) room → r ≡ r′
+pub count-agrees : (ws : List ℕ) (room : ℕ) (r r′ : Counted) → writing.countAnswer r ≡ countOn (seen 4 ws) room
+    → writing.countAnswer r′ ≡ countOn (seen 4 ws) room → r ≡ r′
 count-agrees ws room r r′ p q = writing.count-sharp (seen 4 ws) room r r′ p q
 
 pub fill-agrees : (ws b : List ℕ) (n n′ : ℕ) (c c′ : List ℕ) → writing.Fills (seen 4 ws) b n c

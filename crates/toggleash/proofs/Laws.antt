@@ -15,7 +15,7 @@ use Rattle.replies.specs.Said.{saidReply}
 use Rattle.replies.specs.declared.Reply.{Reply}
 use Rattle.update.specs.Update.{Updates as Made}
 use Rattle.writing.specs.declared.Counted.{Counted}
-use Rattle.writing.specs.Told.{toldCount, Fills, front-length, front-none}
+use Rattle.writing.specs.Answer.{countAnswer, Fills, front-length, front-none}
 use Rattle.feed.specs.declared.Ran.{Ran as Outcome}
 use Rattle.feed.specs.declared.Ran.the-variants.{Stopped, Refused as Unfit}
 use Rattle.feed.specs.Runs.{runAnswer, reported, Runs as Run}
@@ -61,8 +61,8 @@ module _ (ws b c : List ℕ) (n : ℕ) (f : Fills (seen 4 ws) b n c) where
       go (gives m) e = let q : n ≡ m = f .count ∙ front-length (seen 4 ws) (length b) m e in rw (e, q)
       go (refuses m) e = absurd (h (f .count ∙ ap length (front-none (seen 4 ws) (length b) m e)))
 
-  pub written-told : (r : Counted) (k : ℕ) (x : Written) → k ≡ length b → toldCount r ≡ countOn (seen 4 ws) k
-      → x ≡ wrote (toldCount r) → Writes ws b c x
+  pub written-told : (r : Counted) (k : ℕ) (x : Written) → k ≡ length b → countAnswer r ≡ countOn (seen 4 ws) k
+      → x ≡ wrote (countAnswer r) → Writes ws b c x
   written-told r k x e t w = record { answer = w ∙ ap wrote (t ∙ ap (countOn (seen 4 ws)) e); front = front }
 
 -- ---- the run

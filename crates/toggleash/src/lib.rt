@@ -9,7 +9,7 @@ ghost use Rattle.routes.specs.Answers.{announce as announced, withdraw as withd
 ghost use Rattle.routes.specs.Seen.{lookupOn, checkOn};
 ghost use Rattle.words.specs.Table.{seen};
 ghost use Rattle.lookup.specs.Walk.{walk};
-ghost use Rattle.writing.specs.Told.{toldCount};
+ghost use Rattle.writing.specs.Answer.{countAnswer};
 ghost use Rattle.feed.specs.Runs.{runAnswer};
 ghost use Rattle.audit.specs.Told.{toldClear, toldCheck};
 ghost use Rattle.replies.specs.Said.{saidReply};
@@ -143,7 +143,7 @@ fn change(answer: Reply) -> Updated
 }
 
 fn size(answer: writing::Counted) -> Written
-    ensures { λ r. ⌜ r ≡ wrote (toldCount answer) ⌝ }
+    ensures { λ r. ⌜ r ≡ wrote (countAnswer answer) ⌝ }
 {
     match answer {
         writing::Counted::Bytes(n) => Written {

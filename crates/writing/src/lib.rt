@@ -1,49 +1,73 @@
-// Writing a table's routes out into a lent buffer: lower address first, at equal address shorter length first. That is the order in
-// which a walk down the binary trie meets the prefixes, array below array.
+// Writing a table's routes out into a lent buffer: lower address first, at equal address shorter length first. That is the order
+// in which a walk down the binary trie meets the prefixes, array below array.
 use sizes::ARRAY_WORDS;
 use sizes::CELL_SLOTS;
 use sizes::CELLS_AT;
 use sizes::ROOT_SLOT;
 ghost use mathlib.Core.Path.{_≡_};
-ghost use lib.ListN.{length};
+ghost use Prim.Native.Nat.{_+_, _*_, _<_, _≤_};
+ghost use lib.ListN.{length, getD};
 ghost use Rattle.routes.specs.Bytes.{written};
 ghost use Rattle.routes.specs.Seen.{countOn, frontOn};
 ghost use Rattle.words.specs.Table.{listOf, seen};
-ghost use Rattle.writing.specs.Told.{toldCount, Fills};
-ghost use Rattle.writing.specs.Wrote.{Wrote};
+ghost use Rattle.writing.specs.Answer.{countAnswer, Fills};
+ghost use Rattle.numbers.specs.Wrote.{Wrote};
 ghost use Rattle.writing.specs.Halves.{halfOf};
-ghost use Rattle.writing.specs.Asked.{bytesOwn, bytesBelow, Puts, Within, Branches, Dumps};
+ghost use Rattle.writing.specs.Asked.{bytesOwn, bytesBelow, Puts, Within, Branches, Splits, Keeps, Dumps};
+ghost use Rattle.writing.specs.Prefix.{standAt};
+ghost use Rattle.address.specs.Parts.{filled};
 
-// The number of bytes of the list written out, or the number by which that is refused.
+// The number of bytes of the list written out, or the number with which that is refused.
 pub enum Counted {
     Bytes(usize),
     Refused(u32),
 }
 
-// The record of the prefix v above some bits, at `at`, unless its hop is 0; returns the place after it.
-fn put(hop: u32, v: usize, bits: usize, buffer: &mut [u8], at: usize) -> usize
-    requires { ⌜ Puts hop v bits (now buffer) at ⌝ }
-    ensures { λ r. ⌜ Wrote (now (buffer .entry)) at (bytesOwn bits v hop) r (now (buffer .exit)) ⌝ }
+// The byte at i of the address of a prefix that reaches into some bytes: 0 behind them. It is read first, so that the test needs
+// no jump.
+fn byte_of(address: &[u8], reach: usize, i: usize) -> u8
+    requires { ⌜ (reach ≤ length (now address)) × (i < length (now address)) ⌝ }
+    ensures { λ r. ⌜ r ≡ getD (filled reach (now (address .entry))) i 0 ⌝ }
+{
+    let y = address[i];
+    if i < reach {
+        return y;
+    }
+    0
+}
+
+// The bytes of a prefix's address at `at`; returns the place after them.
+fn put_address(address: &[u8], reach: usize, buffer: &mut [u8], at: usize) -> usize
+    requires { ⌜ (reach ≤ length (now address)) × (at + length (now address) ≤ length (now buffer)) ⌝ }
+    ensures { λ r. ⌜ Wrote (now (buffer .entry)) at (filled reach (now (address .entry))) r (now (buffer .exit)) ⌝ }
+{
+    let mut i = 0;
+    while i < address.len() {
+        buffer[at + i] = byte_of(address, reach, i);
+        i += 1;
+    }
+    at + i
+}
+
+// The record of a prefix at `at`, unless its hop is 0; returns the place after it. The prefix is the address without some bits at
+// its end.
+fn put(hop: u32, address: &[u8], bits: usize, buffer: &mut [u8], at: usize) -> usize
+    requires { ⌜ Puts hop (now address) bits (now buffer) at ⌝ }
+    ensures { λ r. ⌜ Wrote (now (buffer .entry)) at (bytesOwn bits (now (address .entry)) hop) r (now (buffer .exit)) ⌝ }
 {
     if hop == 0 {
         return at;
     }
-    let address = v << bits;
-    let high = address / 65536;
-    let low = address % 65536;
+    let length = 8 * address.len() - bits;
     buffer[at] = 1;
-    buffer[at + 1] = (high / 256 % 256) as u8;
-    buffer[at + 2] = (high % 256) as u8;
-    buffer[at + 3] = (low / 256 % 256) as u8;
-    buffer[at + 4] = (low % 256) as u8;
-    buffer[at + 5] = ((32 - bits) % 256) as u8;
-    buffer[at + 6] = (hop / 256 % 256) as u8;
-    buffer[at + 7] = (hop % 256) as u8;
-    at + 8
+    let end = put_address(address, address.len() - bits / 8, buffer, at + 1);
+    buffer[end] = (length % 256) as u8;
+    numbers::put_two(buffer, end + 1, hop);
+    end + 3
 }
 
-// The slot of the lower half of the prefix in `slot`, 0 where there is none; the upper half's is the next. Slot s of an array has its
-// halves at 2 s and 2 s + 1; from slot 256 on it stands above a cell and has its halves in the array below that.
+// The slot of the lower half of the prefix in `slot`, 0 where there is none; the upper half's is the next. Slot s of an array has
+// its halves at 2 s and 2 s + 1; from slot 256 on it stands above a cell and has its halves in the array below that.
 fn half(words: &[u32], slot: usize) -> usize
     requires { ⌜ Within (now words) slot ⌝ }
     ensures { λ r. ⌜ r ≡ halfOf (now (words .entry)) slot ⌝ }
@@ -60,11 +84,30 @@ fn half(words: &[u32], slot: usize) -> usize
     ARRAY_WORDS * below + 2
 }
 
-// The records of all below the prefix v above some bits, which stands in `slot`: the lower half's own and what is below it, then the
-// upper half's. Returns the place after them.
-fn branch(words: &[u32], slot: usize, v: usize, bits: usize, buffer: &mut [u8], at: usize) -> usize
-    requires { ⌜ Branches (now words) slot v bits (now buffer) at ⌝ }
-    ensures { λ r. ⌜ Wrote (now (buffer .entry)) at (bytesBelow (now (words .entry)) bits v) r (now (buffer .exit)) ⌝ }
+// Makes the address that of the prefix in `slot`, of which the whole bytes are there. The slot's number in its array is a 1 and
+// then the prefix's bits there: moved to the front of a byte they are the prefix's last, and the 1 falls out.
+fn stand_at(address: &mut [u8], slot: usize, bits: usize)
+    requires { ⌜ bits < 8 * length (now address) ⌝ }
+    ensures { λ _. ⌜ now (address .exit) ≡ standAt (now (address .entry)) slot bits ⌝ }
+{
+    let k = address.len() - 1 - bits / 8;
+    address[k] = ((slot << (bits % 8)) % 256) as u8;
+}
+
+// The records of all below the prefix in `slot`, which has some bits below it in the address. Returns the place after them. The
+// address is lent to be changed: it is left as another prefix's, with the same whole bytes.
+fn branch(
+    words: &[u32],
+    slot: usize,
+    address: &mut [u8],
+    bits: usize,
+    buffer: &mut [u8],
+    at: usize,
+) -> usize
+    requires { ⌜ Branches (now words) slot (now address) bits (now buffer) at ⌝ }
+    ensures kept { λ r. ⌜ Keeps (now (address .entry)) bits (now (address .exit)) ⌝ }
+    ensures wrote { λ r. ⌜ Wrote (now (buffer .entry)) at (bytesBelow (now (words .entry)) bits (now (address .entry)))
+        r (now (buffer .exit)) ⌝ }
 {
     if bits == 0 {
         return at;
@@ -73,14 +116,32 @@ fn branch(words: &[u32], slot: usize, v: usize, bits: usize, buffer: &mut [u8], 
     if low == 0 {
         return at;
     }
+    halves(words, low, address, bits, buffer, at)
+}
+
+// The same where its lower half stands in the slot `low`: that half's own record and what is below it, then the upper half's.
+// Apart from `branch`, so that the compiler tests for a half before it calls: most prefixes have none.
+fn halves(
+    words: &[u32],
+    low: usize,
+    address: &mut [u8],
+    bits: usize,
+    buffer: &mut [u8],
+    at: usize,
+) -> usize
+    requires { ⌜ Splits (now words) low (now address) bits (now buffer) at ⌝ }
+    ensures kept { λ r. ⌜ Keeps (now (address .entry)) bits (now (address .exit)) ⌝ }
+    ensures wrote { λ r. ⌜ Wrote (now (buffer .entry)) at (bytesBelow (now (words .entry)) bits (now (address .entry)))
+        r (now (buffer .exit)) ⌝ }
+{
     let high = low + 1;
-    let x = 2 * v;
-    let y = 2 * v + 1;
     let rest = bits - 1;
-    let p = put(words[low], x, rest, buffer, at);
-    let q = branch(words, low, x, rest, buffer, p);
-    let r = put(words[high], y, rest, buffer, q);
-    branch(words, high, y, rest, buffer, r)
+    stand_at(address, low, rest);
+    let p = put(words[low], address, rest, buffer, at);
+    let q = branch(words, low, address, rest, buffer, p);
+    stand_at(address, high, rest);
+    let r = put(words[high], address, rest, buffer, q);
+    branch(words, high, address, rest, buffer, r)
 }
 
 // The whole list of a table: the root's length 0, what is below it, and the end.
@@ -88,15 +149,16 @@ fn dump(words: &[u32], buffer: &mut [u8]) -> usize
     requires { ⌜ Dumps (now words) (now buffer) ⌝ }
     ensures { λ r. ⌜ Wrote (now (buffer .entry)) 0 (written (listOf 4 (now (words .entry)))) r (now (buffer .exit)) ⌝ }
 {
-    let p = put(words[ROOT_SLOT], 0, 32, buffer, 0);
-    let end = branch(words, ROOT_SLOT, 0, 32, buffer, p);
+    let mut address = [0u8; 4];
+    let p = put(words[ROOT_SLOT], &address[..], 32, buffer, 0);
+    let end = halves(words, ROOT_SLOT + 1, &mut address[..], 32, buffer, p);
     buffer[end] = 0;
     end + 1
 }
 
-// How many bytes writing out puts into a buffer of `room` bytes, or by which number it refuses.
+// How many bytes writing out puts into a buffer of `room` bytes, or the number with which it refuses.
 pub fn count(words: &[u32], room: usize) -> Counted
-    ensures { λ r. ⌜ toldCount r ≡ countOn (seen 4 (now (words .entry))) room ⌝ }
+    ensures { λ r. ⌜ countAnswer r ≡ countOn (seen 4 (now (words .entry))) room ⌝ }
 {
     let checked = audit::check(words);
     match checked {
