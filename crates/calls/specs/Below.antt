@@ -17,7 +17,7 @@ use Rattle.routes.specs.Runs.{Ran as Outcome}
 use Rattle.routes.specs.Seen.{Answer, gives, refuses, Counts}
 use Rattle.routes.specs.Seen.{answerOn, lookupOn, clearOn, checkOn, countOn, frontOn, runOn}
 use Rattle.words.specs.Table.{seen}
-use Rattle.audit.specs.Told as audit
+use Rattle.audit.specs.Answer as audit
 use Rattle.audit.specs.declared.Cleared.{Cleared}
 use Rattle.audit.specs.declared.Cleared.the-variants as cleared
 use Rattle.audit.specs.declared.Checked.{Checked}
@@ -25,14 +25,14 @@ use Rattle.audit.specs.declared.Checked.the-variants as checked
 use Rattle.replies.specs.Said.{saidReply, replyOf, said-back}
 use Rattle.lookup.specs.Walk.{walk}
 use Rattle.update.specs.Update as update
-use Rattle.writing.specs.Answer.{countAnswer, Fills, front-length, front-none}
+use Rattle.writing.specs.Answer.{countAnswer, HasFilled, front-length, front-none}
 use Rattle.writing.specs.declared.Counted.{Counted as Size}
 use Rattle.writing.specs.declared.Counted.the-variants as size
 use Rattle.feed.specs.Runs as feed
 use Rattle.feed.specs.declared.Report.{Report}
 use Rattle.feed.specs.declared.Ran.{Ran}
 use Rattle.feed.specs.declared.Ran.the-variants as stop
-use Rattle.toggleash.specs.Face.{refusal, counted, looked, updated, wrote, ran, Clears, Updates, Writes, Runs}
+use Rattle.toggleash.specs.Face.{refusal, counted, looked, updated, wrote, ran, HasCleared, HasUpdated, HasWritten, HasRun}
 use Rattle.toggleash.specs.declared.Counted.{Counted}
 use Rattle.toggleash.specs.declared.Found.{Found}
 use Rattle.toggleash.specs.declared.Updated.{Updated}
@@ -51,11 +51,11 @@ abbrev asCleared : Answer (Unit {0}) → Cleared
 asCleared (gives u) = cleared.Done
 asCleared (refuses n) = cleared.Refused n
 
-clear-back : (a : Answer (Unit {0})) → audit.toldClear (asCleared a) ≡ a
+clear-back : (a : Answer (Unit {0})) → audit.clearAnswer (asCleared a) ≡ a
 clear-back (gives u) = refl
 clear-back (refuses n) = refl
 
-pub clear-below : (ws vs : List ℕ) (n : ℕ) → Clears ws vs n → Below (λ r. refusal (audit.toldClear r)) (audit.Clears 4 ws vs) n
+pub clear-below : (ws vs : List ℕ) (n : ℕ) → HasCleared ws vs n → Below (λ r. refusal (audit.clearAnswer r)) (audit.HasCleared 4 ws vs) n
 clear-below ws vs n p =
     let e = clear-back (clearOn (length ws)) in
     record {
@@ -68,12 +68,12 @@ abbrev asChecked : Answer Counts → Checked
 asChecked (gives c) = checked.Counts (c .routes) (c .arrays)
 asChecked (refuses n) = checked.Refused n
 
-check-back : (a : Answer Counts) → audit.toldCheck (asChecked a) ≡ a
+check-back : (a : Answer Counts) → audit.checkAnswer (asChecked a) ≡ a
 check-back (gives c) = refl
 check-back (refuses n) = refl
 
 pub check-below : (ws : List ℕ) (r : Counted) → r ≡ counted (checkOn 32 (seen 4 ws))
-    → Below (λ c. counted (audit.toldCheck c)) (λ c. audit.toldCheck c ≡ checkOn 32 (seen 4 ws)) r
+    → Below (λ c. counted (audit.checkAnswer c)) (λ c. audit.checkAnswer c ≡ checkOn 32 (seen 4 ws)) r
 check-below ws r p =
     let e = check-back (checkOn 32 (seen 4 ws)) in
     record { answer = asChecked (checkOn 32 (seen 4 ws)); told = p ∙ ap counted (sym e); promise = e }
@@ -88,8 +88,8 @@ lookup-below ws a r p =
 
 -- ---- toggleash_announce, toggleash_withdraw
 
-pub update-below : (ws vs : List ℕ) (u : Update) (r : Updated) → Updates ws vs u r
-    → Below (λ m. updated (saidReply m)) (update.Updates 4 ws vs u) r
+pub update-below : (ws vs : List ℕ) (u : Update) (r : Updated) → HasUpdated ws vs u r
+    → Below (λ m. updated (saidReply m)) (update.HasUpdated 4 ws vs u) r
 update-below ws vs u r p =
     let y : Reply = answerOn 32 (seen 4 ws) u in
     let e = said-back y in
@@ -122,9 +122,9 @@ size-back (gives n) = refl
 size-back (refuses n) = refl
 
 -- two calls stand below it: the count, and the fill
-pub write-below : (ws b c : List ℕ) (r : Written) → Writes ws b c r
+pub write-below : (ws b c : List ℕ) (r : Written) → HasWritten ws b c r
     → Below (λ t. wrote (countAnswer t))
-    (λ t. (countAnswer t ≡ countOn (seen 4 ws) (length b)) × Fills (seen 4 ws) b (r .bytes) c) r
+    (λ t. (countAnswer t ≡ countOn (seen 4 ws) (length b)) × HasFilled (seen 4 ws) b (r .bytes) c) r
 write-below ws b c r p =
     let e = size-back (countOn (seen 4 ws) (length b)) in
     record {
@@ -153,8 +153,8 @@ ran-back : (a : Answer Report) → feed.runAnswer (asRan a) ≡ a
 ran-back (gives p) = refl
 ran-back (refuses n) = refl
 
-pub run-below : (ws bytes b vs c : List ℕ) (r : Fields) → Runs ws bytes b vs c r
-    → Below (λ t. ran (feed.runAnswer t)) (feed.Runs ws bytes b vs c) r
+pub run-below : (ws bytes b vs c : List ℕ) (r : Fields) → HasRun ws bytes b vs c r
+    → Below (λ t. ran (feed.runAnswer t)) (feed.HasRun ws bytes b vs c) r
 run-below ws bytes b vs c r p =
     let e = ran-back (feed.reported (runOn (seen 4 ws) bytes b)) in
     record {

@@ -19,12 +19,12 @@ use Rattle.routes.specs.Runs.{Ran as Outcome, run}
 use Rattle.routes.specs.Seen.{table, gives, lookupOn, checkOn, frontOn}
 use Rattle.laws.specs.Given.{given-one}
 use Rattle.words.specs.Table.{seen}
-use Rattle.audit.specs.Told.{toldCheck}
+use Rattle.audit.specs.Answer.{checkAnswer}
 use Rattle.audit.specs.declared.Checked.{Checked}
 use Rattle.replies.specs.Said.{saidReply}
 use Rattle.replies.specs.declared.Reply as code
 use Rattle.lookup.specs.Walk.{walk}
-use Rattle.feed.specs.Runs.{Runs, reportOf}
+use Rattle.feed.specs.Runs.{HasRun, reportOf}
 use Rattle.feed.specs.declared.Report.{Report}
 use Rattle.feed.specs.declared.Ran.{Ran}
 use Rattle.feed.specs.declared.Ran.the-variants.{Stopped}
@@ -42,8 +42,8 @@ pub record Holds (A : ℕ) (rs : List Route) (ws : List ℕ) : Type 0 where
   pub list : seen 4 ws ≡ table A rs
   pub lookups : (a : ℕ) (r : code.Reply) → saidReply r ≡ lookupOn 32 (seen 4 ws) (walk 4 ws a) a
       → saidReply r ≡ matched (longest 32 a rs)
-  pub checks : (r : Checked) → toldCheck r ≡ checkOn 32 (seen 4 ws)
-      → toldCheck r ≡ gives (record { routes = length rs; arrays = need 32 rs })
+  pub checks : (r : Checked) → checkAnswer r ≡ checkOn 32 (seen 4 ws)
+      → checkAnswer r ≡ gives (record { routes = length rs; arrays = need 32 rs })
   pub fronts : (b front : List ℕ) → 8 * length rs + 1 ≤ length b → front ≡ frontOn (seen 4 ws) (length b) → front ≡ written rs
 
 holds : (A : ℕ) (rs : List Route) (ws : List ℕ) → seen 4 ws ≡ table A rs → Holds A rs ws
@@ -68,7 +68,7 @@ pub record Run (A : ℕ) (us : List Update) : Type 0 where
   pub words′ : List ℕ
   pub reply′ : List ℕ
   pub report : Report
-  pub runs : Runs words (bytes us rest) reply words′ reply′ (Stopped report)
+  pub runs : HasRun words (bytes us rest) reply words′ reply′ (Stopped report)
   pub enough : report .stop ≢ 4
 
 module _ {A : ℕ} {us : List Update} (c : Run A us) where
@@ -101,7 +101,7 @@ module _ {A : ℕ} {us : List Update} (c : Run A us) where
 -- any run of them with five reply bytes for each record is one
 abbrev pub roomy : {A : ℕ} {us : List Update} (ws rest b vs c : List ℕ) (r : Ran) → seen 4 ws ≡ table A []
     → AllFit (records us) → Closes rest → 5 * length (records us) ≤ length b
-    → Runs ws (bytes us rest) b vs c r → Run A us
+    → HasRun ws (bytes us rest) b vs c r → Run A us
 roomy {A} {us} ws rest b vs c r t f e h p =
     record {
       words = ws;

@@ -26,8 +26,8 @@ use Rattle.listing.specs.Written.{written-listed}
 use Rattle.lengths.specs.Layout as layout
 use Rattle.lengths.specs.Laid.{Laid, laid-walk, laid-front}
 use Rattle.lengths_build.specs.Build.{Leaves}
-use Rattle.toggleash.specs.Face.{Writes, counted, looked, wrote}
-use Rattle.toggleash.specs.Copies.{Builds, needed}
+use Rattle.toggleash.specs.Face.{HasWritten, counted, looked, wrote}
+use Rattle.toggleash.specs.Copies.{HasBuilt, needed}
 use Rattle.toggleash.specs.declared.Counted.{Counted}
 use Rattle.toggleash.specs.declared.Found.{Found}
 use Rattle.toggleash.specs.declared.Written.{Written}
@@ -42,7 +42,7 @@ pub record Carried : Type 0 where
   pub buffer : List ℕ
   pub buffer′ : List ℕ
   pub wrote : Written
-  pub writes : Writes words buffer buffer′ wrote
+  pub writes : HasWritten words buffer buffer′ wrote
   pub taken : wrote .refusal ≡ 0
   -- the bytes of the list
   pub bytes : List ℕ
@@ -55,7 +55,7 @@ pub record Carried : Type 0 where
   -- a copy built in them
   pub copy : List ℕ
   pub built : Built
-  pub builds : Builds bytes lent copy built
+  pub builds : HasBuilt bytes lent copy built
   -- words on the card: up to the need those of the copy, past it any
   pub card : List ℕ
   pub long : need .words ≤ length card
@@ -77,7 +77,7 @@ record Out (ws bs : List ℕ) : Type 0 where
   table : seen 4 ws ≡ table arrays list
   bytes : bs ≡ written list
 
-out : (ws b c : List ℕ) (r : Written) → Writes ws b c r → r .refusal ≡ 0 → Out ws (take (r .bytes) c)
+out : (ws b c : List ℕ) (r : Written) → HasWritten ws b c r → r .refusal ≡ 0 → Out ws (take (r .bytes) c)
 out ws b c r w z = go (seen 4 ws) refl
   where
     number : (n : ℕ) → r ≡ wrote (refuses n) → n ≡ 0

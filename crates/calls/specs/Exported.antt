@@ -17,12 +17,12 @@ use Rattle.routes.specs.Answers.{Update, Record, update, lookup, Reply, done, f
 use Rattle.routes.specs.Seen.{table, misfits, lookupOn}
 use Rattle.laws.specs.Given.{refused-one, given-refused}
 use Rattle.words.specs.Table.{seen}
-use Rattle.audit.specs.Told as audit
+use Rattle.audit.specs.Answer as audit
 use Rattle.audit.specs.declared.Cleared.{Cleared as Answer}
 use Rattle.audit.specs.declared.Cleared.the-variants as answer
 use Rattle.lookup.specs.Walk.{walk}
 use Rattle.replies.specs.Said.{saidReply}
-use Rattle.toggleash.specs.Face.{refusal, Clears, Updates}
+use Rattle.toggleash.specs.Face.{refusal, HasCleared, HasUpdated}
 use Rattle.toggleash.specs.Face as face
 use Rattle.toggleash.specs.declared.Found.{Found}
 use Rattle.toggleash.specs.declared.Updated.{Updated}
@@ -60,11 +60,11 @@ lookup-read (refused n) p = rw (ne-eqb n 0 (λ e. omega arith))
 pub record Cleared (A : ℕ) (words : List ℕ) : Type 0 where
   pub lent : List ℕ
   pub size : length lent ≡ arrayWords * (A + 1)
-  pub clears : Clears lent words 0
+  pub clears : HasCleared lent words 0
 
 -- the call of a record on the words ws: its numbers say y, and it left vs, as its contract allows
 pub data Asked (ws : List ℕ) : Record → Reply → List ℕ → Type 0 where
-  updated : {u : Update} {vs : List ℕ} (r : Updated) → Updates ws vs u r → Asked ws (update u) (saidUpdate r) vs
+  updated : {u : Update} {vs : List ℕ} (r : Updated) → HasUpdated ws vs u r → Asked ws (update u) (saidUpdate r) vs
   looked : {a : ℕ} (r : Found) → r ≡ face.looked (lookupOn 32 (seen 4 ws) (walk 4 ws a) a) → Asked ws (lookup a) (saidLookup r) ws
 
 -- several, in order
@@ -76,13 +76,13 @@ pub data Series : List ℕ → List Record → List Reply → List ℕ → Type 
 -- ---- and the calls below them
 
 -- clear, not refused
-pub clear-done : {A : ℕ} {words : List ℕ} (c : Cleared A words) → audit.Clears 4 (c .lent) words answer.Done
+pub clear-done : {A : ℕ} {words : List ℕ} (c : Cleared A words) → audit.HasCleared 4 (c .lent) words answer.Done
 clear-done {A} {words} c = let b = clear-below (c .lent) words 0 (c .clears) in of (b .answer) (b .told) (b .promise)
   where
     Took : Answer → Type 0
-    Took r = audit.Clears 4 (c .lent) words r
+    Took r = audit.HasCleared 4 (c .lent) words r
 
-    of : (r : Answer) → 0 ≡ refusal (audit.toldClear r) → Took r → Took answer.Done
+    of : (r : Answer) → 0 ≡ refusal (audit.clearAnswer r) → Took r → Took answer.Done
     of answer.Done e p = p
     of (answer.Refused n) e p =
         bool (misfits (length (c .lent)))

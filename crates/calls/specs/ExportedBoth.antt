@@ -19,12 +19,12 @@ use Rattle.routes.specs.Runs.{run}
 use Rattle.routes.specs.Seen.{table, lookupOn, checkOn}
 use Rattle.words.specs.Table.{seen}
 use Rattle.lookup.specs.Walk.{walk}
-use Rattle.feed.specs.Runs.{Runs as Made, runAnswer, reportOf}
+use Rattle.feed.specs.Runs.{HasRun as Made, runAnswer, reportOf}
 use Rattle.feed.specs.declared.Report.{Report}
 use Rattle.feed.specs.declared.Ran.{Ran}
 use Rattle.feed.specs.declared.Ran.the-variants.{Stopped}
 use Rattle.order.specs.Feeds.{Weave, flip, heard, plains, kept, keptBoth, Union, Meets, Closes, bytes, readBack}
-use Rattle.toggleash.specs.Face.{counted, looked, ran, Writes, Runs}
+use Rattle.toggleash.specs.Face.{counted, looked, ran, HasWritten, HasRun}
 use Rattle.toggleash.specs.declared.Counted.{Counted}
 use Rattle.toggleash.specs.declared.Found.{Found}
 use Rattle.toggleash.specs.declared.Written.{Written}
@@ -44,8 +44,8 @@ pub record Holds (A : ℕ) (rs : List Route) (ws : List ℕ) : Type 0 where
       → r ≡ looked (matched (longest 32 a rs))
   pub checks : (r : Counted) → r ≡ counted (checkOn 32 (seen 4 ws))
       → r ≡ record { refusal = 0; routes = length rs; arrays = need 32 rs }
-  pub fronts : (b c : List ℕ) (r : Written) → 8 * length rs + 1 ≤ length b → Writes ws b c r → take (r .bytes) c ≡ written rs
-  pub writes : (b c : List ℕ) (r : Written) → 8 * length rs + 1 ≤ length b → Writes ws b c r
+  pub fronts : (b c : List ℕ) (r : Written) → 8 * length rs + 1 ≤ length b → HasWritten ws b c r → take (r .bytes) c ≡ written rs
+  pub writes : (b c : List ℕ) (r : Written) → 8 * length rs + 1 ≤ length b → HasWritten ws b c r
       → r ≡ record { refusal = 0; bytes = 8 * length rs + 1 }
 
 holds : {A : ℕ} {rs : List Route} {ws : List ℕ} → rattle.Holds A rs ws → Holds A rs ws
@@ -72,7 +72,7 @@ pub record Run (A : ℕ) (us : List Update) : Type 0 where
   pub words′ : List ℕ
   pub reply′ : List ℕ
   pub ran : Fields
-  pub runs : Runs words (bytes us rest) reply words′ reply′ ran
+  pub runs : HasRun words (bytes us rest) reply words′ reply′ ran
   pub enough : ran .stop ≢ 4
 
 -- the replies, one for each update, read back from the reply bytes

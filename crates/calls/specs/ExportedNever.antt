@@ -12,7 +12,7 @@ use Rattle.feed.specs.Sharp.{writtenBy}
 use Rattle.feed.specs.Never.{never}
 use Rattle.feed.specs.declared.Ran.{Ran}
 use Rattle.feed.specs.declared.Ran.the-variants.{Stopped, Refused}
-use Rattle.toggleash.specs.Face.{ran, Runs}
+use Rattle.toggleash.specs.Face.{ran, HasRun}
 use Rattle.toggleash.specs.declared.Ran.{Ran as Fields}
 use Rattle.calls.specs.Below.{run-below}
 
@@ -21,7 +21,7 @@ counts : (t : Ran) → ran (runAnswer t) .written ≡ writtenBy t
 counts (Stopped p) = refl
 counts (Refused n) = refl
 
-pub never-exported : (ws feed b vs c : List ℕ) (r : Fields) → Runs ws feed b vs c r
+pub never-exported : (ws feed b vs c : List ℕ) (r : Fields) → HasRun ws feed b vs c r
     → (xs ys : List Reply) → take (r .written) c ≢ repliesBytes (xs ++ (refused 2 ∷ ys))
 never-exported ws feed b vs c r p xs ys =
     let t = run-below ws feed b vs c r p in

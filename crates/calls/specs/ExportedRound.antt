@@ -15,7 +15,7 @@ use Rattle.routes.specs.Seen.{table}
 use Rattle.words.specs.Table.{seen}
 use Rattle.feed.specs.Runs.{runAnswer}
 use Rattle.feed.specs.declared.Ran.{Ran}
-use Rattle.toggleash.specs.Face.{ran, Clears, Writes, Runs}
+use Rattle.toggleash.specs.Face.{ran, HasCleared, HasWritten, HasRun}
 use Rattle.toggleash.specs.declared.Written.{Written}
 use Rattle.toggleash.specs.declared.Ran.{Ran as Fields}
 use Rattle.calls.specs.Held.{held}
@@ -31,20 +31,20 @@ pub record Trip (A : ℕ) (rs : List Route) : Type 0 where
   pub fits : 8 * length rs + 1 ≤ length buffer
   pub buffer′ : List ℕ
   pub wrote : Written
-  pub writes : Writes words buffer buffer′ wrote
+  pub writes : HasWritten words buffer buffer′ wrote
   -- toggleash_clear of as many words
   pub lent : List ℕ
   pub same : length lent ≡ length words
   pub cleared : List ℕ
   pub refusal : ℕ
-  pub clears : Clears lent cleared refusal
+  pub clears : HasCleared lent cleared refusal
   -- toggleash_run of the bytes written on them, with reply room enough
   pub reply : List ℕ
   pub enough : 5 * length rs ≤ length reply
   pub words′ : List ℕ
   pub reply′ : List ℕ
   pub ran : Fields
-  pub runs : Runs cleared (take (wrote .bytes) buffer′) reply words′ reply′ ran
+  pub runs : HasRun cleared (take (wrote .bytes) buffer′) reply words′ reply′ ran
 
 -- nothing is refused, and it is the same list, each of its records accepted, at an end
 pub record Again {A : ℕ} {rs : List Route} (t : Trip A rs) : Type 0 where

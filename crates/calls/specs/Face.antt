@@ -15,8 +15,8 @@ use Rattle.lengths_build.specs.Answer.{needOn, buildOn}
 use Rattle.listing.specs.Records.{Bytes}
 use Rattle.lengths.specs.Layout as copy
 use Rattle.lengths_build.specs.Sharp.{Alike, words-sharp}
-use Rattle.toggleash.specs.Face.{Clears, Updates, Writes, Runs, counted, looked}
-use Rattle.toggleash.specs.Copies.{Builds, needed}
+use Rattle.toggleash.specs.Face.{HasCleared, HasUpdated, HasWritten, HasRun, counted, looked}
+use Rattle.toggleash.specs.Copies.{HasBuilt, needed}
 use Rattle.toggleash.specs.declared.Counted.{Counted}
 use Rattle.toggleash.specs.declared.Found.{Found}
 use Rattle.toggleash.specs.declared.Updated.{Updated}
@@ -40,7 +40,7 @@ pub record ByReply (y : Reply) : Type 0 where
   pub number : ℕ
   pub is : y ≡ refused number
 
-pub clear-agrees : (ws vs vs′ : List ℕ) (r r′ : ℕ) → Clears ws vs r → Clears ws vs′ r′
+pub clear-agrees : (ws vs vs′ : List ℕ) (r r′ : ℕ) → HasCleared ws vs r → HasCleared ws vs′ r′
     → Agree (By (clearOn (length ws))) vs vs′ r r′
 clear-agrees ws vs vs′ r r′ p q = record {
   answer = p .answer ∙ sym (q .answer);
@@ -56,7 +56,7 @@ pub lookup-agrees : (ws : List ℕ) (a : ℕ) (r r′ : Found) → r ≡ looked 
     → r′ ≡ looked (lookupOn 32 (seen 4 ws) (walk 4 ws a) a) → r ≡ r′
 lookup-agrees ws a r r′ p q = p ∙ sym q
 
-pub update-agrees : (ws : List ℕ) (u : Update) (vs vs′ : List ℕ) (r r′ : Updated) → Updates ws vs u r → Updates ws vs′ u r′
+pub update-agrees : (ws : List ℕ) (u : Update) (vs vs′ : List ℕ) (r r′ : Updated) → HasUpdated ws vs u r → HasUpdated ws vs′ u r′
     → Agree (ByReply (answerOn 32 (seen 4 ws) u)) vs vs′ r r′
 update-agrees ws u vs vs′ r r′ p q = record {
   answer = p .answer ∙ sym (q .answer);
@@ -64,10 +64,10 @@ update-agrees ws u vs vs′ r r′ p q = record {
   words = λ b. p .kept (b .number) (b .is) ∙ sym (q .kept (b .number) (b .is));
 }
 
-pub write-out-agrees : (ws b c c′ : List ℕ) (r r′ : Written) → Writes ws b c r → Writes ws b c′ r′ → (r ≡ r′) × (c ≡ c′)
+pub write-out-agrees : (ws b c c′ : List ℕ) (r r′ : Written) → HasWritten ws b c r → HasWritten ws b c′ r′ → (r ≡ r′) × (c ≡ c′)
 write-out-agrees ws b c c′ r r′ p q = (p .answer ∙ sym (q .answer), p .front ∙ sym (q .front))
 
-pub run-agrees : (ws bytes b vs vs′ c c′ : List ℕ) (r r′ : Fields) → Runs ws bytes b vs c r → Runs ws bytes b vs′ c′ r′
+pub run-agrees : (ws bytes b vs vs′ c c′ : List ℕ) (r r′ : Fields) → HasRun ws bytes b vs c r → HasRun ws bytes b vs′ c′ r′
     → Agree (By (runOn (seen 4 ws) bytes b)) vs vs′ r r′ × (c ≡ c′)
 run-agrees ws bytes b vs vs′ c c′ r r′ p q = (
   record {
@@ -94,7 +94,7 @@ pub record AgreeBuilt (bytes ws vs vs′ : List ℕ) (r r′ : Built) : Type 0 w
   pub words : By (buildOn (listedIn bytes) (length ws)) → vs ≡ vs′
   pub alike : (rs : List Route) → listedIn bytes ≡ listed rs → Alike (wordsFor rs) vs vs′
 
-pub copy-build-agrees : (bytes ws vs vs′ : List ℕ) (r r′ : Built) → Bytes bytes → Builds bytes ws vs r → Builds bytes ws vs′ r′
+pub copy-build-agrees : (bytes ws vs vs′ : List ℕ) (r r′ : Built) → Bytes bytes → HasBuilt bytes ws vs r → HasBuilt bytes ws vs′ r′
     → AgreeBuilt bytes ws vs vs′ r r′
 copy-build-agrees bytes ws vs vs′ r r′ b p q = record {
   answer = p .answer ∙ sym (q .answer);

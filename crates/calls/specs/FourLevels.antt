@@ -28,12 +28,12 @@ use Rattle.tree.specs.Arrays.{Arrays, lev, node}
 use Rattle.tree.specs.Tree.{node-level}
 use Rattle.tree.specs.Need.{node-child}
 use Rattle.words.specs.Words.{arraysOf, arrayCount, slotsOf, bestsOf}
-use Rattle.words.specs.Almost.{Almost}
+use Rattle.words.specs.TableBut.{TableBut}
 use Rattle.words.specs.Gained.{gained}
-use Rattle.tree.specs.Hang.{Hang, node-cases, hang-held}
-use Rattle.words.specs.Gain.{Gain, gained-length, gained-hang, gained-almost}
-use Rattle.tree.specs.Slot.{Slotted, Place, same-node, slotted-insert}
-use Rattle.words.specs.Reslot.{Reslot, almost-loose, almost-whole, reslot-slotted, reslot-almost}
+use Rattle.tree.specs.HungBelow.{HungBelow, node-cases, hang-held}
+use Rattle.words.specs.Gain.{Gain, gained-length, gained-hung-below, gained-table-but}
+use Rattle.tree.specs.SlotSet.{TreeSlotSet, Place, same-node, slot-set-insert}
+use Rattle.words.specs.SlotSet.{SlotSet, table-is-but, but-is-table, slot-set-tree, slot-set-table-but}
 use Rattle.words.specs.Clear.{cleared, cleared-word, cleared-length, cleared-table, cleared-routes}
 use Rattle.words.specs.Table.{listOf, seen}
 use Rattle.words.specs.View.{seen-table}
@@ -42,7 +42,7 @@ use Rattle.words.specs.View.{seen-table}
 
 -- the arrays 1 .. k + 1 are the row along the path q of k bytes, and hold nothing yet
 record Row (k q : ℕ) (ws : List ℕ) : Type 0 where
-  pub ok : Almost 4 (k + 1) ws
+  pub ok : TableBut 4 (k + 1) ws
   pub size : length ws ≡ 5120
   pub leads : (j : ℕ) → j ≤ k → node (arraysOf ws) (q / 2 ^ (8 * (k - j))) j ≡ j + 1
   pub free : (c : ℕ) → k + 1 < c → arraysOf ws .tag c ≡ 0
@@ -52,7 +52,7 @@ record Row (k q : ℕ) (ws : List ℕ) : Type 0 where
 row-first : Row 0 0 (cleared 5120)
 unfolding node
 row-first = record {
-  ok = almost-loose 4 1 (cleared 5120) (cleared-table 5120 (omega arith) 4 (omega arith) (omega arith) refl (omega arith));
+  ok = table-is-but 4 1 (cleared 5120) (cleared-table 5120 (omega arith) 4 (omega arith) (omega arith) refl (omega arith));
   size = cleared-length 5120 (omega arith);
   leads = λ j h. (let e : j ≡ 0 = omega arith in rw e);
   free = λ c h. cleared-word 5120 (omega arith) (arrayAt c) (λ e. omega arith) (λ e. omega arith) (λ e. omega arith);
@@ -91,8 +91,8 @@ module _ (k q i : ℕ) (ws : List ℕ) (row : Row k q ws) (more : k < 3) (cell :
     free = row .free (k + 2) (omega arith);
   }
 
-  hang : Hang (arrayCount ws) 4 t u (k + 1) i (k + 2)
-  hang = gained-hang 4 ws (k + 1) i (k + 2) (row .ok) gain
+  hang : HungBelow (arrayCount ws) 4 t u (k + 1) i (k + 2)
+  hang = gained-hung-below 4 ws (k + 1) i (k + 2) (row .ok) gain
 
   -- what a path led to, it leads to
   keeps : (v j : ℕ) → 1 ≤ node t v j → node u v j ≡ node t v j
@@ -114,11 +114,13 @@ module _ (k q i : ℕ) (ws : List ℕ) (row : Row k q ws) (more : k < 3) (cell :
 
   row-more : Row (k + 1) (q * 256 + i) vs
   row-more = record {
-    ok = (let e : k + 1 + 1 ≡ k + 2 = omega arith in rw e (gained-almost 4 ws (k + 1) i (k + 2) (row .ok) gain));
+    ok = (let e : k + 1 + 1 ≡ k + 2 = omega arith in rw e (gained-table-but 4 ws (k + 1) i (k + 2) (row .ok) gain));
     size = gained-length 4 ws (k + 1) i (k + 2) (row .ok) gain ∙ row .size;
     leads = leads-to;
     free = λ c h. hang .tags c (omega arith) (λ e. omega arith) ∙ row .free c (omega arith);
-    off = λ j h. (let e : k + 1 + 1 ≡ k + 2 = omega arith in rw e (hang .links (k + 2) j (omega arith) h (inl (λ z. omega arith)) ∙ hang .no-link j h));
+    off = λ j h.
+        (let e : k + 1 + 1 ≡ k + 2 = omega arith in
+        rw e (hang .links (k + 2) j (omega arith) h (inl (λ z. omega arith)) ∙ hang .no-link j h));
     list = ap (routes 32) (λ x v l. hang-held (arrayCount ws) 4 t u (k + 1) i (k + 2) hang (row .ok .shape) v l x) ∙ row .list;
   }
 
@@ -183,7 +185,7 @@ module _ (ws : List ℕ) (a x h : ℕ) (inside : arrayAt (a + 1) ≤ length ws) 
       ∙ best-ext (slotsOf ms a) (slotsOf ps a) (λ s l w. sym (first (wordAt a s) (λ e. omega arith))) (cellSlots + i) 8
       (omega arith) (omega arith))
 
-  posted-reslot : Reslot ws ps a (cellSlots + x) h
+  posted-reslot : SlotSet ws ps a (cellSlots + x) h
   posted-reslot = record {
     size = simp length-set;
     outside = λ k o. ⊎-elim
@@ -209,7 +211,7 @@ module _ (ws : List ℕ) (a x h : ℕ) (inside : arrayAt (a + 1) ≤ length ws) 
 
 -- the row of all four arrays stands for the list rs; array e may be empty
 record Posts (e : ℕ) (ws : List ℕ) (rs : List Route) : Type 0 where
-  pub ok : Almost 4 e ws
+  pub ok : TableBut 4 e ws
   pub size : length ws ≡ 5120
   pub leads : (j : ℕ) → j ≤ 3 → node (arraysOf ws) (655617 / 2 ^ (8 * (3 - j))) j ≡ j + 1
   pub list : listOf 4 ws ≡ rs
@@ -228,7 +230,7 @@ module _ (e : ℕ) (ws : List ℕ) (rs : List Route) (p : Posts e ws rs) (j x h 
   used : 1 ≤ t₁ .tag (j + 1)
   used = omega (arith, level₁)
 
-  slot : Reslot ws (posted ws (j + 1) x h) (j + 1) (cellSlots + x) h
+  slot : SlotSet ws (posted ws (j + 1) x h) (j + 1) (cellSlots + x) h
   slot =
       posted-reslot ws (j + 1) x h (omega (arith, p .size)) small hop some (omega (arith, level₁))
       (p .ok .right (j + 1) (omega arith) (omega (arith, p .size)) used)
@@ -236,8 +238,8 @@ module _ (e : ℕ) (ws : List ℕ) (rs : List Route) (p : Posts e ws rs) (j x h 
   abbrev us : List ℕ
   us = posted ws (j + 1) x h
 
-  slotted : Slotted t₁ (arraysOf us) (j + 1) (cellSlots + x) h
-  slotted = reslot-slotted 4 e ws us (j + 1) (cellSlots + x) h (omega arith) slot
+  slotted : TreeSlotSet t₁ (arraysOf us) (j + 1) (cellSlots + x) h
+  slotted = slot-set-tree 4 e ws us (j + 1) (cellSlots + x) h (omega arith) slot
 
   place : Place (arrayCount ws) 4 t₁ (j + 1) v j 8 x
   place = record {
@@ -251,11 +253,12 @@ module _ (e : ℕ) (ws : List ℕ) (rs : List Route) (p : Posts e ws rs) (j x h 
 
   post : Posts 0 us (insert (routeOf (32 - (8 * j + 8)) (v * 256 + x) (8 * j + 8) h) rs)
   post = record {
-    ok = almost-whole 4 (j + 1) us (reslot-almost 4 e ws us (j + 1) (cellSlots + x) h (omega arith) slot (p .ok) at used)
+    ok = but-is-table 4 (j + 1) us (slot-set-table-but 4 e ws us (j + 1) (cellSlots + x) h (omega arith) slot (p .ok) at used)
         (λ _. inl (record { s = cellSlots + x; low = omega arith; high = omega arith; some = omega (arith, slot .here) }));
     size = slot .size ∙ p .size;
     leads = λ i w. same-node t₁ (arraysOf us) (slotted .tags) (slotted .links) (655617 / 2 ^ (8 * (3 - i))) i ∙ p .leads i w;
-    list = slotted-insert (arrayCount ws) 4 t₁ (arraysOf us) (j + 1) v j 8 x h (p .ok .shape) place slotted 32 (omega arith) (omega arith) (omega arith)
+    list = slot-set-insert (arrayCount ws) 4 t₁ (arraysOf us) (j + 1) v j 8 x h (p .ok .shape) place slotted 32
+        (omega arith) (omega arith) (omega arith)
         ∙ ap (insert (routeOf (32 - (8 * j + 8)) (v * 256 + x) (8 * j + 8) h)) (p .list);
   }
 
@@ -267,20 +270,26 @@ row = gained (gained (gained (cleared 5120) 1 10 2) 2 1 3) 3 1 4
 abbrev pub deep : List ℕ
 deep = posted (posted (posted (posted row 4 1 4) 3 1 3) 2 1 2) 1 10 1
 
+abbrev pub deepList : List Route
+deepList = route (ip 10 0 0 0) 8 1 ∷ route (ip 10 1 0 0) 16 2 ∷ route (ip 10 1 1 0) 24 3 ∷ route (ip 10 1 1 1) 32 4 ∷ []
+
 row-all : Row 3 655617 row
-row-all = row-more 2 2561 1 _ (row-more 1 10 1 _ (row-more 0 0 10 _ row-first (omega arith) (omega arith)) (omega arith) (omega arith)) (omega arith) (omega arith)
+row-all =
+    let one = row-more 0 0 10 _ row-first (omega arith) (omega arith) in
+    let two = row-more 1 10 1 _ one (omega arith) (omega arith) in
+    row-more 2 2561 1 _ two (omega arith) (omega arith)
 
 row-posts : Posts 4 row []
 row-posts = record { ok = row-all .ok; size = row-all .size; leads = row-all .leads; list = row-all .list }
 
-deep-posts : Posts 0 deep (route (ip 10 0 0 0) 8 1 ∷ route (ip 10 1 0 0) 16 2 ∷ route (ip 10 1 1 0) 24 3 ∷ route (ip 10 1 1 1) 32 4 ∷ [])
+deep-posts : Posts 0 deep deepList
 deep-posts =
-    post 0 _ _ (post 0 _ _ (post 0 _ _ (post 4 _ _ row-posts 3 1 4 (inr refl) (omega arith) (omega arith) (omega arith) (omega arith))
-    2 1 3 (inl refl) (omega arith) (omega arith) (omega arith) (omega arith))
-    1 1 2 (inl refl) (omega arith) (omega arith) (omega arith) (omega arith))
-    0 10 1 (inl refl) (omega arith) (omega arith) (omega arith) (omega arith)
+    let one = post 4 _ _ row-posts 3 1 4 (inr refl) (omega arith) (omega arith) (omega arith) (omega arith) in
+    let two = post 0 _ _ one 2 1 3 (inl refl) (omega arith) (omega arith) (omega arith) (omega arith) in
+    let three = post 0 _ _ two 1 1 2 (inl refl) (omega arith) (omega arith) (omega arith) (omega arith) in
+    post 0 _ _ three 0 10 1 (inl refl) (omega arith) (omega arith) (omega arith) (omega arith)
 
 -- four arrays, and a route of each level
-pub deep-seen : seen 4 deep ≡ table 4 (route (ip 10 0 0 0) 8 1 ∷ route (ip 10 1 0 0) 16 2 ∷ route (ip 10 1 1 0) 24 3 ∷ route (ip 10 1 1 1) 32 4 ∷ [])
+pub deep-seen : seen 4 deep ≡ table 4 deepList
 deep-seen =
     seen-table 4 deep (deep-posts .ok) ∙ ap₂ table (ap (λ (n : ℕ). n / arrayWords - 1) (deep-posts .size)) (deep-posts .list)

@@ -19,7 +19,7 @@ use Rattle.words.specs.Listed.{table-list}
 use Rattle.words.specs.Stock.{table-need}
 use Rattle.tree.specs.Free.{used-full}
 use Rattle.words.specs.View.{table-of, table-fits, fits-no-misfit}
-use Rattle.audit.specs.Told.{Clears}
+use Rattle.audit.specs.Answer.{HasCleared}
 use Rattle.audit.specs.declared.Cleared.{Cleared}
 use Rattle.audit.specs.declared.Cleared.the-variants.{Done}
 use Rattle.feed.specs.Runs.{runAnswer}
@@ -50,7 +50,7 @@ held A rs ws e =
 -- ---- cleared words
 
 -- words that clear took are a table of no routes, with as many arrays as their number says
-pub cleared-done : (A : ℕ) (ws vs : List ℕ) → length ws ≡ arrayWords * (A + 1) → Clears 4 ws vs Done → seen 4 vs ≡ table A []
+pub cleared-done : (A : ℕ) (ws vs : List ℕ) → length ws ≡ arrayWords * (A + 1) → HasCleared 4 ws vs Done → seen 4 vs ≡ table A []
 cleared-done A ws vs n c =
     bool (misfits (length ws))
     (λ e. absurd (given-refused (rw e at (c .answer))))
@@ -61,7 +61,7 @@ cleared-done A ws vs n c =
 
 -- as many words as a table has are taken, and are then a table of the same room
 pub cleared-alike : (A : ℕ) (rs : List Route) (ws lent vs : List ℕ) (r : Cleared) → seen 4 ws ≡ table A rs
-    → length lent ≡ length ws → Clears 4 lent vs r → seen 4 vs ≡ table A []
+    → length lent ≡ length ws → HasCleared 4 lent vs r → seen 4 vs ≡ table A []
 cleared-alike A rs ws lent vs r e n c =
     let h = held A rs ws e in
     (rw (n, h .size, h .arrays) at (c .left))

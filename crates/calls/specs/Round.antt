@@ -15,10 +15,10 @@ use Rattle.routes.specs.Bytes.{announced, written, repliesBytes}
 use Rattle.routes.specs.Seen.{Seen, table, frontOn}
 use Rattle.laws.specs.Round.{round-trip}
 use Rattle.words.specs.Table.{seen}
-use Rattle.audit.specs.Told.{Clears}
+use Rattle.audit.specs.Answer.{HasCleared}
 use Rattle.audit.specs.declared.Cleared.{Cleared}
-use Rattle.writing.specs.Answer.{Fills}
-use Rattle.feed.specs.Runs.{Runs}
+use Rattle.writing.specs.Answer.{HasFilled}
+use Rattle.feed.specs.Runs.{HasRun}
 use Rattle.feed.specs.declared.Ran.{Ran}
 use Rattle.feed.specs.declared.Ran.the-variants.{Stopped}
 use Rattle.calls.specs.Held.{held, cleared-alike, stopped}
@@ -37,14 +37,14 @@ pub record Trip (A : ℕ) (rs : List Route) : Type 0 where
   pub same : length lent ≡ length words
   pub cleared : List ℕ
   pub answer : Cleared
-  pub clears : Clears 4 lent cleared answer
+  pub clears : HasCleared 4 lent cleared answer
   -- the front run on them, with reply room enough
   pub reply : List ℕ
   pub enough : 5 * length rs ≤ length reply
   pub words′ : List ℕ
   pub reply′ : List ℕ
   pub ran : Ran
-  pub runs : Runs cleared front reply words′ reply′ ran
+  pub runs : HasRun cleared front reply words′ reply′ ran
 
 -- the same list, each of its records accepted, at an end
 pub record Again {A : ℕ} {rs : List Route} (t : Trip A rs) : Type 0 where
@@ -70,5 +70,5 @@ again {A} {rs} t =
     }
 
 -- the front is also what fill leaves at the start of the buffer
-pub filled-front : (s : Seen) (b : List ℕ) (n : ℕ) (c : List ℕ) → Fills s b n c → take n c ≡ frontOn s (length b)
+pub filled-front : (s : Seen) (b : List ℕ) (n : ℕ) (c : List ℕ) → HasFilled s b n c → take n c ≡ frontOn s (length b)
 filled-front s b n c f = rw (f .list, f .count) (take-append-seam (frontOn s (length b)) _)

@@ -12,7 +12,7 @@ use Rattle.routes.specs.Answers.{Reply, records}
 use Rattle.routes.specs.Seen.{gives, checkOn}
 use Rattle.routes.specs.Small.{Case, listBefore, listAfter, got, gots, small, small-cases, further, further-cases}
 use Rattle.words.specs.Table.{seen}
-use Rattle.audit.specs.Told.{Clears, toldCheck}
+use Rattle.audit.specs.Answer.{HasCleared, checkAnswer}
 use Rattle.audit.specs.declared.Cleared.the-variants.{Done}
 use Rattle.audit.specs.declared.Checked.{Checked}
 use Rattle.calls.specs.Held.{cleared-done}
@@ -25,7 +25,7 @@ pub record Played (c : Case) : Type 0 where
   pub lent : List ℕ
   pub size : length lent ≡ arrayWords * (c .room + 1)
   pub cleared : List ℕ
-  pub clears : Clears 4 lent cleared Done
+  pub clears : HasCleared 4 lent cleared Done
   pub ready : List ℕ
   pub earlier : List Reply
   pub took : Series cleared (records (c .before)) earlier ready
@@ -33,12 +33,12 @@ pub record Played (c : Case) : Type 0 where
   pub told : Reply
   pub asked : Asked ready (c .call) told left
   pub counts : Checked
-  pub checks : toldCheck counts ≡ checkOn 32 (seen 4 left)
+  pub checks : checkAnswer counts ≡ checkOn 32 (seen 4 left)
 
 -- it goes as the row says
 pub record AsSaid (c : Case) (p : Played c) : Type 0 where
   pub answer : p .told ≡ c .gives
-  pub arrays : toldCheck (p .counts) ≡ gives (record { routes = length (listAfter c); arrays = c .arrays })
+  pub arrays : checkAnswer (p .counts) ≡ gives (record { routes = length (listAfter c); arrays = c .arrays })
 
 as-said : (c : Case) → got c ≡ c → (p : Played c) → AsSaid c p
 as-said c e p =

@@ -13,29 +13,29 @@ use Rattle.routes.specs.Answers.{Update, Record, Reply}
 use Rattle.routes.specs.Seen.{table, lookupOn, checkOn, countOn, frontOn}
 use Rattle.words.specs.Table.{listOf, seen}
 use Rattle.words.specs.View.{seen-table}
-use Rattle.audit.specs.Told.{toldCheck, Clears}
+use Rattle.audit.specs.Answer.{checkAnswer, HasCleared}
 use Rattle.audit.specs.Sharp as audit
 use Rattle.audit.specs.declared.Cleared.{Cleared}
 use Rattle.audit.specs.declared.Checked.{Checked}
 use Rattle.replies.specs.Said.{saidReply, reply-one}
 use Rattle.replies.specs.declared.Reply as code
 use Rattle.lookup.specs.Walk.{walk}
-use Rattle.update.specs.Update.{Updates, Applies}
+use Rattle.update.specs.Update.{HasUpdated, HasApplied}
 use Rattle.update.specs.Sharp as update
 use Rattle.writing.specs.Answer as writing
 use Rattle.writing.specs.declared.Counted.{Counted}
-use Rattle.feed.specs.Runs.{Runs}
+use Rattle.feed.specs.Runs.{HasRun}
 use Rattle.feed.specs.Sharp as feed
 use Rattle.feed.specs.declared.Ran.{Ran}
 use Rattle.feed.specs.Series.{Series, all-answered}
 
 -- ---- clear, check
 
-pub clear-agrees : (ws vs vs′ : List ℕ) (r r′ : Cleared) → Clears 4 ws vs r → Clears 4 ws vs′ r′ → audit.Agree 4 vs vs′ r r′
+pub clear-agrees : (ws vs vs′ : List ℕ) (r r′ : Cleared) → HasCleared 4 ws vs r → HasCleared 4 ws vs′ r′ → audit.Agree 4 vs vs′ r r′
 clear-agrees ws vs vs′ r r′ p q = audit.clear-sharp 4 ws vs vs′ r r′ p q
 
-pub check-agrees : (ws : List ℕ) (r r′ : Checked) → toldCheck r ≡ checkOn 32 (seen 4 ws)
-    → toldCheck r′ ≡ checkOn 32 (seen 4 ws) → r ≡ r′
+pub check-agrees : (ws : List ℕ) (r r′ : Checked) → checkAnswer r ≡ checkOn 32 (seen 4 ws)
+    → checkAnswer r′ ≡ checkOn 32 (seen 4 ws) → r ≡ r′
 check-agrees ws r r′ p q = audit.check-sharp (checkOn 32 (seen 4 ws)) r r′ p q
 
 -- ---- lookup: on a table by its list, on other words by the layout's walk over them
@@ -46,12 +46,12 @@ lookup-agrees ws a r r′ p q = reply-one r r′ (p ∙ sym q)
 
 -- ---- announce, withdraw
 
-pub update-agrees : (ws : List ℕ) (u : Update) (vs vs′ : List ℕ) (r r′ : code.Reply) → Updates 4 ws vs u r → Updates 4 ws vs′ u r′
+pub update-agrees : (ws : List ℕ) (u : Update) (vs vs′ : List ℕ) (r r′ : code.Reply) → HasUpdated 4 ws vs u r → HasUpdated 4 ws vs′ u r′
     → update.Agree 4 vs vs′ r r′
 update-agrees ws u vs vs′ r r′ p q = update.sharp 4 ws vs vs′ u r r′ p q
 
 -- the work after the check, on a table
-pub work-agrees : (ws : List ℕ) (u : Update) (vs vs′ : List ℕ) (r r′ : code.Reply) → Applies 4 ws vs u r → Applies 4 ws vs′ u r′
+pub work-agrees : (ws : List ℕ) (u : Update) (vs vs′ : List ℕ) (r r′ : code.Reply) → HasApplied 4 ws vs u r → HasApplied 4 ws vs′ u r′
     → update.Agree 4 vs vs′ r r′
 work-agrees ws u vs vs′ r r′ p q =
     let e : r ≡ r′ = reply-one r r′ (p .answer ∙ sym (q .answer)) in
@@ -69,8 +69,8 @@ pub count-agrees : (ws : List ℕ) (room : ℕ) (r r′ : Counted) → writing.c
     → writing.countAnswer r′ ≡ countOn (seen 4 ws) room → r ≡ r′
 count-agrees ws room r r′ p q = writing.count-sharp (seen 4 ws) room r r′ p q
 
-pub fill-agrees : (ws b : List ℕ) (n n′ : ℕ) (c c′ : List ℕ) → writing.Fills (seen 4 ws) b n c
-    → writing.Fills (seen 4 ws) b n′ c′ → (n ≡ n′) × (c ≡ c′)
+pub fill-agrees : (ws b : List ℕ) (n n′ : ℕ) (c c′ : List ℕ) → writing.HasFilled (seen 4 ws) b n c
+    → writing.HasFilled (seen 4 ws) b n′ c′ → (n ≡ n′) × (c ≡ c′)
 fill-agrees ws b n n′ c c′ p q = writing.fills-sharp (seen 4 ws) b n n′ c c′ p q
 
 pub write-out-agrees : (ws b front front′ : List ℕ) → front ≡ frontOn (seen 4 ws) (length b)
@@ -79,8 +79,8 @@ write-out-agrees ws b front front′ p q = p ∙ sym q
 
 -- ---- run
 
-pub run-agrees : (ws bytes b vs c : List ℕ) (r : Ran) (vs′ c′ : List ℕ) (r′ : Ran) → Runs ws bytes b vs c r
-    → Runs ws bytes b vs′ c′ r′ → feed.Agree vs c r vs′ c′ r′
+pub run-agrees : (ws bytes b vs c : List ℕ) (r : Ran) (vs′ c′ : List ℕ) (r′ : Ran) → HasRun ws bytes b vs c r
+    → HasRun ws bytes b vs′ c′ r′ → feed.Agree vs c r vs′ c′ r′
 run-agrees ws bytes b vs c r vs′ c′ r′ p q = feed.sharp ws bytes b vs c r vs′ c′ r′ p q
 
 -- ---- the layout

@@ -4,13 +4,13 @@ use mathlib.Core.List.{List}
 use Prim.Native.Nat.{ℕ, _≤_}
 use lib.ListN.{length, take}
 use lib.Seq.{length-take-le}
-use Rattle.feed.specs.Runs.{Runs}
+use Rattle.feed.specs.Runs.{HasRun}
 use Rattle.feed.specs.Sharp.{fits}
 use Rattle.feed.specs.declared.Report.{Report}
 use Rattle.feed.specs.declared.Ran.{Ran}
 use Rattle.feed.specs.declared.Ran.the-variants.{Stopped}
 
-module _ (ws feed b vs c : List ℕ) (x : Ran) (r : Report) (p : Runs ws feed b vs c x) (e : x ≡ Stopped r)
+module _ (ws feed b vs c : List ℕ) (x : Ran) (r : Report) (p : HasRun ws feed b vs c x) (e : x ≡ Stopped r)
     (l : length c ≡ length b) where
   pub inside : r .written ≤ length c
   inside = fits ws feed b vs c (Stopped r) (rw e at p) l

@@ -13,11 +13,11 @@ use Rattle.routes.specs.Runs.{size}
 use Rattle.routes.specs.Seen.{Seen, misfit, foreign, table, lookupOn}
 use Rattle.laws.specs.Turns.{size-pos}
 use Rattle.words.specs.Table.{seen}
-use Rattle.words.specs.Almost.{Table}
+use Rattle.words.specs.TableBut.{Table}
 use Rattle.words.specs.View.{seen-cases}
 use Rattle.replies.specs.Said.{saidReply}
 use Rattle.replies.specs.declared.Reply.{Reply}
-use Rattle.update.specs.Update.{Updates}
+use Rattle.update.specs.Update.{HasUpdated}
 use Rattle.lookup.specs.Walk.{walk}
 use Rattle.feed.specs.Series.{Asked, updated, looked}
 use Rattle.feed.specs.Turns.{IsTable, roomIn, listIn, announceAt, withdrawAt, lookupAt, here, Asks, one}
@@ -38,11 +38,11 @@ is-table ws t =
 
 module _ (ws vs : List ℕ) (r : Reply) (feed : List ℕ) (i : ℕ) where
   pub asked-announce : (a l h : ℕ) → a ≡ fourAt feed (i + 1) → l ≡ getD feed (i + 5) 0 → h ≡ twoAt feed (i + 6)
-      → Updates 4 ws vs (announce a l h) r → Asked ws (announceAt feed i) (saidReply r) vs
+      → HasUpdated 4 ws vs (announce a l h) r → Asked ws (announceAt feed i) (saidReply r) vs
   asked-announce a l h ea el eh p = rw (← ea, ← el, ← eh) (updated r p)
 
   pub asked-withdraw : (a l : ℕ) → a ≡ fourAt feed (i + 1) → l ≡ getD feed (i + 5) 0
-      → Updates 4 ws vs (withdraw a l) r → Asked ws (withdrawAt feed i) (saidReply r) vs
+      → HasUpdated 4 ws vs (withdraw a l) r → Asked ws (withdrawAt feed i) (saidReply r) vs
   asked-withdraw a l ea el p = rw (← ea, ← el) (updated r p)
 
 pub asked-lookup : (ws : List ℕ) (r : Reply) (feed : List ℕ) (i a : ℕ) → a ≡ fourAt feed (i + 1)

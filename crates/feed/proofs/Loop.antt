@@ -25,7 +25,7 @@ use Rattle.words.specs.Table.{seen}
 use Rattle.words.specs.View.{seen-table, seen-cases}
 use Rattle.update.specs.Update.{refusalOf}
 use Rattle.update.specs.Refuse.{refusal-size, refusal-foreign, refusal-none, passed}
-use Rattle.feed.specs.Runs.{reportOf, Runs}
+use Rattle.feed.specs.Runs.{reportOf, HasRun}
 use Rattle.feed.specs.Series.{Asked, Series, nothing, more, Answered, answered}
 use Rattle.feed.specs.Turns.{IsTable, roomIn, listIn, one, here, stateOf, Placed, Takes, Took}
 use Rattle.feed.specs.declared.Progress.{Progress}
@@ -245,7 +245,7 @@ module _ (ws₀ feed b₀ ws b : List ℕ) (p : Progress) (stop : ℕ) (g : Goin
 
   runs-as : (s : Seen) → seen 4 ws₀ ≡ s → IsTable s → (r : Report)
       → Ended (run (roomIn s) (listIn s) feed (length b₀)) (roomIn s) b₀ ws b r
-      → Ahead (roomIn s) feed (length b₀) (fresh (listIn s)) ws₀ ws → Runs ws₀ feed b₀ ws b (Stopped r)
+      → Ahead (roomIn s) feed (length b₀) (fresh (listIn s)) ws₀ ws → HasRun ws₀ feed b₀ ws b (Stopped r)
   runs-as misfit e t r x a = absurd t
   runs-as foreign e t r x a = absurd t
   runs-as (table A rs) e t r x a =
@@ -258,13 +258,13 @@ module _ (ws₀ feed b₀ ws b : List ℕ) (p : Progress) (stop : ℕ) (g : Goin
       }
 
   pub stopped : IsTable (seen 4 ws₀) → (n : ℕ) → stop ≢ 5 → n ≡ one (eqb stop 0)
-      → Runs ws₀ feed b₀ ws b (Stopped (told p stop (p .at + n) (p .out)))
+      → HasRun ws₀ feed b₀ ws b (Stopped (told p stop (p .at + n) (p .out)))
   stopped t n h e = runs-as (seen 4 ws₀) refl t _ (rw (e, ended h) (report (eqb stop 0))) (all-asked h)
 
 -- ---- the test at the start
 
 module _ (ws : List ℕ) (n : ℕ) (first : n ≡ refusalOf ws 0) where
-  pub run-refused : (feed b : List ℕ) → n ≢ 0 → Runs ws feed b ws b (Refused n)
+  pub run-refused : (feed b : List ℕ) → n ≢ 0 → HasRun ws feed b ws b (Refused n)
   run-refused feed b z =
       seen-cases 4 ws (omega arith) (omega arith)
       (λ m e. (let q : n ≡ 1 = first ∙ sym (refusal-size ws 0 m) in

@@ -13,7 +13,7 @@ use Rattle.laws.specs.Taken.{run-came}
 use Rattle.words.specs.Table.{seen}
 use Rattle.update.specs.Refuse.{unaccepted}
 use Rattle.feed.specs.Series.{Asked, updated, looked, Series, nothing, more}
-use Rattle.feed.specs.Runs.{runAnswer, reported, Runs}
+use Rattle.feed.specs.Runs.{runAnswer, reported, HasRun}
 use Rattle.feed.specs.declared.Ran.{Ran}
 use Rattle.feed.specs.declared.Ran.the-variants.{Stopped, Refused}
 
@@ -56,5 +56,5 @@ accepted-count foreign feed b (Refused n) e = refl
 accepted-count (table A rs) feed b (Refused n) e = let z : _≡_ {A = ℕ} 0 1 = cc in absurd (omega arith)
 
 -- nothing accepted, nothing changed
-pub unaccepted-kept : (ws feed b vs c : List ℕ) (r : Ran) → Runs ws feed b vs c r → acceptedBy r ≡ 0 → vs ≡ ws
+pub unaccepted-kept : (ws feed b vs c : List ℕ) (r : Ran) → HasRun ws feed b vs c r → acceptedBy r ≡ 0 → vs ≡ ws
 unaccepted-kept ws feed b vs c r p e = series-kept (p .series) (sym (accepted-count (seen 4 ws) feed b r (p .answer)) ∙ e)

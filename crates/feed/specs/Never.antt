@@ -23,7 +23,7 @@ use Rattle.routes.specs.Bytes.{replyBytes, repliesBytes, replySize}
 use Rattle.routes.specs.Runs.{State, recordAt, halts, taken, runs, fresh, run}
 use Rattle.routes.specs.Seen.{Seen, misfit, foreign, table, runOn, repliedOn}
 use Rattle.words.specs.Table.{seen}
-use Rattle.feed.specs.Runs.{runAnswer, reported, Runs}
+use Rattle.feed.specs.Runs.{runAnswer, reported, HasRun}
 use Rattle.feed.specs.Sharp.{writtenBy}
 use Rattle.feed.specs.declared.Ran.{Ran}
 use Rattle.feed.specs.declared.Ran.the-variants.{Stopped, Refused}
@@ -186,10 +186,10 @@ written (table A rs) feed b (Stopped r) e =
     rw (n, take-at xs (drop (length xs) b) (length xs) refl) (run-replied A rs feed (length b))
 
 -- they are replies, each a list's answer
-pub replied : (ws feed b vs c : List ℕ) (r : Ran) → Runs ws feed b vs c r → Replied (take (writtenBy r) c)
+pub replied : (ws feed b vs c : List ℕ) (r : Ran) → HasRun ws feed b vs c r → Replied (take (writtenBy r) c)
 replied ws feed b vs c r p = rw (p .replies) (written (seen 4 ws) feed b r (p .answer))
 
 -- and in whatever way they are read, "refused 2" is none of them
-pub never : (ws feed b vs c : List ℕ) (r : Ran) → Runs ws feed b vs c r → (xs ys : List Reply)
+pub never : (ws feed b vs c : List ℕ) (r : Ran) → HasRun ws feed b vs c r → (xs ys : List Reply)
     → take (writtenBy r) c ≢ repliesBytes (xs ++ (refused 2 ∷ ys))
 never ws feed b vs c r p = no-second (take (writtenBy r) c) (replied ws feed b vs c r p)

@@ -11,7 +11,7 @@ use Rattle.routes.specs.Seen.{Seen, misfit, foreign, table}
 use Rattle.words.specs.Table.{seen}
 use Rattle.update.specs.Passes.{Passes, seen-passes, update-passes}
 use Rattle.feed.specs.Series.{Asked, updated, looked, Series, nothing, more}
-use Rattle.feed.specs.Runs.{Runs}
+use Rattle.feed.specs.Runs.{HasRun}
 use Rattle.feed.specs.declared.Report.{Report}
 use Rattle.feed.specs.declared.Ran.the-variants.{Stopped}
 
@@ -29,7 +29,7 @@ series-passes nothing e = e
 series-passes (more a s) e = (e, series-passes s (asked-passes a e))
 
 -- a run that is not refused began with a table
-pub run-passes : (ws feed b vs c : List ℕ) (r : Report) (p : Runs ws feed b vs c (Stopped r)) → AllPass (p .series)
+pub run-passes : (ws feed b vs c : List ℕ) (r : Report) (p : HasRun ws feed b vs c (Stopped r)) → AllPass (p .series)
 run-passes ws feed b vs c r p = series-passes (p .series) (go (seen 4 ws) refl)
   where
     go : (s : Seen) → seen 4 ws ≡ s → Passes ws

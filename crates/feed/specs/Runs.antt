@@ -33,7 +33,7 @@ reported (gives o) = gives (reportOf o)
 reported (refuses n) = refuses n
 
 -- a run of feed on the words ws and the reply bytes b left vs and c, and answered r
-pub record Runs (ws feed b vs c : List ℕ) (r : Ran) : Type 0 where
+pub record HasRun (ws feed b vs c : List ℕ) (r : Ran) : Type 0 where
   pub answer : runAnswer r ≡ reported (runOn (seen 4 ws) feed b)
   pub list : seen 4 vs ≡ ranOn (seen 4 ws) feed b
   pub replies : c ≡ repliedOn (seen 4 ws) feed b

@@ -13,12 +13,12 @@ use Rattle.routes.specs.Seen.{table, lookupOn}
 use Rattle.words.specs.Table.{seen}
 use Rattle.replies.specs.Said.{saidReply}
 use Rattle.replies.specs.declared.Reply as code
-use Rattle.update.specs.Update.{Updates}
+use Rattle.update.specs.Update.{HasUpdated}
 use Rattle.lookup.specs.Walk.{walk}
 
 -- the call of a record on the words ws was answered y and left vs, as its contract allows
 pub data Asked (ws : List ℕ) : Record → Reply → List ℕ → Type 0 where
-  updated : {u : Update} {vs : List ℕ} (r : code.Reply) → Updates 4 ws vs u r → Asked ws (update u) (saidReply r) vs
+  updated : {u : Update} {vs : List ℕ} (r : code.Reply) → HasUpdated 4 ws vs u r → Asked ws (update u) (saidReply r) vs
   looked : {a : ℕ} (r : code.Reply) → saidReply r ≡ lookupOn 32 (seen 4 ws) (walk 4 ws a) a
       → Asked ws (lookup a) (saidReply r) ws
 

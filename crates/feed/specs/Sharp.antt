@@ -9,7 +9,7 @@ use lib.Seq.{drop-at}
 use Rattle.routes.specs.Seen.{Seen, misfit, foreign, table, runOn, repliedOn}
 use Rattle.routes.specs.Runs.{run}
 use Rattle.words.specs.Table.{seen}
-use Rattle.feed.specs.Runs.{runAnswer, reported, Runs}
+use Rattle.feed.specs.Runs.{runAnswer, reported, HasRun}
 use Rattle.feed.specs.declared.Ran.{Ran}
 use Rattle.feed.specs.declared.Ran.the-variants.{Stopped, Refused}
 
@@ -29,7 +29,7 @@ run-one (Refused n) (Stopped r) e = let z : _≡_ {A = ℕ} 0 1 = cc in absurd (
 run-one (Refused n) (Refused m) e = cc
 
 pub sharp : (ws feed b vs c : List ℕ) (r : Ran) (vs′ c′ : List ℕ) (r′ : Ran)
-    → Runs ws feed b vs c r → Runs ws feed b vs′ c′ r′ → Agree vs c r vs′ c′ r′
+    → HasRun ws feed b vs c r → HasRun ws feed b vs′ c′ r′ → Agree vs c r vs′ c′ r′
 sharp ws feed b vs c r vs′ c′ r′ p q =
     let e : r ≡ r′ = run-one r r′ (p .answer ∙ sym (q .answer)) in
     record {
@@ -56,7 +56,7 @@ untouched (table A rs) feed b (Stopped r) e =
     rw n (drop-at xs (drop (length xs) b) (length xs) refl)
 untouched (table A rs) feed b (Refused n) e = let z : _≡_ {A = ℕ} 0 1 = cc in absurd (omega arith)
 
-pub stays : (ws feed b vs c : List ℕ) (r : Ran) → Runs ws feed b vs c r → drop (writtenBy r) c ≡ drop (writtenBy r) b
+pub stays : (ws feed b vs c : List ℕ) (r : Ran) → HasRun ws feed b vs c r → drop (writtenBy r) c ≡ drop (writtenBy r) b
 stays ws feed b vs c r p = ap (drop (writtenBy r)) (p .replies) ∙ untouched (seen 4 ws) feed b r (p .answer)
 
 -- ---- what is written fits
@@ -72,5 +72,5 @@ fitting (table A rs) feed b (Stopped r) e l =
     omega (arith, length-append xs (drop (length xs) b), length-drop (length xs) b)
 
 -- a lent slice keeps its length
-pub fits : (ws feed b vs c : List ℕ) (r : Ran) → Runs ws feed b vs c r → length c ≡ length b → writtenBy r ≤ length c
+pub fits : (ws feed b vs c : List ℕ) (r : Ran) → HasRun ws feed b vs c r → length c ≡ length b → writtenBy r ≤ length c
 fits ws feed b vs c r p l = omega (arith, fitting (seen 4 ws) feed b r (p .answer) (sym (ap length (p .replies)) ∙ l))

@@ -10,7 +10,7 @@ ghost use Rattle.routes.specs.Bytes.{replyBytes};
 ghost use Rattle.routes.specs.Runs.{size as sizeOf, halts};
 ghost use Rattle.words.specs.Table.{seen};
 ghost use Rattle.replies.specs.Said.{saidReply};
-ghost use Rattle.feed.specs.Runs.{Runs};
+ghost use Rattle.feed.specs.Runs.{HasRun};
 ghost use Rattle.feed.specs.Series.{Asked};
 ghost use Rattle.feed.specs.Turns.{one, IsTable, announceAt, withdrawAt, lookupAt, Asks, here, Takes, Took};
 ghost use Rattle.feed.specs.declared.Ran.the-variants.{Stopped};
@@ -40,7 +40,7 @@ pub enum Ran {
 // Runs a feed on lent words and writes the replies to the front of lent bytes. Only here the words are checked: each record
 // leaves a table a table.
 pub fn run(words: &mut [u32], feed: &[u8], reply: &mut [u8]) -> Ran
-    ensures { λ r. ⌜ Runs (now (words .entry)) (now (feed .entry)) (now (reply .entry))
+    ensures { λ r. ⌜ HasRun (now (words .entry)) (now (feed .entry)) (now (reply .entry))
         (now (words .exit)) (now (reply .exit)) r ⌝ }
 {
     let n = update::refusal(words, 0);
@@ -53,7 +53,7 @@ pub fn run(words: &mut [u32], feed: &[u8], reply: &mut [u8]) -> Ran
 // The run on words that are a table.
 fn run_table(words: &mut [u32], feed: &[u8], reply: &mut [u8]) -> Report
     requires { ⌜ IsTable (seen 4 (now words)) ⌝ }
-    ensures { λ r. ⌜ Runs (now (words .entry)) (now (feed .entry)) (now (reply .entry))
+    ensures { λ r. ⌜ HasRun (now (words .entry)) (now (feed .entry)) (now (reply .entry))
         (now (words .exit)) (now (reply .exit)) (Stopped r) ⌝ }
 {
     let room = reply.len();

@@ -14,7 +14,7 @@ use borrow.Author.Tests.{eq-eqb, ne-eqb}
 use Rattle.routes.specs.Route.{Route}
 use Rattle.logic.specs.Bools.{not-true}
 use Rattle.logic.specs.Every.{allB}
-use Rattle.logic.specs.Tells.{all-to}
+use Rattle.logic.specs.Reflects.{all-to}
 use Rattle.laws.specs.Longest.{Wfs}
 use Rattle.listing.specs.Heads.{picks, between, picks-same}
 use Rattle.lengths.specs.Way.{turns, turnsAt}

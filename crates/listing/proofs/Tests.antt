@@ -13,7 +13,7 @@ use Rattle.numbers.specs.Digits.{twoAt, fourAt}
 use Rattle.routes.specs.Room.{need}
 use Rattle.logic.specs.Cases.{less}
 use Rattle.logic.specs.Every.{allB}
-use Rattle.logic.specs.Tells.{all-stop}
+use Rattle.logic.specs.Reflects.{all-stop}
 use Rattle.logic.specs.Bools.{not-true, not-false}
 use Rattle.sizes.specs.Sizes.{mostArrays}
 use Rattle.listing.specs.Listed.{routeAt, listOf, routeB, recordB, wholeB, unlisted, listedIn}

@@ -16,7 +16,7 @@ use Rattle.laws.specs.Sorted.{from-weaken, hop-head, hop-skip}
 use Rattle.laws.specs.Longest.{Wfs}
 use Rattle.logic.specs.Bools.{and-to, not-true, not-false}
 use Rattle.logic.specs.Every.{allB}
-use Rattle.logic.specs.Tells.{all-to}
+use Rattle.logic.specs.Reflects.{all-to}
 use Rattle.listing.specs.Listed.{routeAt, routesFrom, listOf, routeB, recordB, wholeB, unlisted, listed, listedIn}
 
 -- ---- what the tests of the bytes promise

@@ -16,7 +16,7 @@ use Rattle.numbers.specs.Digits.{two, four, twoAt, fourAt}
 use Rattle.routes.specs.Bytes.{recordBytes, recordsBytes, announced, written}
 use Rattle.logic.specs.Bools.{and-to, or-true}
 use Rattle.logic.specs.Every.{allB}
-use Rattle.logic.specs.Tells.{all-to, all-from}
+use Rattle.logic.specs.Reflects.{all-to, all-from}
 use Rattle.laws.specs.Encoded.{record-back}
 use Rattle.laws.specs.Round.{written-long}
 use Rattle.listing.specs.Listed.{routeAt, routesFrom, listOf, routeB, recordB, wholeB, unlisted, listed, listedIn}

@@ -1,4 +1,4 @@
 pub mod Every
 pub mod Cases
 pub mod Bools
-pub mod Tells
+pub mod Reflects

@@ -25,7 +25,7 @@ use Rattle.tree.specs.Tree.{Level, node-level}
 use Rattle.tree.specs.Need.{held-at, at-some, node-child, above}
 use Rattle.words.specs.Words.{arraysOf, arrayCount, slotsOf, bestsOf}
 use Rattle.words.specs.Table.{listOf, seen}
-use Rattle.words.specs.Almost.{Table}
+use Rattle.words.specs.TableBut.{Table}
 use Rattle.words.specs.View.{seen-cases}
 use Rattle.lookup.specs.Walk.{outside, deeper, walkFrom, walk, walked, lookedUp}
 use Rattle.lookup.specs.Level.{best-inside, level-last, level-first, upTo}
@@ -44,7 +44,8 @@ bits : (L x k e j : ℕ) → k < L → e + j ≡ 8 → x / 2 ^ (8 * L - (8 * k +
 bits L x k e j p q =
     let s = 8 * L - 8 * suc k in
     let r : 8 * L - (8 * k + j) ≡ s + e = omega arith in
-    rw r (sym (shr-shr x s e) ∙ ap (λ (y : ℕ). y / 2 ^ e) (front-more L x k p) ∙ cut (front L x k) (byteOf L x k) j e (omega arith))
+    rw r (sym (shr-shr x s e) ∙ ap (λ (y : ℕ). y / 2 ^ e) (front-more L x k p)
+    ∙ cut (front L x k) (byteOf L x k) j e (omega arith))
 
 -- length 0 is held in the array of level 0
 held-root : (t : Arrays) (v w k : ℕ) → k ≡ 0 → held t v 0 ≡ t .slot (node t w k) 1

@@ -14,7 +14,7 @@ ghost use mathlib.Core.Bool.{cond};
 ghost use lib.Dec.{eqb};
 ghost use Rattle.numbers.specs.Number.{number};
 ghost use Rattle.words.specs.Table.{seen};
-ghost use Rattle.words.specs.Decides.{Fits};
+ghost use Rattle.words.specs.CheckReflects.{Fits};
 ghost use Rattle.lookup.specs.Walk.{hopOf, deeper, walk, walked, lookedUp};
 ghost use Rattle.lookup.specs.Ended.{Walks};
 ghost use Rattle.replies.specs.Said.{saidReply};

@@ -14,19 +14,19 @@ use Rattle.tree.specs.Arrays.{node, held}
 use Rattle.tree.specs.Tree.{Level, node-level}
 use Rattle.tree.specs.Need.{node-child, node-above}
 use Rattle.words.specs.Words.{arraysOf, arrayCount}
-use Rattle.words.specs.Almost.{Almost}
+use Rattle.words.specs.TableBut.{TableBut}
 use Rattle.tree.specs.Free.{firstFree}
 use Rattle.words.specs.Gained.{gained, Gains}
-use Rattle.tree.specs.Hang.{Hang, hang-held, other, node-cases}
-use Rattle.words.specs.Gain.{Gain, gained-hang, gained-almost, gained-length, gained-counted}
+use Rattle.tree.specs.HungBelow.{HungBelow, hang-held, other, node-cases}
+use Rattle.words.specs.Gain.{Gain, gained-hung-below, gained-table-but, gained-length, gained-counted}
 use Rattle.tree.specs.Free.{Found, used-full}
 use Rattle.words.specs.Stock.{find-some}
 use Rattle.numbers.specs.Front.{front, byteOf, byte-lt, front-more, front-up}
 use Rattle.paths.specs.Alike.{Alike, gained-alike}
 
 -- a table of L levels but for b, the array of the first 8 * j bits q, whose cell i is without a link
-pub record Tip (L : ℕ) (ws : List ℕ) (q j b i : ℕ) : Type 0 where
-  pub ok : Almost L b ws
+pub record OpenCell (L : ℕ) (ws : List ℕ) (q j b i : ℕ) : Type 0 where
+  pub ok : TableBut L b ws
   pub some : 1 ≤ b
   pub leads : node (arraysOf ws) q j ≡ b
   pub cells : i < cellCount
@@ -34,7 +34,7 @@ pub record Tip (L : ℕ) (ws : List ℕ) (q j b i : ℕ) : Type 0 where
 
 -- vs is ws with arrays hung at the levels j + 1 .. k of a's path; r is that of level k
 pub record Grown (L : ℕ) (ws vs : List ℕ) (a j k r : ℕ) : Type 0 where
-  pub ok : Almost L r vs
+  pub ok : TableBut L r vs
   pub some : 1 ≤ r
   pub size : length vs ≡ length ws
   pub leads : node (arraysOf vs) (front L a k) k ≡ r
@@ -44,7 +44,7 @@ pub record Grown (L : ℕ) (ws vs : List ℕ) (a j k r : ℕ) : Type 0 where
 
 -- ---- one array
 
-module _ (L : ℕ) (ws : List ℕ) (q j b i : ℕ) (tip : Tip L ws q j b i) (deep : suc j < L)
+module _ (L : ℕ) (ws : List ℕ) (q j b i : ℕ) (tip : OpenCell L ws q j b i) (deep : suc j < L)
     (room : getD ws 0 0 < arrayCount ws) where
   abbrev f : ℕ
   f = firstFree (arraysOf ws) 1 (arrayCount ws)
@@ -71,8 +71,8 @@ module _ (L : ℕ) (ws : List ℕ) (q j b i : ℕ) (tip : Tip L ws q j b i) (dee
     free = fo .free;
   }
 
-  hang : Hang (arrayCount ws) L (arraysOf ws) (arraysOf vs) b i f
-  hang = gained-hang L ws b i f (tip .ok) gn
+  hang : HungBelow (arrayCount ws) L (arraysOf ws) (arraysOf vs) b i f
+  hang = gained-hung-below L ws b i f (tip .ok) gn
 
   can-gain : Gains ws b i f
   can-gain = record {
@@ -102,11 +102,11 @@ module _ (L : ℕ) (ws : List ℕ) (q j b i : ℕ) (tip : Tip L ws q j b i) (dee
   leads : node (arraysOf vs) (q * 256 + i) (suc j) ≡ f
   leads = node-child (arraysOf vs) q j i (tip .cells) (rw stay-tip (tip .some)) ∙ rw stay-tip (hang .on)
 
-  ok : Almost L f vs
-  ok = gained-almost L ws b i f (tip .ok) gn
+  ok : TableBut L f vs
+  ok = gained-table-but L ws b i f (tip .ok) gn
 
   -- the fresh array is a tip itself, at any cell
-  grow-tip : (y : ℕ) → y < cellCount → Tip L vs (q * 256 + i) (suc j) f y
+  grow-tip : (y : ℕ) → y < cellCount → OpenCell L vs (q * 256 + i) (suc j) f y
   grow-tip y w = record {
     ok = ok;
     some = fo .low;
@@ -123,9 +123,9 @@ pub record Turn (L : ℕ) (ws vs : List ℕ) (a j i b : ℕ) : Type 0 where
   pub low : j ≤ i
   pub high : i < L
   pub grown : Grown L ws vs a j i b
-  pub tip : Tip L vs (front L a i) i b (byteOf L a i)
+  pub tip : OpenCell L vs (front L a i) i b (byteOf L a i)
 
-pub grown-none : (L : ℕ) (ws : List ℕ) (a j b : ℕ) → Almost L b ws → 1 ≤ b → node (arraysOf ws) (front L a j) j ≡ b
+pub grown-none : (L : ℕ) (ws : List ℕ) (a j b : ℕ) → TableBut L b ws → 1 ≤ b → node (arraysOf ws) (front L a j) j ≡ b
     → Grown L ws ws a j j b
 grown-none L ws a j b ok h e = record {
   ok = ok;
@@ -137,7 +137,7 @@ grown-none L ws a j b ok h e = record {
   others = λ c l n w m. refl;
 }
 
-pub turn-first : (L : ℕ) (ws : List ℕ) (a j b : ℕ) → j < L → Tip L ws (front L a j) j b (byteOf L a j) → Turn L ws ws a j j b
+pub turn-first : (L : ℕ) (ws : List ℕ) (a j b : ℕ) → j < L → OpenCell L ws (front L a j) j b (byteOf L a j) → Turn L ws ws a j j b
 turn-first L ws a j b h t =
     record { low = omega arith; high = h; grown = grown-none L ws a j b (t .ok) (t .some) (t .leads); tip = t }
 

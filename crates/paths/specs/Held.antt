@@ -15,10 +15,10 @@ use Rattle.laws.specs.Collect.{routes-hop}
 use Rattle.routes.specs.Collect.{routeOf}
 use Rattle.tree.specs.Arrays.{Arrays, node, held}
 use Rattle.tree.specs.Need.{held-at}
-use Rattle.tree.specs.Slot.{Place, held-place, at-none}
+use Rattle.tree.specs.SlotSet.{Place, held-place, at-none}
 use Rattle.words.specs.Words.{arraysOf, arrayCount, slotsOf}
 use Rattle.words.specs.Table.{listOf}
-use Rattle.words.specs.Almost.{Table}
+use Rattle.words.specs.TableBut.{Table}
 use Rattle.numbers.specs.Front.{front, value-lt, front-lt, prefix-whole}
 use Rattle.address.specs.Address.{IsPrefix, Stands}
 use Rattle.paths.specs.Stop.{Stops, stops-short}

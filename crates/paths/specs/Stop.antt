@@ -11,11 +11,11 @@ use Rattle.tree.specs.Shape.{Shape}
 use Rattle.tree.specs.Tree.{node-level}
 use Rattle.tree.specs.Need.{node-child}
 use Rattle.words.specs.Words.{arraysOf, arrayCount}
-use Rattle.words.specs.Almost.{Almost}
-use Rattle.words.specs.Reslot.{almost-loose}
+use Rattle.words.specs.TableBut.{TableBut}
+use Rattle.words.specs.SlotSet.{table-is-but}
 use Rattle.tree.specs.Missing.{missing, missing-none, missing-depth}
 use Rattle.numbers.specs.Front.{front, byteOf, byte-lt, front-more, front-up}
-use Rattle.paths.specs.Grown.{Grown, Tip, grown-none}
+use Rattle.paths.specs.Grown.{Grown, OpenCell, grown-none}
 
 -- b is the array of the first 8 * j bits of a
 pub record On (L : ℕ) (ws : List ℕ) (a j b : ℕ) : Type 0 where
@@ -86,19 +86,19 @@ pub record Opened (L : ℕ) (ws vs : List ℕ) (a j k r : ℕ) : Type 0 where
   pub none : r ≡ 0 → (vs ≡ ws) × (arrayCount ws < getD ws 0 0 + (k - j))
   pub some : r ≢ 0 → Grown L ws vs a j k r
 
-module _ (L : ℕ) (ws : List ℕ) (a k j b : ℕ) (ok : Almost L 0 ws) (p : Stops L ws a k j b) where
+module _ (L : ℕ) (ws : List ℕ) (a k j b : ℕ) (ok : TableBut L 0 ws) (p : Stops L ws a k j b) where
   pub opened-there : j ≡ k → Opened L ws ws a j k b
   opened-there e = record {
     none = λ z. absurd (omega (arith, p .on .some));
-    some = λ n. rw (← e) (grown-none L ws a j b (almost-loose L b ws ok) (p .on .some) (p .on .leads));
+    some = λ n. rw (← e) (grown-none L ws a j b (table-is-but L b ws ok) (p .on .some) (p .on .leads));
   }
 
   pub opened-full : arrayCount ws < getD ws 0 0 + (k - j) → Opened L ws ws a j k 0
   opened-full q = record { none = λ z. (refl, q); some = λ n. absurd (n refl) }
 
-  pub opened-tip : j < k → Tip L ws (front L a j) j b (byteOf L a j)
+  pub opened-tip : j < k → OpenCell L ws (front L a j) j b (byteOf L a j)
   opened-tip l =
-      record { ok = almost-loose L b ws ok; some = p .on .some; leads = p .on .leads; cells = byte-lt L a j; off = p .off l }
+      record { ok = table-is-but L b ws ok; some = p .on .some; leads = p .on .leads; cells = byte-lt L a j; off = p .off l }
 
   pub opened-grown : (vs : List ℕ) (r : ℕ) → Grown L ws vs a j k r → Opened L ws vs a j k r
   opened-grown vs r g = record { none = λ z. absurd (omega (arith, g .some)); some = λ n. g }

@@ -9,13 +9,13 @@ ghost use lib.ListN.{length as size, getD};
 ghost use Rattle.sizes.specs.Sizes.{leastWords, mostWords, arrayAt};
 ghost use Rattle.tree.specs.Shape.{Shape};
 ghost use Rattle.words.specs.Words.{arraysOf, arrayCount};
-ghost use Rattle.words.specs.Almost.{Table};
+ghost use Rattle.words.specs.TableBut.{Table};
 ghost use Rattle.numbers.specs.Front.{front, byteOf};
 ghost use Rattle.address.specs.Address.{IsPrefix};
 ghost use Rattle.numbers.specs.Number.{number};
-ghost use Rattle.paths.specs.Grown.{Tip, Grown};
+ghost use Rattle.paths.specs.Grown.{OpenCell, Grown};
 ghost use Rattle.paths.specs.Stop.{Stops, Opened};
-ghost use Rattle.paths.specs.Shrunk.{Loose, Pruned};
+ghost use Rattle.paths.specs.Shrunk.{EmptyAllowed, Pruned};
 ghost use Rattle.paths.specs.Held.{hopFound, Sought};
 
 // An array and its level.
@@ -89,7 +89,7 @@ pub fn find(words: &[u32], address: &[u8], length: u32) -> Found
 // returned.
 fn hang_path(words: &mut [u32], address: &[u8], a: usize, j: usize, k: usize) -> usize
     requires { ⌜ (j < k) × (k < size (now address)) × (getD (now words) 0 0 + (k - j) ≤ arrayCount (now words)) ⌝ }
-    requires { ⌜ Tip (size (now address)) (now words) (front (size (now address)) (number (now address)) j) j a
+    requires { ⌜ OpenCell (size (now address)) (now words) (front (size (now address)) (number (now address)) j) j a
         (byteOf (size (now address)) (number (now address)) j) ⌝ }
     ensures { λ r. ⌜ Grown (size (now (address .entry))) (now (words .entry)) (now (words .exit))
         (number (now (address .entry))) j k r ⌝ }
@@ -127,7 +127,7 @@ pub fn extend(words: &mut [u32], address: &[u8], a: usize, j: usize, k: usize) -
 
 // Array a, and those above it, released while they are empty. The number of levels is what the promise speaks of, no more.
 pub fn prune(words: &mut [u32], levels: usize, a: usize)
-    requires { ⌜ Loose levels (now words) a ⌝ }
+    requires { ⌜ EmptyAllowed levels (now words) a ⌝ }
     ensures { λ _. ⌜ Pruned levels (now (words .entry)) (now (words .exit)) a ⌝ }
 {
     let mut b = a;

@@ -10,34 +10,34 @@ use Rattle.logic.specs.Cases.{less}
 use Rattle.laws.specs.Given.{refused-one, given-refused}
 use Rattle.words.specs.Table.{seen}
 use Rattle.audit.specs.declared.Cleared.{Cleared}
-use Rattle.audit.specs.Told.{toldClear, Clears as Below}
+use Rattle.audit.specs.Answer.{clearAnswer, HasCleared as Below}
 use Rattle.replies.specs.Said.{saidReply}
 use Rattle.replies.specs.declared.Reply.{Reply}
-use Rattle.update.specs.Update.{Updates as Made}
+use Rattle.update.specs.Update.{HasUpdated as Made}
 use Rattle.writing.specs.declared.Counted.{Counted}
-use Rattle.writing.specs.Answer.{countAnswer, Fills, front-length, front-none}
+use Rattle.writing.specs.Answer.{countAnswer, HasFilled, front-length, front-none}
 use Rattle.feed.specs.declared.Ran.{Ran as Outcome}
 use Rattle.feed.specs.declared.Ran.the-variants.{Stopped, Refused as Unfit}
-use Rattle.feed.specs.Runs.{runAnswer, reported, Runs as Run}
+use Rattle.feed.specs.Runs.{runAnswer, reported, HasRun as Run}
 use Rattle.lengths.specs.Marks.{wordsFor}
 use Rattle.listing.specs.Listed.{Listed, unlisted, listed, listedIn}
 use Rattle.lengths_build.specs.Answer.{buildOn}
 use Rattle.lengths_build.specs.declared.Built.{Built}
 use Rattle.lengths_build.specs.Answer.{buildAnswer}
 use Rattle.lengths_build.specs.Build.{LeavesOn}
-use Rattle.toggleash.specs.Face.{refusal, updated, wrote, ran, Clears, Updates, Writes, Runs}
-use Rattle.toggleash.specs.Copies.{built, Builds}
+use Rattle.toggleash.specs.Face.{refusal, updated, wrote, ran, HasCleared, HasUpdated, HasWritten, HasRun}
+use Rattle.toggleash.specs.Copies.{built, HasBuilt}
 use Rattle.toggleash.specs.declared.Updated.{Updated}
 use Rattle.toggleash.specs.declared.Written.{Written}
 use Rattle.toggleash.specs.declared.Ran.{Ran as Fields}
 use Rattle.toggleash.specs.declared.copies.Built.{Built as Numbers}
 
-pub cleared : (ws vs : List ℕ) (r : Cleared) (n : ℕ) → Below 4 ws vs r → n ≡ refusal (toldClear r) → Clears ws vs n
+pub cleared : (ws vs : List ℕ) (r : Cleared) (n : ℕ) → Below 4 ws vs r → n ≡ refusal (clearAnswer r) → HasCleared ws vs n
 cleared ws vs r n b e =
     record { answer = e ∙ ap refusal (b .answer); left = b .left; kept = λ m q. b .kept m (b .answer ∙ q) }
 
 pub made : (ws vs : List ℕ) (u : Update) (r : Reply) (x : Updated) → Made 4 ws vs u r → x ≡ updated (saidReply r)
-    → Updates ws vs u x
+    → HasUpdated ws vs u x
 made ws vs u r x m e =
     record {
       answer = e ∙ ap updated (m .answer);
@@ -49,11 +49,11 @@ made ws vs u r x m e =
 
 -- ---- writing out
 
-module _ (ws b c : List ℕ) (n : ℕ) (f : Fills (seen 4 ws) b n c) where
+module _ (ws b c : List ℕ) (n : ℕ) (f : HasFilled (seen 4 ws) b n c) where
   front : c ≡ frontOn (seen 4 ws) (length b) ++ drop (length (frontOn (seen 4 ws) (length b))) b
   front = f .list ∙ ap (λ (k : ℕ). frontOn (seen 4 ws) (length b) ++ drop k b) (f .count)
 
-  pub written-some : n ≢ 0 → Writes ws b c (record { refusal = 0; bytes = n })
+  pub written-some : n ≢ 0 → HasWritten ws b c (record { refusal = 0; bytes = n })
   written-some h = record { answer = go (countOn (seen 4 ws) (length b)) refl; front = front }
     where
       go : (a : Answer ℕ) → countOn (seen 4 ws) (length b) ≡ a
@@ -62,7 +62,7 @@ module _ (ws b c : List ℕ) (n : ℕ) (f : Fills (seen 4 ws) b n c) where
       go (refuses m) e = absurd (h (f .count ∙ ap length (front-none (seen 4 ws) (length b) m e)))
 
   pub written-told : (r : Counted) (k : ℕ) (x : Written) → k ≡ length b → countAnswer r ≡ countOn (seen 4 ws) k
-      → x ≡ wrote (countAnswer r) → Writes ws b c x
+      → x ≡ wrote (countAnswer r) → HasWritten ws b c x
   written-told r k x e t w = record { answer = w ∙ ap wrote (t ∙ ap (countOn (seen 4 ws)) e); front = front }
 
 -- ---- the run
@@ -72,7 +72,7 @@ told-refused (Stopped x) n e = absurd (given-refused e)
 told-refused (Unfit m) n e = ap Unfit (refused-one e)
 
 pub ran-so : (ws feed b vs c : List ℕ) (r : Outcome) (x : Fields) → Run ws feed b vs c r → x ≡ ran (runAnswer r)
-    → Runs ws feed b vs c x
+    → HasRun ws feed b vs c x
 ran-so ws feed b vs c r x p e =
     record {
       answer = e ∙ ap ran (p .answer);
@@ -92,6 +92,6 @@ build-kept (listed rs) ws vs n p e =
     (λ h d. absurd (given-refused (rw d at e)))
 
 pub built-so : (bytes ws vs : List ℕ) (r : Built) (x : Numbers) → buildAnswer r ≡ buildOn (listedIn bytes) (length ws)
-    → LeavesOn (listedIn bytes) ws vs → x ≡ built (buildAnswer r) → Builds bytes ws vs x
+    → LeavesOn (listedIn bytes) ws vs → x ≡ built (buildAnswer r) → HasBuilt bytes ws vs x
 built-so bytes ws vs r x a p e =
     record { answer = e ∙ ap built a; left = p; kept = λ n q. build-kept (listedIn bytes) ws vs n p q }

@@ -18,7 +18,7 @@ abbrev pub built : Answer Counts → Built
 built (gives c) = record { refusal = 0; routes = c .routes; markers = c .markers }
 built (refuses n) = record { refusal = n; routes = 0; markers = 0 }
 
-pub record Builds (bytes ws vs : List ℕ) (r : Built) : Type 0 where
+pub record HasBuilt (bytes ws vs : List ℕ) (r : Built) : Type 0 where
   pub answer : r ≡ built (buildOn (listedIn bytes) (length ws))
   pub left : LeavesOn (listedIn bytes) ws vs
   pub kept : (n : ℕ) → buildOn (listedIn bytes) (length ws) ≡ refuses n → vs ≡ ws

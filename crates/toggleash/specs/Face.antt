@@ -58,12 +58,12 @@ ran (refuses n) = record { refusal = n; stop = 0; consumed = 0; written = 0; acc
 
 -- ---- what the calls that write promise of the lent memory
 
-pub record Clears (ws vs : List ℕ) (r : ℕ) : Type 0 where
+pub record HasCleared (ws vs : List ℕ) (r : ℕ) : Type 0 where
   pub answer : r ≡ refusal (clearOn (length ws))
   pub left : seen 4 vs ≡ clearedOn (length ws)
   pub kept : (n : ℕ) → clearOn (length ws) ≡ refuses n → vs ≡ ws
 
-pub record Updates (ws vs : List ℕ) (u : Update) (r : Updated) : Type 0 where
+pub record HasUpdated (ws vs : List ℕ) (u : Update) (r : Updated) : Type 0 where
   pub answer : r ≡ updated (answerOn 32 (seen 4 ws) u)
   pub list : seen 4 vs ≡ afterOn 32 (seen 4 ws) u
   pub kept : (n : ℕ) → answerOn 32 (seen 4 ws) u ≡ refused n → vs ≡ ws
@@ -72,11 +72,11 @@ pub record Updates (ws vs : List ℕ) (u : Update) (r : Updated) : Type 0 where
   -- an array that the route's path does not touch has the same words
   pub frame : (c : ℕ) → 1 ≤ c → ¬ Touches 4 u ws vs c → Alike ws vs c
 
-pub record Writes (ws b c : List ℕ) (r : Written) : Type 0 where
+pub record HasWritten (ws b c : List ℕ) (r : Written) : Type 0 where
   pub answer : r ≡ wrote (countOn (seen 4 ws) (length b))
   pub front : c ≡ frontOn (seen 4 ws) (length b) ++ drop (length (frontOn (seen 4 ws) (length b))) b
 
-pub record Runs (ws feed b vs c : List ℕ) (r : Fields) : Type 0 where
+pub record HasRun (ws feed b vs c : List ℕ) (r : Fields) : Type 0 where
   pub answer : r ≡ ran (reported (runOn (seen 4 ws) feed b))
   pub list : seen 4 vs ≡ ranOn (seen 4 ws) feed b
   pub replies : c ≡ repliedOn (seen 4 ws) feed b

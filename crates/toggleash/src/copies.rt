@@ -12,7 +12,7 @@ ghost use Rattle.replies.specs.Said.{saidMatch};
 ghost use Rattle.lengths.specs.Layout.{walk};
 ghost use Rattle.lengths.specs.Laid.{Laid};
 ghost use Rattle.toggleash.specs.Face.{looked};
-ghost use Rattle.toggleash.specs.Copies.{needed, built, Builds};
+ghost use Rattle.toggleash.specs.Copies.{needed, built, HasBuilt};
 
 #[repr(C)]
 pub struct Needed {
@@ -97,7 +97,7 @@ pub extern "C" fn toggleash_copy_need(bytes: &[u8]) -> Needed
 
 #[no_mangle]
 pub extern "C" fn toggleash_copy_build(bytes: &[u8], words: &mut [u32]) -> Built
-    ensures { λ r. ⌜ Builds (now (bytes .entry)) (now (words .entry)) (now (words .exit)) r ⌝ }
+    ensures { λ r. ⌜ HasBuilt (now (bytes .entry)) (now (words .entry)) (now (words .exit)) r ⌝ }
 {
     counts(lengths_build::build(bytes, words))
 }

@@ -11,10 +11,10 @@ ghost use Rattle.words.specs.Table.{seen};
 ghost use Rattle.lookup.specs.Walk.{walk};
 ghost use Rattle.writing.specs.Answer.{countAnswer};
 ghost use Rattle.feed.specs.Runs.{runAnswer};
-ghost use Rattle.audit.specs.Told.{toldClear, toldCheck};
+ghost use Rattle.audit.specs.Answer.{clearAnswer, checkAnswer};
 ghost use Rattle.replies.specs.Said.{saidReply};
 ghost use Rattle.toggleash.specs.Face.{refusal as refusalOf, counted, looked, updated, wrote, ran};
-ghost use Rattle.toggleash.specs.Face.{Clears, Updates, Writes, Runs};
+ghost use Rattle.toggleash.specs.Face.{HasCleared, HasUpdated, HasWritten, HasRun};
 
 #[repr(C)]
 pub struct Counted {
@@ -57,7 +57,7 @@ pub struct Ran {
 // ---- answers in plain numbers
 
 fn number(answer: audit::Cleared) -> u32
-    ensures { λ r. ⌜ r ≡ refusalOf (toldClear answer) ⌝ }
+    ensures { λ r. ⌜ r ≡ refusalOf (clearAnswer answer) ⌝ }
 {
     match answer {
         audit::Cleared::Done => 0,
@@ -66,7 +66,7 @@ fn number(answer: audit::Cleared) -> u32
 }
 
 fn counts(answer: audit::Checked) -> Counted
-    ensures { λ r. ⌜ r ≡ counted (toldCheck answer) ⌝ }
+    ensures { λ r. ⌜ r ≡ counted (checkAnswer answer) ⌝ }
 {
     match answer {
         audit::Checked::Counts(routes, arrays) => Counted {
@@ -193,7 +193,7 @@ pub extern "C" fn toggleash_version_1() -> u32
 
 #[no_mangle]
 pub extern "C" fn toggleash_clear(words: &mut [u32]) -> u32
-    ensures { λ r. ⌜ Clears (now (words .entry)) (now (words .exit)) r ⌝ }
+    ensures { λ r. ⌜ HasCleared (now (words .entry)) (now (words .exit)) r ⌝ }
 {
     number(audit::clear(words))
 }
@@ -219,21 +219,21 @@ pub extern "C" fn toggleash_announce(
     length: u32,
     hop: u32,
 ) -> Updated
-    ensures { λ r. ⌜ Updates (now (words .entry)) (now (words .exit)) (announced address length hop) r ⌝ }
+    ensures { λ r. ⌜ HasUpdated (now (words .entry)) (now (words .exit)) (announced address length hop) r ⌝ }
 {
     change(update::announce(words, address, length, hop))
 }
 
 #[no_mangle]
 pub extern "C" fn toggleash_withdraw(words: &mut [u32], address: u32, length: u32) -> Updated
-    ensures { λ r. ⌜ Updates (now (words .entry)) (now (words .exit)) (withdrawn address length) r ⌝ }
+    ensures { λ r. ⌜ HasUpdated (now (words .entry)) (now (words .exit)) (withdrawn address length) r ⌝ }
 {
     change(update::withdraw(words, address, length))
 }
 
 #[no_mangle]
 pub extern "C" fn toggleash_write_out(words: &[u32], buffer: &mut [u8]) -> Written
-    ensures { λ r. ⌜ Writes (now (words .entry)) (now (buffer .entry)) (now (buffer .exit)) r ⌝ }
+    ensures { λ r. ⌜ HasWritten (now (words .entry)) (now (buffer .entry)) (now (buffer .exit)) r ⌝ }
 {
     // One check suffices where there is something to write: nothing is written exactly where the count refuses.
     let n = writing::fill(words, buffer);
@@ -249,7 +249,7 @@ pub extern "C" fn toggleash_write_out(words: &[u32], buffer: &mut [u8]) -> Writt
 #[no_mangle]
 pub extern "C" fn toggleash_run(words: &mut [u32], feed: &[u8], reply: &mut [u8]) -> Ran
     ensures { λ r.
-        ⌜ Runs (now (words .entry)) (now (feed .entry)) (now (reply .entry)) (now (words .exit)) (now (reply .exit)) r ⌝ }
+        ⌜ HasRun (now (words .entry)) (now (feed .entry)) (now (reply .entry)) (now (words .exit)) (now (reply .exit)) r ⌝ }
 {
     report(feed::run(words, feed, reply))
 }

@@ -9,8 +9,8 @@ use Rattle.logic.specs.Cases.{same}
 use Rattle.sizes.specs.Sizes.{cellCount}
 use Rattle.array.specs.Tag.{tagOf}
 use Rattle.tree.specs.Arrays.{Arrays, par, cell, lev}
-use Rattle.tree.specs.Shape.{Child, Hung}
-use Rattle.logic.specs.Tells.{Tells, tells-eq, tells-le, tells-lt, tells-and, tells-or, tells-as, tells-all}
+use Rattle.tree.specs.Shape.{Child, ParentLinks}
+use Rattle.logic.specs.Reflects.{Reflects, reflects-eq, reflects-le, reflects-lt, reflects-and, reflects-or, reflects-as, reflects-all}
 use Rattle.logic.specs.Every.{allB}
 
 abbrev childB : ℕ → ℕ → Arrays → ℕ → ℕ → ℕ → Bool
@@ -19,8 +19,8 @@ childB A L t a i b = (leb b A && (leb 1 (lev t a) && ltb (lev t a) L)) && eqb (t
 unfoldable pub linkB : ℕ → ℕ → Arrays → ℕ → ℕ → Bool
 linkB A L t a i = eqb (t .link a i) 0 || childB A L t a i (t .link a i)
 
-unfoldable pub hungB : ℕ → Arrays → ℕ → Bool
-hungB A t a = eqb (t .tag a) 0 || ((leb 1 (par t a) && leb (par t a) A) && eqb (t .link (par t a) (cell t a)) a)
+unfoldable pub parentLinksB : ℕ → Arrays → ℕ → Bool
+parentLinksB A t a = eqb (t .tag a) 0 || ((leb 1 (par t a) && leb (par t a) A) && eqb (t .link (par t a) (cell t a)) a)
 
 unfoldable pub linksB : ℕ → ℕ → Arrays → ℕ → Bool
 linksB A L t a = allB (linkB A L t a) cellCount
@@ -32,10 +32,10 @@ ChildP A L t a i b = ((b ≤ A) × ((1 ≤ lev t a) × (lev t a < L))) × (t .ta
 abbrev HungP : ℕ → Arrays → ℕ → Type 0
 HungP A t a = ((1 ≤ par t a) × (par t a ≤ A)) × (t .link (par t a) (cell t a) ≡ a)
 
-link-tells : (A L : ℕ) (t : Arrays) (a i : ℕ) → Tells (linkB A L t a i) ((t .link a i ≡ 0) ⊎ Child A L t a i (t .link a i))
+link-reflects : (A L : ℕ) (t : Arrays) (a i : ℕ) → Reflects (linkB A L t a i) ((t .link a i ≡ 0) ⊎ Child A L t a i (t .link a i))
 unfolding linkB
-link-tells A L t a i =
-    tells-as
+link-reflects A L t a i =
+    reflects-as
     (λ z. same b 0 (λ q _. inl q) (λ n _. ⊎-elim (λ (x : b ≡ 0). inl x)
     (λ (x : ChildP A L t a i b). inr (record {
       some = omega arith;
@@ -45,25 +45,25 @@ link-tells A L t a i =
       named = x .1;
     })) z))
     (λ z. ⊎-elim (λ (x : b ≡ 0). inl x) (λ (x : Child A L t a i b). inr ((x .within, (x .used, x .deep)), x .named)) z)
-    (tells-or (tells-eq b 0)
-    (tells-and (tells-and (tells-le b A) (tells-and (tells-le 1 (lev t a)) (tells-lt (lev t a) L)))
-    (tells-eq (t .tag b) (tagOf a i (lev t a + 1)))))
+    (reflects-or (reflects-eq b 0)
+    (reflects-and (reflects-and (reflects-le b A) (reflects-and (reflects-le 1 (lev t a)) (reflects-lt (lev t a) L)))
+    (reflects-eq (t .tag b) (tagOf a i (lev t a + 1)))))
   where
     b : ℕ
     b = t .link a i
 
-pub hung-tells : (A : ℕ) (t : Arrays) (a : ℕ) → Tells (hungB A t a) ((t .tag a ≡ 0) ⊎ Hung A t a)
-unfolding hungB
-hung-tells A t a =
-    tells-as
+pub parent-links-reflects : (A : ℕ) (t : Arrays) (a : ℕ) → Reflects (parentLinksB A t a) ((t .tag a ≡ 0) ⊎ ParentLinks A t a)
+unfolding parentLinksB
+parent-links-reflects A t a =
+    reflects-as
     (λ z. ⊎-elim (λ (x : t .tag a ≡ 0). inl x)
     (λ (x : HungP A t a). inr (record { some = x .0 .0; within = x .0 .1; back = x .1 })) z)
-    (λ z. ⊎-elim (λ (x : t .tag a ≡ 0). inl x) (λ (x : Hung A t a). inr ((x .some, x .within), x .back)) z)
-    (tells-or (tells-eq (t .tag a) 0) (tells-and (tells-and (tells-le 1 (par t a)) (tells-le (par t a) A))
-    (tells-eq (t .link (par t a) (cell t a)) a)))
+    (λ z. ⊎-elim (λ (x : t .tag a ≡ 0). inl x) (λ (x : ParentLinks A t a). inr ((x .some, x .within), x .back)) z)
+    (reflects-or (reflects-eq (t .tag a) 0) (reflects-and (reflects-and (reflects-le 1 (par t a)) (reflects-le (par t a) A))
+    (reflects-eq (t .link (par t a) (cell t a)) a)))
 
-pub links-tells : (A L : ℕ) (t : Arrays) (a : ℕ)
-    → Tells (linksB A L t a) ((i : ℕ) → i < cellCount → (t .link a i ≡ 0) ⊎ Child A L t a i (t .link a i))
+pub links-reflects : (A L : ℕ) (t : Arrays) (a : ℕ)
+    → Reflects (linksB A L t a) ((i : ℕ) → i < cellCount → (t .link a i ≡ 0) ⊎ Child A L t a i (t .link a i))
 unfolding linksB
-links-tells A L t a =
-    tells-all (linkB A L t a) (λ i. (t .link a i ≡ 0) ⊎ Child A L t a i (t .link a i)) cellCount (λ i h. link-tells A L t a i)
+links-reflects A L t a =
+    reflects-all (linkB A L t a) (λ i. (t .link a i ≡ 0) ⊎ Child A L t a i (t .link a i)) cellCount (λ i h. link-reflects A L t a i)

@@ -4,7 +4,7 @@ pub mod Shape
 pub mod Tree
 pub mod Need
 pub mod Missing
-pub mod Hang
-pub mod Slot
+pub mod HungBelow
+pub mod SlotSet
 pub mod Taken
 pub mod Check

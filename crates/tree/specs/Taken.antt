@@ -21,7 +21,7 @@ use Rattle.tree.specs.Arrays.{Arrays, lev, held}
 use Rattle.tree.specs.Shape.{Shape}
 use Rattle.tree.specs.Tree.{used-level, reach, path}
 use Rattle.tree.specs.Need.{Binary, binary, depth-high}
-use Rattle.tree.specs.Slot.{Slotted, Place, same-shape, held-cases, held-place, slotted-remove}
+use Rattle.tree.specs.SlotSet.{TreeSlotSet, Place, same-shape, held-cases, held-place, slot-set-remove}
 
 -- how many slots of array a are taken, if it is used, and how many of the arrays 1 .. n
 abbrev pub takenIn : Arrays → ℕ → ℕ
@@ -138,7 +138,7 @@ module _ (t : Arrays) (a s : ℕ) where
       ) (omega arith))
       (λ e q. rw (q, total-freed n h (omega arith) p l b z) (omega arith))
 
-  slotted : Slotted t u a s 0
+  slotted : TreeSlotSet t u a s 0
   slotted = record {
     tags = λ c h. refl;
     links = λ c i h w. refl;
@@ -198,8 +198,8 @@ module _ (A L : ℕ) where
       let lv = used-level A L t sh a (o .low) (o .high) (omega (arith, o .used)) in
       let w : 8 * L < 256 = omega (arith, sh .levels) in
       let f : 8 * k + d ≤ 8 * L = omega (arith, p .deep) in
-      let g : Slotted t u a (2 ^ d + x) 0 = rw (← (b .whole)) (slotted t a s) in
-      let less = slotted-remove A L t u a q k d x 0 sh p g (8 * L) w f refl in
+      let g : TreeSlotSet t u a (2 ^ d + x) 0 = rw (← (b .whole)) (slotted t a s) in
+      let less = slot-set-remove A L t u a q k d x 0 sh p g (8 * L) w f refl in
       let fits : q * 2 ^ d + x < 2 ^ (8 * k + d) =
       omega (arith, pow-add 2 (8 * k) d, mul-le-mul-right (2 ^ d) (p .head), p .small) in
       let y = routes-hop (8 * L) w (held t) (q * 2 ^ d + x) (8 * k + d) f fits ∙ held-place A L t a q k d x p in

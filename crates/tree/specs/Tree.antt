@@ -8,7 +8,7 @@ use Rattle.logic.specs.Cases.{same}
 use Rattle.sizes.specs.Sizes.{cellCount, levelBound}
 use Rattle.array.specs.Tag.{tagOf}
 use Rattle.tree.specs.Arrays.{Arrays, par, cell, lev, down, at, node}
-use Rattle.tree.specs.Shape.{Child, Hung, Shape}
+use Rattle.tree.specs.Shape.{Child, ParentLinks, Shape}
 
 -- eight bits more
 pub pow8 : (k : ℕ) → 2 ^ (8 * suc k) ≡ 256 * 2 ^ (8 * k)
@@ -43,13 +43,13 @@ module _ (A L : ℕ) (t : Arrays) (s : Shape A L t) where
   child a i h w j p =
       ⊎-elim (λ (z : t .link a i ≡ 0). absurd (omega arith)) (λ (c : Child A L t a i (t .link a i)). c) (s .links a i h w j)
 
-  pub hung : (a : ℕ) → 2 ≤ a → a ≤ A → 1 ≤ t .tag a → Hung A t a
-  hung a h w p = ⊎-elim (λ (z : t .tag a ≡ 0). absurd (omega arith)) (λ (c : Hung A t a). c) (s .tags a h w)
+  pub parent-links : (a : ℕ) → 2 ≤ a → a ≤ A → 1 ≤ t .tag a → ParentLinks A t a
+  parent-links a h w p = ⊎-elim (λ (z : t .tag a ≡ 0). absurd (omega arith)) (λ (c : ParentLinks A t a). c) (s .tags a h w)
 
   -- a used array that is not the root is its parent's child
-  pub hangs : (a : ℕ) → 2 ≤ a → a ≤ A → 1 ≤ t .tag a → Child A L t (par t a) (cell t a) a
-  hangs a h w p =
-      let g = hung a h w p in
+  pub is-child : (a : ℕ) → 2 ≤ a → a ≤ A → 1 ≤ t .tag a → Child A L t (par t a) (cell t a) a
+  is-child a h w p =
+      let g = parent-links a h w p in
       rw (g .back) at (child (par t a) (cell t a) (g .some) (g .within) (omega arith) (omega (arith, g .back)))
 
   pub node-level : (v k : ℕ) → 1 ≤ node t v k → Level A t (node t v k) k
@@ -114,13 +114,13 @@ module _ (A L : ℕ) (t : Arrays) (s : Shape A L t) where
   is-root : (a : ℕ) → 1 ≤ a → a ≤ A → lev t a ≡ 1 → a ≡ 1
   is-root a h w e =
       same a 1 (λ q _. q) (λ n _.
-      let c = hangs A L t s a (omega arith) w (omega arith) in
+      let c = is-child A L t s a (omega arith) w (omega arith) in
       absurd (omega (arith, c .named, c .used, c .deep, s .levels)))
 
   pub used-level : (a : ℕ) → 1 ≤ a → a ≤ A → 1 ≤ t .tag a → (1 ≤ lev t a) × (lev t a ≤ L)
   used-level a h w p =
       same a 1 (λ q _. rw q (omega (arith, s .root, s .some-level))) (λ n _.
-      let c = hangs A L t s a (omega arith) w p in
+      let c = is-child A L t s a (omega arith) w p in
       (omega (arith, c .named, c .used, c .deep, s .levels), omega (arith, c .named, c .used, c .deep, s .levels)))
 
   pub reach : (n a : ℕ) → 1 ≤ a → a ≤ A → lev t a ≡ suc n → Reached t n a
@@ -128,8 +128,8 @@ module _ (A L : ℕ) (t : Arrays) (s : Shape A L t) where
   reach zero a h w e = record { leads = sym (is-root a h w e); small = omega arith }
   reach (suc n) a h w e =
       let g : 2 ≤ a = same a 1 (λ q _. absurd (omega (arith, s .root, ap (lev t) q))) (λ m _. omega arith) in
-      let u = hung A L t s a g w (omega arith) in
-      let c = hangs A L t s a g w (omega arith) in
+      let u = parent-links A L t s a g w (omega arith) in
+      let c = is-child A L t s a g w (omega arith) in
       let r = reach n (par t a) (u .some) (u .within) (omega (arith, c .named, c .used, c .deep, s .levels)) in
       let x : (path t n (par t a) * 256 + cell t a) / 256 ≡ path t n (par t a) = omega arith in
       let y : (path t n (par t a) * 256 + cell t a) % 256 ≡ cell t a = omega arith in

@@ -23,11 +23,11 @@ use Rattle.routes.specs.Collect.{routes, routeOf}
 use Rattle.tree.specs.Arrays.{Arrays, node, held}
 use Rattle.tree.specs.Shape.{HasSlot, HasLink}
 use Rattle.words.specs.Words.{arraysOf, arrayCount}
-use Rattle.words.specs.Almost.{Almost, Table}
+use Rattle.words.specs.TableBut.{TableBut, Table}
 use Rattle.words.specs.Table.{listOf}
 use Rattle.tree.specs.Tree.{Level, node-level}
-use Rattle.tree.specs.Slot.{Place, Slotted, slotted-insert}
-use Rattle.words.specs.Reslot.{reslot-slotted, reslot-almost, almost-whole}
+use Rattle.tree.specs.SlotSet.{Place, TreeSlotSet, slot-set-insert}
+use Rattle.words.specs.SlotSet.{slot-set-tree, slot-set-table-but, but-is-table}
 use Rattle.words.specs.Stock.{table-need}
 use Rattle.tree.specs.Free.{used-full}
 use Rattle.tree.specs.Missing.{need-more}
@@ -37,14 +37,14 @@ use Rattle.paths.specs.Grown.{Grown}
 use Rattle.paths.specs.Stop.{Opened, stops-missing}
 use Rattle.paths.specs.Held.{Sought, sought-wide, sought-head, sought-small, sought-at, sought-route, sought-held}
 use Rattle.replies.specs.declared.Reply.the-variants.{Done, Refused}
-use Rattle.update.specs.Update.{Applies}
+use Rattle.update.specs.Update.{HasApplied}
 use Rattle.update.specs.Seat.{Seat, Seated, seat-at}
 use Rattle.update.specs.Cells.{cells-place}
 use Rattle.update.specs.Spared.{spared-hung}
 
 -- a refusal leaves the words
 pub refuses : (L : ℕ) (ws : List ℕ) (u : Update) (n : ℕ) → Table L ws
-    → refused n ≡ verdict (8 * L) (arrayCount ws) (listOf L ws) u → Applies L ws ws u (Refused n)
+    → refused n ≡ verdict (8 * L) (arrayCount ws) (listOf L ws) u → HasApplied L ws ws u (Refused n)
 refuses L ws u n ok e = record {
   answer = e;
   table = ok;
@@ -68,7 +68,7 @@ module _ {L : ℕ} {ws : List ℕ} {a l k d x j b g : ℕ} (s : Sought L ws a l 
   wide = sought-wide s
 
   -- this hop is held already: the list with the route is the list
-  pub announce-same : g ≡ h → 1 ≤ h → Applies L ws ws (announce a l h) (Done h 0)
+  pub announce-same : g ≡ h → 1 ≤ h → HasApplied L ws ws (announce a l h) (Done h 0)
   announce-same e hop =
       let q : list.held (listOf L ws) a l ≡ h = sym (sought-held s) ∙ e in
       record {
@@ -102,7 +102,7 @@ module _ {L : ℕ} {ws : List ℕ} {a l k d x j b g : ℕ} (s : Sought L ws a l 
 
     module _ (vs : List ℕ) (r : ℕ) (o : Opened L ws vs a j k r) where
       -- 8: there is no room. The path lacks an array then, so the prefix is not held
-      pub announce-full : r ≡ 0 → Applies L ws vs (announce a l h) (Refused 8)
+      pub announce-full : r ≡ 0 → HasApplied L ws vs (announce a l h) (Refused 8)
       announce-full z =
           let w = o .none z in
           let used = used-full (arraysOf ws) 0 (arrayCount ws) in
@@ -154,27 +154,27 @@ module _ {L : ℕ} {ws : List ℕ} {a l k d x j b g : ℕ} (s : Sought L ws a l 
                 some = rw (p .slot .here) hop;
               })
 
-          almost : Almost L r us
+          almost : TableBut L r us
           almost =
-              reslot-almost L r vs us r (2 ^ d + x) h (grown .some) (p .slot) (grown .ok) (inr refl) (omega (arith, lv .level))
+              slot-set-table-but L r vs us r (2 ^ d + x) h (grown .some) (p .slot) (grown .ok) (inr refl) (omega (arith, lv .level))
 
-          slotted : Slotted (arraysOf vs) (arraysOf us) r (2 ^ d + x) h
-          slotted = reslot-slotted L r vs us r (2 ^ d + x) h (grown .some) (p .slot)
+          slotted : TreeSlotSet (arraysOf vs) (arraysOf us) r (2 ^ d + x) h
+          slotted = slot-set-tree L r vs us r (2 ^ d + x) h (grown .some) (p .slot)
 
           with-route : listOf L us ≡ insert (route a l h) (listOf L ws)
           with-route =
-              slotted-insert (arrayCount vs) L (arraysOf vs) (arraysOf us) r (front L a k) k d x h (grown .ok .shape) place
+              slot-set-insert (arrayCount vs) L (arraysOf vs) (arraysOf us) r (front L a k) k d x h (grown .ok .shape) place
               slotted (8 * L) wide (omega (arith, s .stands .top, s .stands .deep)) hop
               ∙ ap₂ insert same-route same-before
 
-          pub announce-done : Applies L ws us (announce a l h) (Done h c)
+          pub announce-done : HasApplied L ws us (announce a l h) (Done h c)
           announce-done = record {
             answer =
                 rw (roomy, ne-eqb h (list.held (listOf L ws) a l) (λ z. other (sought-held s ∙ sym z)))
                 (ap (done h) (p .count
                 ∙ cells-place (arrayCount vs) L (arraysOf vs) r (front L a k) k d x h wide (s .stands .top) place
                 ∙ ap₂ (cells (8 * L)) same-route same-before));
-            table = almost-whole L r us almost filled;
+            table = but-is-table L r us almost filled;
             size = p .slot .size ∙ grown .size;
             list = with-route;
             kept = λ e. absurd (false≢true e);

@@ -22,7 +22,7 @@ use Rattle.laws.specs.Hidden.{cellKey, heldPast, hidden-held}
 use Rattle.array.specs.Put.{anyUp, exposed}
 use Rattle.tree.specs.Arrays.{Arrays, node, held}
 use Rattle.tree.specs.Need.{at-some, held-at}
-use Rattle.tree.specs.Slot.{Place}
+use Rattle.tree.specs.SlotSet.{Place}
 
 module _ (L : ℕ) (t : Arrays) (b q k : ℕ) (wide : 8 * L < 256) (top : k < L) (leads : node t q k ≡ b) (array : 1 ≤ b)
     (head : q < 2 ^ (8 * k)) where

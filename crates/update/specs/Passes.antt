@@ -8,10 +8,10 @@ use Rattle.routes.specs.Route.{Route}
 use Rattle.routes.specs.Answers.{Update}
 use Rattle.routes.specs.Seen.{table}
 use Rattle.words.specs.Table.{seen}
-use Rattle.words.specs.Decides.{table-tells}
+use Rattle.words.specs.CheckReflects.{table-reflects}
 use Rattle.words.specs.View.{seen-table, table-of, table-fits, fits-no-misfit}
 use Rattle.replies.specs.declared.Reply.{Reply}
-use Rattle.update.specs.Update.{refusalOf, Updates}
+use Rattle.update.specs.Update.{refusalOf, HasUpdated}
 use Rattle.update.specs.Refuse.{refusal-none, passed}
 
 -- the test finds no number
@@ -22,9 +22,9 @@ pub seen-passes : (ws : List ℕ) (A : ℕ) (rs : List Route) → seen 4 ws ≡ 
 seen-passes ws A rs e =
     let t = table-of 4 ws (omega arith) (omega arith) A rs e .table in
     let f = table-fits 4 ws t in
-    sym (refusal-none ws 0 (fits-no-misfit _ f) refl (table-tells 4 ws (omega arith) (omega arith) f .from t))
+    sym (refusal-none ws 0 (fits-no-misfit _ f) refl (table-reflects 4 ws (omega arith) (omega arith) f .from t))
 
-pub update-passes : (ws vs : List ℕ) (u : Update) (r : Reply) → Updates 4 ws vs u r → Passes ws → Passes vs
+pub update-passes : (ws vs : List ℕ) (u : Update) (r : Reply) → HasUpdated 4 ws vs u r → Passes ws → Passes vs
 update-passes ws vs u r p e =
     let t = seen-table 4 ws (passed ws 0 e .0) in
     seen-passes vs _ _ (rw t at (p .list))

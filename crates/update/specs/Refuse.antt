@@ -16,13 +16,13 @@ use Rattle.routes.specs.Answers.{Update, announce, withdraw, Reply, refused, is
 use Rattle.routes.specs.Seen.{Seen, misfit, foreign, table, misfits, answerOn, afterOn}
 use Rattle.words.specs.Words.{arrayCount}
 use Rattle.words.specs.Table.{tableB, listOf, seen}
-use Rattle.words.specs.Almost.{Table}
+use Rattle.words.specs.TableBut.{Table}
 use Rattle.words.specs.View.{fits-no-misfit, no-misfit-fits, table-fits, seen-misfit, seen-foreign, seen-table, seen-cases}
-use Rattle.words.specs.Decides.{table-tells}
+use Rattle.words.specs.CheckReflects.{table-reflects}
 use Rattle.address.specs.Address.{IsPrefix}
 use Rattle.replies.specs.declared.Reply as code
 use Rattle.replies.specs.declared.Reply.the-variants.{Refused}
-use Rattle.update.specs.Update.{faultOf, refusalOf, Updates, Applies}
+use Rattle.update.specs.Update.{faultOf, refusalOf, HasUpdated, HasApplied}
 
 -- what is not accepted leaves what the words are seen to be
 pub unaccepted : (W : ℕ) (s : Seen) (u : Update) → isDone (answerOn W s u) ≡ false → afterOn W s u ≡ s
@@ -31,13 +31,13 @@ unaccepted W foreign u e = refl
 unaccepted W (table A rs) u e = rw e
 
 -- a refusal that leaves the words
-refuses : (L : ℕ) (ws : List ℕ) (u : Update) (n : ℕ) → answerOn (8 * L) (seen L ws) u ≡ refused n → Updates L ws ws u (Refused n)
+refuses : (L : ℕ) (ws : List ℕ) (u : Update) (n : ℕ) → answerOn (8 * L) (seen L ws) u ≡ refused n → HasUpdated L ws ws u (Refused n)
 refuses L ws u n e =
     let l = sym (unaccepted (8 * L) (seen L ws) u (ap isDone e)) in
     record { answer = sym e; list = l; kept = λ _. refl; still = λ _. refl; frame = λ c h n w b. refl }
 
 -- 1
-refuses-size : (L : ℕ) (ws : List ℕ) (u : Update) → misfits (length ws) ≡ true → Updates L ws ws u (Refused 1)
+refuses-size : (L : ℕ) (ws : List ℕ) (u : Update) → misfits (length ws) ≡ true → HasUpdated L ws ws u (Refused 1)
 refuses-size L ws u e = refuses L ws u 1 (rw (seen-misfit L ws e))
 
 -- 3, 4, 5
@@ -61,7 +61,7 @@ fault-hop W a l h n e q =
 
 module _ (L : ℕ) (ws : List ℕ) (u : Update) where
   refuses-fault : 1 ≤ L → L < levelBound → (n : ℕ) → misfits (length ws) ≡ false → n ≡ faultOf (8 * L) u → n ≢ 0
-      → Updates L ws ws u (Refused n)
+      → HasUpdated L ws ws u (Refused n)
   unfolding answer
   refuses-fault some levels n e f z =
       let any : (r : Reply) → faulty (8 * L) u r ≡ refused n = λ r. faulty-by (8 * L) u r ∙ rw (← f, ne-eqb n 0 z) in
@@ -71,11 +71,11 @@ module _ (L : ℕ) (ws : List ℕ) (u : Update) where
       (λ _ _ s. rw s (any (refused 2)))
       (λ _ _ _ s. rw s (any (verdict (8 * L) (arrayCount ws) (listOf L ws) u))))
 
-  pub refuses-table : (n : ℕ) → Table L ws → n ≡ faultOf (8 * L) u → n ≢ 0 → Updates L ws ws u (Refused n)
+  pub refuses-table : (n : ℕ) → Table L ws → n ≡ faultOf (8 * L) u → n ≢ 0 → HasUpdated L ws ws u (Refused n)
   refuses-table n t = refuses-fault (t .shape .some-level) (t .shape .levels) n (fits-no-misfit (length ws) (table-fits L ws t))
 
   -- 2
-  refuses-foreign : misfits (length ws) ≡ false → faultOf (8 * L) u ≡ 0 → tableB L ws ≡ false → Updates L ws ws u (Refused 2)
+  refuses-foreign : misfits (length ws) ≡ false → faultOf (8 * L) u ≡ 0 → tableB L ws ≡ false → HasUpdated L ws ws u (Refused 2)
   refuses-foreign e f b = refuses L ws u 2 (rw (seen-foreign L ws e b) (faulty-by (8 * L) u (refused 2) ∙ rw f))
 
 -- ---- the first of them
@@ -94,7 +94,7 @@ module _ (ws : List ℕ) (f : ℕ) where
     pub refusal-none : f ≡ 0 → tableB 4 ws ≡ true → 0 ≡ refusalOf ws f
     refusal-none z b = rw (m, eq-eqb f 0 z, b)
 
-pub refused-by : (ws : List ℕ) (u : Update) (n : ℕ) → n ≡ refusalOf ws (faultOf 32 u) → n ≢ 0 → Updates 4 ws ws u (Refused n)
+pub refused-by : (ws : List ℕ) (u : Update) (n : ℕ) → n ≡ refusalOf ws (faultOf 32 u) → n ≢ 0 → HasUpdated 4 ws ws u (Refused n)
 refused-by ws u n e z =
     bool (misfits (length ws))
     (λ m. rw (e ∙ sym (refusal-size ws (faultOf 32 u) m)) (refuses-size 4 ws u m))
@@ -107,7 +107,7 @@ refused-by ws u n e z =
 -- ---- the work
 
 is-table : (ws : List ℕ) → misfits (length ws) ≡ false → tableB 4 ws ≡ true → Table 4 ws
-is-table ws e b = table-tells 4 ws (omega arith) (omega arith) (no-misfit-fits (length ws) e) .to b
+is-table ws e b = table-reflects 4 ws (omega arith) (omega arith) (no-misfit-fits (length ws) e) .to b
 
 -- no number before the work, and what that says
 pub passed : (ws : List ℕ) (f : ℕ) → refusalOf ws f ≡ 0 → Table 4 ws × (f ≡ 0)
@@ -138,8 +138,8 @@ sound-route L a l h e =
     (λ g. (record { fits = w; clean = q }, hop-low h g, hop-high h g)))
     (λ _ f. absurd (omega (arith, rw (t, f) at e))))
 
-pub applied : (L : ℕ) (ws vs : List ℕ) (u : Update) (r : code.Reply) → Table L ws → faultOf (8 * L) u ≡ 0 → Applies L ws vs u r
-    → Updates L ws vs u r
+pub applied : (L : ℕ) (ws vs : List ℕ) (u : Update) (r : code.Reply) → Table L ws → faultOf (8 * L) u ≡ 0 → HasApplied L ws vs u r
+    → HasUpdated L ws vs u r
 unfolding answer
 applied L ws vs u r t f p = record {
   answer = rw (seen-table L ws t) (p .answer ∙ sym none);

@@ -13,14 +13,14 @@ use Rattle.array.specs.Tag.{levelIn}
 use Rattle.array.specs.Cell.{bestIn, linkIn}
 use Rattle.array.specs.Block.{slots, bests, links}
 use Rattle.array.specs.Right.{Right, right-ext}
-use Rattle.array.specs.Put.{anyUp, exposed, Spot, Reslotted}
+use Rattle.array.specs.Put.{anyUp, exposed, SlotAt, BlockSlotSet}
 use Rattle.array.specs.Frame.{blockOf, withBlock, block-word, block-length, with-length, with-in, with-other}
 use Rattle.tree.specs.Arrays.{lev}
 use Rattle.words.specs.Words.{arraysOf, arrayCount, slotsOf, bestsOf}
-use Rattle.words.specs.Almost.{Almost}
+use Rattle.words.specs.TableBut.{TableBut}
 use Rattle.tree.specs.Tree.{node-level}
-use Rattle.tree.specs.Slot.{Place}
-use Rattle.words.specs.Reslot.{Reslot}
+use Rattle.tree.specs.SlotSet.{Place}
+use Rattle.words.specs.SlotSet.{SlotSet}
 use Rattle.words.specs.Lent.{lent-slot, lent-best, lent-link}
 
 -- array a, of level k, is right, and has a slot of length d and value x
@@ -33,7 +33,7 @@ pub record Seat (ws : List ℕ) (a k d x : ℕ) : Type 0 where
   pub right : Right (k + 1) (slotsOf ws a) (bestsOf ws a)
 
 -- of a table but for one array
-pub seat-at : (L e : ℕ) (ws : List ℕ) (a q k d x : ℕ) → Almost L e ws → Place (arrayCount ws) L (arraysOf ws) a q k d x
+pub seat-at : (L e : ℕ) (ws : List ℕ) (a q k d x : ℕ) → TableBut L e ws → Place (arrayCount ws) L (arraysOf ws) a q k d x
     → Seat ws a k d x
 seat-at L e ws a q k d x ok p =
     let lv = rw (p .leads) at (node-level (arrayCount ws) L (arraysOf ws) (ok .shape) q k (rw (p .leads) (p .array))) in
@@ -65,7 +65,7 @@ module _ (ws : List ℕ) (a k d x : ℕ) (s : Seat ws a k d x) where
   block-slot : (r : ℕ) → r < slotEnd → slots (blockOf ws a) r ≡ slotsOf ws a r
   block-slot = lent-slot ws a
 
-  pub seat-spot : Spot (blockOf ws a) d x
+  pub seat-spot : SlotAt (blockOf ws a) d x
   seat-spot = record {
     block = block-length ws a (s .inside);
     depth = s .deep;
@@ -86,7 +86,7 @@ module _ (ws : List ℕ) (a k d x : ℕ) (s : Seat ws a k d x) where
       exposed-ext (slots (blockOf ws a)) (slotsOf ws a) block-slot d (x * 2 ^ (8 - d)) (2 ^ (8 - d)) fits
 
   -- the block m has come back
-  module _ (m : List ℕ) (h : ℕ) (g : Reslotted (blockOf ws a) m (2 ^ d + x) h) where
+  module _ (m : List ℕ) (h : ℕ) (g : BlockSlotSet (blockOf ws a) m (2 ^ d + x) h) where
     abbrev vs : List ℕ
     vs = withBlock ws a m
 
@@ -118,7 +118,7 @@ module _ (ws : List ℕ) (a k d x : ℕ) (s : Seat ws a k d x) where
       first = λ z. g .same-slots 1 (omega arith) (omega arith) (not-first z) ∙ block-slot 1 (omega arith) ∙ s .right .first z;
     }
 
-    seat-reslot : Reslot ws (withBlock ws a m) a (2 ^ d + x) h
+    seat-reslot : SlotSet ws (withBlock ws a m) a (2 ^ d + x) h
     seat-reslot =
         let lv : lev (arraysOf vs) a ≡ k + 1 = ap levelIn tag ∙ s .level in
         record {
@@ -135,11 +135,11 @@ module _ (ws : List ℕ) (a k d x : ℕ) (s : Seat ws a k d x) where
 -- ---- a seat set to a hop, or to 0: vs is ws but for that slot and the array's best cells, and so many cells were rewritten
 
 pub record Seated (ws vs : List ℕ) (a d x hop cells : ℕ) : Type 0 where
-  pub slot : Reslot ws vs a (2 ^ d + x) hop
+  pub slot : SlotSet ws vs a (2 ^ d + x) hop
   pub count : cells ≡ exposed (slotsOf ws a) d (x * 2 ^ (8 - d)) (2 ^ (8 - d))
 
 -- with the words as the code has them
-pub seated : (ws vs m : List ℕ) (a k d x hop cells : ℕ) → Seat ws a k d x → Reslotted (blockOf ws a) m (2 ^ d + x) hop
+pub seated : (ws vs m : List ℕ) (a k d x hop cells : ℕ) → Seat ws a k d x → BlockSlotSet (blockOf ws a) m (2 ^ d + x) hop
     → cells ≡ exposed (slots (blockOf ws a)) d (x * 2 ^ (8 - d)) (2 ^ (8 - d)) → vs ≡ withBlock ws a m
     → Seated ws vs a d x hop cells
 seated ws vs m a k d x hop cells s g c e =

@@ -12,8 +12,8 @@ use Rattle.tree.specs.Shape.{Shape}
 use Rattle.tree.specs.Tree.{node-level, node-tag}
 use Rattle.tree.specs.Need.{node-above}
 use Rattle.words.specs.Words.{arraysOf, arrayCount}
-use Rattle.tree.specs.Slot.{Slotted, same-node}
-use Rattle.words.specs.Reslot.{Reslot}
+use Rattle.tree.specs.SlotSet.{TreeSlotSet, same-node}
+use Rattle.words.specs.SlotSet.{SlotSet}
 use Rattle.numbers.specs.Front.{front, front-up}
 use Rattle.paths.specs.Alike.{Alike}
 use Rattle.paths.specs.Grown.{Grown}
@@ -22,13 +22,13 @@ use Rattle.paths.specs.Shrunk.{up, Freed}
 use Rattle.update.specs.Update.{Touched}
 
 -- a slot of array a set: the others are alike
-reslot-alike : {ws vs : List ℕ} {a s h : ℕ} → Reslot ws vs a s h → (c : ℕ) → c ≢ a → Alike ws vs c
+reslot-alike : {ws vs : List ℕ} {a s h : ℕ} → SlotSet ws vs a s h → (c : ℕ) → c ≢ a → Alike ws vs c
 reslot-alike {a = a} g c n w m = g .outside (wordAt c w) (less c a (λ l _. inl (omega arith)) (λ l _. inr (omega arith)))
 
 -- arrays hung at the levels j + 1 .. k, then a slot set in the last
 module _ {L : ℕ} {ws vs us : List ℕ} {a j k b r s h : ℕ} (shape : Shape (arrayCount ws) L (arraysOf ws)) (top : k < L)
-    (stop : Stops L ws a k j b) (g : Grown L ws vs a j k r) (re : Reslot vs us r s h)
-    (sl : Slotted (arraysOf vs) (arraysOf us) r s h) where
+    (stop : Stops L ws a k j b) (g : Grown L ws vs a j k r) (re : SlotSet vs us r s h)
+    (sl : TreeSlotSet (arraysOf vs) (arraysOf us) r s h) where
   hung-touched : (c i : ℕ) → j ≤ i → i ≤ k → node (arraysOf vs) (front L a i) i ≡ c → Touched L (arraysOf us) (arraysOf ws) a k c
   hung-touched c i lo hi e = record {
     i = i;
@@ -69,8 +69,8 @@ up-front A L t a k b s top e h (suc n) w =
 
 -- a slot cleared in the array of level k, then it and those above it released while empty
 module _ {L : ℕ} {ws vs us : List ℕ} {a k b s h m : ℕ} (shape : Shape (arrayCount vs) L (arraysOf vs))
-    (left : Shape (arrayCount us) L (arraysOf us)) (top : k < L) (on : On L vs a k b) (re : Reslot ws vs b s h)
-    (sl : Slotted (arraysOf ws) (arraysOf vs) b s h) (f : Freed vs us b m) (deep : m ≤ k) where
+    (left : Shape (arrayCount us) L (arraysOf us)) (top : k < L) (on : On L vs a k b) (re : SlotSet ws vs b s h)
+    (sl : TreeSlotSet (arraysOf ws) (arraysOf vs) b s h) (f : Freed vs us b m) (deep : m ≤ k) where
   -- what is free is on no path
   off : (v i : ℕ) → arraysOf us .tag (node (arraysOf vs) v i) ≡ 0 → node (arraysOf us) v i ≡ 0
   off v i z =

@@ -14,7 +14,7 @@ use Rattle.routes.specs.Seen.{misfits, answerOn, afterOn}
 use Rattle.tree.specs.Arrays.{Arrays, node}
 use Rattle.words.specs.Words.{arraysOf, arrayCount}
 use Rattle.words.specs.Table.{tableB, listOf, seen}
-use Rattle.words.specs.Almost.{Table}
+use Rattle.words.specs.TableBut.{Table}
 use Rattle.numbers.specs.Front.{front}
 use Rattle.paths.specs.Alike.{Alike}
 use Rattle.replies.specs.Said.{saidReply}
@@ -37,7 +37,7 @@ Touches L (withdraw a l) ws vs c = Touched L (arraysOf ws) (arraysOf vs) a (leve
 
 -- ---- any words ws become vs, seen as tables of L levels
 
-pub record Updates (L : ℕ) (ws vs : List ℕ) (u : Update) (r : Reply) : Type 0 where
+pub record HasUpdated (L : ℕ) (ws vs : List ℕ) (u : Update) (r : Reply) : Type 0 where
   pub answer : saidReply r ≡ answerOn (8 * L) (seen L ws) u
   pub list : seen L vs ≡ afterOn (8 * L) (seen L ws) u
   pub kept : isRefused (saidReply r) ≡ true → vs ≡ ws
@@ -47,7 +47,7 @@ pub record Updates (L : ℕ) (ws vs : List ℕ) (u : Update) (r : Reply) : Type 
 -- ---- the same of a table, once the update itself is without fault
 
 -- a table ws of L levels becomes vs
-pub record Applies (L : ℕ) (ws vs : List ℕ) (u : Update) (r : Reply) : Type 0 where
+pub record HasApplied (L : ℕ) (ws vs : List ℕ) (u : Update) (r : Reply) : Type 0 where
   pub answer : saidReply r ≡ verdict (8 * L) (arrayCount ws) (listOf L ws) u
   pub table : Table L vs
   pub size : length vs ≡ length ws

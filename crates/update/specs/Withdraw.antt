@@ -22,15 +22,15 @@ use Rattle.tree.specs.Arrays.{held}
 use Rattle.words.specs.Words.{arraysOf, arrayCount}
 use Rattle.words.specs.Table.{listOf}
 use Rattle.tree.specs.Tree.{Level, node-level}
-use Rattle.tree.specs.Slot.{Place, Slotted, same-node, slotted-remove}
-use Rattle.words.specs.Reslot.{reslot-slotted, reslot-almost}
+use Rattle.tree.specs.SlotSet.{Place, TreeSlotSet, same-node, slot-set-remove}
+use Rattle.words.specs.SlotSet.{slot-set-tree, slot-set-table-but}
 use Rattle.numbers.specs.Front.{front}
 use Rattle.address.specs.Address.{stands-level}
 use Rattle.paths.specs.Stop.{On}
-use Rattle.paths.specs.Shrunk.{Loose, Pruned}
+use Rattle.paths.specs.Shrunk.{EmptyAllowed, Pruned}
 use Rattle.paths.specs.Held.{Sought, sought-wide, sought-route, sought-place, sought-held}
 use Rattle.replies.specs.declared.Reply.the-variants.{Done, Refused}
-use Rattle.update.specs.Update.{Applies}
+use Rattle.update.specs.Update.{HasApplied}
 use Rattle.update.specs.Seat.{Seat, Seated, seat-at}
 use Rattle.update.specs.Announce.{refuses, same-list}
 use Rattle.update.specs.Cells.{cells-place}
@@ -38,7 +38,7 @@ use Rattle.update.specs.Spared.{spared-freed}
 
 module _ {L : ℕ} {ws : List ℕ} {a l k d x j b g : ℕ} (s : Sought L ws a l k d x j b g) where
   -- 7: the prefix is not held
-  pub withdraw-none : g ≡ 0 → Applies L ws ws (withdraw a l) (Refused 7)
+  pub withdraw-none : g ≡ 0 → HasApplied L ws ws (withdraw a l) (Refused 7)
   withdraw-none e = refuses L ws (withdraw a l) 7 (s .ok) (rw (eq-eqb (list.held (listOf L ws) a l) 0 (sym (sought-held s) ∙ e)))
 
   module _ (some : g ≢ 0) where
@@ -62,16 +62,16 @@ module _ {L : ℕ} {ws : List ℕ} {a l k d x j b g : ℕ} (s : Sought L ws a l 
 
     module _ (vs : List ℕ) (c : ℕ) (p : Seated ws vs b d x 0 c) where
       -- the array may be empty now, and those above it after it
-      pub withdraw-loose : Loose L vs b
+      pub withdraw-loose : EmptyAllowed L vs b
       withdraw-loose = record {
-        ok = reslot-almost L 0 ws vs b (2 ^ d + x) 0 (place .array) (p .slot) (s .ok) (inl refl) used;
+        ok = slot-set-table-but L 0 ws vs b (2 ^ d + x) 0 (place .array) (p .slot) (s .ok) (inl refl) used;
         some = place .array;
         within = rw (p .slot .size) (lv .within);
         used = rw (p .slot .tag) used;
       }
 
-      slotted : Slotted (arraysOf ws) (arraysOf vs) b (2 ^ d + x) 0
-      slotted = reslot-slotted L 0 ws vs b (2 ^ d + x) 0 (place .array) (p .slot)
+      slotted : TreeSlotSet (arraysOf ws) (arraysOf vs) b (2 ^ d + x) 0
+      slotted = slot-set-tree L 0 ws vs b (2 ^ d + x) 0 (place .array) (p .slot)
 
       on : On L vs a k b
       on = record {
@@ -80,7 +80,7 @@ module _ {L : ℕ} {ws : List ℕ} {a l k d x j b g : ℕ} (s : Sought L ws a l 
         within = withdraw-loose .within;
       }
 
-      pub withdraw-done : (us : List ℕ) → Pruned L vs us b → Applies L ws us (withdraw a l) (Done g c)
+      pub withdraw-done : (us : List ℕ) → Pruned L vs us b → HasApplied L ws us (withdraw a l) (Done g c)
       withdraw-done us pu = record {
         answer =
             rw (ne-eqb (list.held (listOf L ws) a l) 0 (λ z. some (sought-held s ∙ z)))
@@ -111,6 +111,6 @@ module _ {L : ℕ} {ws : List ℕ} {a l k d x j b g : ℕ} (s : Sought L ws a l 
           without-route : listOf L us ≡ remove (a * 256 + l) (listOf L ws)
           without-route =
               same-list (8 * L) (held (arraysOf us)) (held (arraysOf vs)) (pu .freed .held)
-              ∙ slotted-remove (arrayCount ws) L (arraysOf ws) (arraysOf vs) b (front L a k) k d x 0 (s .ok .shape) place
+              ∙ slot-set-remove (arrayCount ws) L (arraysOf ws) (arraysOf vs) b (front L a k) k d x 0 (s .ok .shape) place
               slotted (8 * L) wide (omega (arith, s .stands .top, s .stands .deep)) refl
               ∙ ap (λ (r : Route). remove (key r) (listOf L ws)) same-route

@@ -7,11 +7,11 @@ ghost use Prim.Native.Nat.{_+_, _*_, _<_, _≤_};
 ghost use lib.ListN.{length as size};
 ghost use Rattle.sizes.specs.Sizes.{hopBound, levelBound};
 ghost use Rattle.routes.specs.Answers.{announce as announced, withdraw as withdrawn};
-ghost use Rattle.words.specs.Almost.{Table};
+ghost use Rattle.words.specs.TableBut.{Table};
 ghost use Rattle.address.specs.Address.{IsPrefix};
 ghost use Rattle.numbers.specs.Number.{number};
 ghost use Rattle.update.specs.Seat.{Seat, Seated};
-ghost use Rattle.update.specs.Update.{Updates, Applies, faultOf, refusalOf};
+ghost use Rattle.update.specs.Update.{HasUpdated, HasApplied, faultOf, refusalOf};
 
 // The number of the first fault of a prefix, 0 where it has none.
 fn prefix_fault(address: &[u8], length: u32) -> u32
@@ -64,7 +64,7 @@ fn reslot(words: &mut [u32], a: usize, p: address::Place, hop: u32) -> u32
 fn announce_in(words: &mut [u32], address: &[u8], length: u32, hop: u32) -> Reply
     requires { ⌜ Table (size (now address)) (now words) × IsPrefix (size (now address)) (number (now address)) length ⌝ }
     requires { ⌜ (1 ≤ hop) × (hop ≤ 65535) ⌝ }
-    ensures { λ r. ⌜ Applies (size (now (address .entry))) (now (words .entry)) (now (words .exit))
+    ensures { λ r. ⌜ HasApplied (size (now (address .entry))) (now (words .entry)) (now (words .exit))
         (announced (number (now (address .entry))) length hop) r ⌝ }
 {
     let f = paths::find(words, address, length);
@@ -87,7 +87,7 @@ fn announce_in(words: &mut [u32], address: &[u8], length: u32, hop: u32) -> Repl
 // A route withdrawn from a table.
 fn withdraw_in(words: &mut [u32], address: &[u8], length: u32) -> Reply
     requires { ⌜ Table (size (now address)) (now words) × IsPrefix (size (now address)) (number (now address)) length ⌝ }
-    ensures { λ r. ⌜ Applies (size (now (address .entry))) (now (words .entry)) (now (words .exit))
+    ensures { λ r. ⌜ HasApplied (size (now (address .entry))) (now (words .entry)) (now (words .exit))
         (withdrawn (number (now (address .entry))) length) r ⌝ }
 {
     let f = paths::find(words, address, length);
@@ -106,7 +106,7 @@ fn withdraw_in(words: &mut [u32], address: &[u8], length: u32) -> Reply
 // A route announced: refused with the first of 3, 4, 5 and 8 that applies, or held afterwards.
 pub fn announce_on(words: &mut [u32], address: &[u8], length: u32, hop: u32) -> Reply
     requires { ⌜ Table (size (now address)) (now words) ⌝ }
-    ensures { λ r. ⌜ Updates (size (now (address .entry))) (now (words .entry)) (now (words .exit))
+    ensures { λ r. ⌜ HasUpdated (size (now (address .entry))) (now (words .entry)) (now (words .exit))
         (announced (number (now (address .entry))) length hop) r ⌝ }
 {
     let f = route_fault(address, length, hop);
@@ -119,7 +119,7 @@ pub fn announce_on(words: &mut [u32], address: &[u8], length: u32, hop: u32) -> 
 // A route withdrawn: refused with the first of 3, 4 and 7 that applies, or held no more.
 pub fn withdraw_on(words: &mut [u32], address: &[u8], length: u32) -> Reply
     requires { ⌜ Table (size (now address)) (now words) ⌝ }
-    ensures { λ r. ⌜ Updates (size (now (address .entry))) (now (words .entry)) (now (words .exit))
+    ensures { λ r. ⌜ HasUpdated (size (now (address .entry))) (now (words .entry)) (now (words .exit))
         (withdrawn (number (now (address .entry))) length) r ⌝ }
 {
     let f = prefix_fault(address, length);
@@ -149,7 +149,7 @@ pub fn refusal(words: &[u32], fault: u32) -> u32
 
 // A route announced: refused with the first of 1, 3, 4, 5, 2 and 8 that applies, or held afterwards.
 pub fn announce(words: &mut [u32], address: u32, length: u32, hop: u32) -> Reply
-    ensures { λ r. ⌜ Updates 4 (now (words .entry)) (now (words .exit)) (announced address length hop) r ⌝ }
+    ensures { λ r. ⌜ HasUpdated 4 (now (words .entry)) (now (words .exit)) (announced address length hop) r ⌝ }
 {
     let bytes = address::four_of(address);
     let n = refusal(words, route_fault(&bytes, length, hop));
@@ -161,7 +161,7 @@ pub fn announce(words: &mut [u32], address: u32, length: u32, hop: u32) -> Reply
 
 // A route withdrawn: refused with the first of 1, 3, 4, 2 and 7 that applies, or held no more.
 pub fn withdraw(words: &mut [u32], address: u32, length: u32) -> Reply
-    ensures { λ r. ⌜ Updates 4 (now (words .entry)) (now (words .exit)) (withdrawn address length) r ⌝ }
+    ensures { λ r. ⌜ HasUpdated 4 (now (words .entry)) (now (words .exit)) (withdrawn address length) r ⌝ }
 {
     let bytes = address::four_of(address);
     let n = refusal(words, prefix_fault(&bytes, length));

@@ -12,7 +12,7 @@ use Rattle.logic.specs.Cases.{same}
 use Rattle.sizes.specs.Sizes.{perGroup, groupCount}
 use Rattle.tree.specs.Arrays.{Arrays, usedIn, usedOf}
 use Rattle.words.specs.Words.{arraysOf}
-use Rattle.words.specs.Almost.{Header}
+use Rattle.words.specs.TableBut.{Header}
 use Rattle.tree.specs.Free.{firstFree, usedFrom}
 use Rattle.tree.specs.Free.{used-full}
 

@@ -16,12 +16,12 @@ use Rattle.array.specs.Cell.{bestIn, link-blank}
 use Rattle.array.specs.Right.{right-none}
 use Rattle.tree.specs.Arrays.{Arrays, lev, node, held, depthOf, slotOf, usedIn}
 use Rattle.tree.specs.Need.{at-some, slot-some}
-use Rattle.tree.specs.Slot.{at-none}
+use Rattle.tree.specs.SlotSet.{at-none}
 use Rattle.words.specs.Words.{arraysOf, slotsOf, bestsOf}
-use Rattle.words.specs.Almost.{Almost, Table}
+use Rattle.words.specs.TableBut.{TableBut, Table}
 use Rattle.routes.specs.Seen.{table, misfits, arrays}
 use Rattle.words.specs.Table.{listOf, seen}
-use Rattle.words.specs.Decides.{Fits}
+use Rattle.words.specs.CheckReflects.{Fits}
 use Rattle.words.specs.View.{no-misfit-fits, seen-table}
 
 unfoldable pub cleared : ℕ → List ℕ
@@ -83,7 +83,7 @@ module _ (n : ℕ) (low : leastWords ≤ n) where
   used-root zero = rw cleared-root
   used-root (suc m) = rw (tag-none (0 + suc (suc m)) (omega arith), used-root m)
 
-  pub cleared-table : (L : ℕ) → 1 ≤ L → L < levelBound → n % arrayWords ≡ 0 → n ≤ mostWords → Almost L 0 (cleared n)
+  pub cleared-table : (L : ℕ) → 1 ≤ L → L < levelBound → n % arrayWords ≡ 0 → n ≤ mostWords → TableBut L 0 (cleared n)
   cleared-table L l w whole high = record {
     whole = rw cleared-length whole;
     low = rw cleared-length low;

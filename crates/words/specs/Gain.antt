@@ -14,9 +14,9 @@ use Rattle.array.specs.With.{withLink, best-kept, link-set}
 use Rattle.array.specs.Right.{Right, right-ext, right-none}
 use Rattle.tree.specs.Arrays.{Arrays, lev}
 use Rattle.tree.specs.Shape.{Child}
-use Rattle.tree.specs.Hang.{Hang, cell-cases, hang-shape, hang-filled}
+use Rattle.tree.specs.HungBelow.{HungBelow, cell-cases, hang-shape, hang-filled}
 use Rattle.words.specs.Words.{arraysOf, arrayCount, slotsOf, bestsOf}
-use Rattle.words.specs.Almost.{Almost}
+use Rattle.words.specs.TableBut.{TableBut}
 use Rattle.words.specs.Gained.{group, gained}
 use Rattle.words.specs.Rehung.{apart, cell-tag, slot-tag, slot-cell, cell-cell}
 use Rattle.words.specs.Rehung.{re-length, re-other, re-tag, re-cell, re-count, re-group, Counted, counted-up}
@@ -33,7 +33,7 @@ pub record Gain (L : ℕ) (ws : List ℕ) (p i a : ℕ) : Type 0 where
   pub within : a ≤ arrayCount ws
   pub free : arraysOf ws .tag a ≡ 0
 
-module _ (L : ℕ) (ws : List ℕ) (p i a : ℕ) (ok : Almost L p ws) (gn : Gain L ws p i a) where
+module _ (L : ℕ) (ws : List ℕ) (p i a : ℕ) (ok : TableBut L p ws) (gn : Gain L ws p i a) where
   abbrev t : Arrays
   t = arraysOf ws
 
@@ -75,9 +75,9 @@ module _ (L : ℕ) (ws : List ℕ) (p i a : ℕ) (ok : Almost L p ws) (gn : Gain
       other-word (cellAt c j) (cell-tag c j a b) (cell-cell c j p i b (gn .cells) n) (λ e. omega arith)
       (λ e. omega (arith, fits, ok .high))
 
-  pub gained-hang : Hang (arrayCount ws) L t u p i a
+  pub gained-hung-below : HungBelow (arrayCount ws) L t u p i a
   unfolding gained
-  gained-hang = record {
+  gained-hung-below = record {
     some = not-root;
     within = gn .within;
     parent = gn .parent;
@@ -113,16 +113,16 @@ module _ (L : ℕ) (ws : List ℕ) (p i a : ℕ) (ok : Almost L p ws) (gn : Gain
   free-link : (c : ℕ) → t .tag c ≡ 0 → c ≢ p
   free-link c z e = let q : t .tag c ≡ t .tag p = ap (t .tag) e in omega (arith, gn .used)
 
-  pub gained-almost : Almost L a (gained ws p i a)
-  gained-almost = record {
+  pub gained-table-but : TableBut L a (gained ws p i a)
+  gained-table-but = record {
     whole = rw gained-length (ok .whole);
     low = rw gained-length (ok .low);
     high = rw gained-length (ok .high);
-    shape = rw gained-length (hang-shape (arrayCount ws) L t u p i a gained-hang (ok .shape));
-    filled = rw gained-length (hang-filled (arrayCount ws) L t u p i a gained-hang (ok .filled));
+    shape = rw gained-length (hang-shape (arrayCount ws) L t u p i a gained-hung-below (ok .shape));
+    filled = rw gained-length (hang-filled (arrayCount ws) L t u p i a gained-hung-below (ok .filled));
     blank = rw gained-length blank;
     right = rw gained-length right;
-    header = counted-up L ws (gained ws p i a) p i a gained-hang gained-counted (ok .high) (ok .header);
+    header = counted-up L ws (gained ws p i a) p i a gained-hung-below gained-counted (ok .high) (ok .header);
     rest =
         λ k h w. other-word k (λ e. omega (arith, gn .some)) (λ e. omega (arith, gn .parent)) (λ e. omega arith)
         (λ e. omega (arith, fits, ok .high)) ∙ ok .rest k h w;
@@ -131,8 +131,8 @@ module _ (L : ℕ) (ws : List ℕ) (p i a : ℕ) (ok : Almost L p ws) (gn : Gain
       blank : (c : ℕ) → 1 ≤ c → c ≤ arrayCount ws → u .tag c ≡ 0 → (k : ℕ) → k < unusedAt
           → getD (gained ws p i a) (wordAt c k) 0 ≡ 0
       blank c h w z k b =
-          let n : c ≢ a = λ e. (let q : u .tag c ≡ u .tag a = ap (u .tag) e in omega (arith, gained-hang .named)) in
-          let y : t .tag c ≡ 0 = sym (gained-hang .tags c h n) ∙ z in
+          let n : c ≢ a = λ e. (let q : u .tag c ≡ u .tag a = ap (u .tag) e in omega (arith, gained-hung-below .named)) in
+          let y : t .tag c ≡ 0 = sym (gained-hung-below .tags c h n) ∙ z in
           let m : c ≢ p = free-link c y in
           other-word (wordAt c k) (λ e. n (apart c a k 0 (omega arith) (omega arith) (omega arith) .0))
           (λ e. m (apart c p k (cellsAt + i) (omega arith) (omega (arith, gn .cells)) (omega arith) .0)) (λ e. omega arith)
@@ -150,12 +150,12 @@ module _ (L : ℕ) (ws : List ℕ) (p i a : ℕ) (ok : Almost L p ws) (gn : Gain
       right c h w z =
           same c a
           (λ e _. right-none (lev u c) (slotsOf (gained ws p i a) c) (bestsOf (gained ws p i a) c)
-          (λ s l b. gained-hang .slots c s h l b ∙ rw e (gained-hang .no-slot s l b))
+          (λ s l b. gained-hung-below .slots c s h l b ∙ rw e (gained-hung-below .no-slot s l b))
           (λ j b. best-same c j h b ∙ rw e (best-none j b)))
-          (λ n _. rw (gained-hang .tags c h n)
+          (λ n _. rw (gained-hung-below .tags c h n)
           (right-ext (lev t c) (slotsOf ws c) (bestsOf ws c) (slotsOf (gained ws p i a) c) (bestsOf (gained ws p i a) c)
-          (λ s l b. gained-hang .slots c s h l b) (λ j b. best-same c j h b)
-          (ok .right c h w (rw (← (gained-hang .tags c h n)) z))))
+          (λ s l b. gained-hung-below .slots c s h l b) (λ j b. best-same c j h b)
+          (ok .right c h w (rw (← (gained-hung-below .tags c h n)) z))))
         where
           best-none : (j : ℕ) → j < cellCount → bestsOf ws a j ≡ 0
           best-none j b =

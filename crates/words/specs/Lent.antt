@@ -6,20 +6,20 @@ use Prim.Native.Nat.{ℕ, zero, suc, _+_, _≤_, _<_}
 use native.Mathlib.Omega.{arith}
 use lib.ListN.{getD}
 use Rattle.logic.specs.Cases.{bool}
-use Rattle.logic.specs.Tells.{Tells}
+use Rattle.logic.specs.Reflects.{Reflects}
 use Rattle.sizes.specs.Sizes.{lastSlot, slotEnd, cellCount, cellsAt, wordAt, cellAt}
 use Rattle.array.specs.Cell.{bestIn, linkIn}
 use Rattle.array.specs.Block.{slots, bests, links}
 use Rattle.array.specs.Frame.{blockOf, block-word}
 use Rattle.array.specs.Check.{rightB, emptyB}
 use Rattle.array.specs.Taken.{taken}
-use Rattle.array.specs.Decides.{right-tells, empty-tells}
+use Rattle.array.specs.CheckReflects.{right-reflects, empty-reflects}
 use Rattle.array.specs.Right.{right-ext}
 use Rattle.words.specs.Words.{arraysOf, slotsOf, bestsOf}
 
 -- two tests of statements that follow from each other
-tells-same : {b c : Bool} {P Q : Type 0} → Tells b P → Tells c Q → (P → Q) → (Q → P) → b ≡ c
-tells-same {b} {c} p q f g =
+reflects-same : {b c : Bool} {P Q : Type 0} → Reflects b P → Reflects c Q → (P → Q) → (Q → P) → b ≡ c
+reflects-same {b} {c} p q f g =
     bool b
     (λ x. x ∙ sym (q .from (f (p .to x))))
     (λ x. bool c (λ y. absurd (true≢false (sym (p .from (g (q .to y))) ∙ x))) (λ y. x ∙ sym y))
@@ -48,13 +48,13 @@ module _ (ws : List ℕ) (a : ℕ) where
 
   pub lent-right : (k : ℕ) → rightB k (slots b) (bests b) ≡ rightB k (slotsOf ws a) (bestsOf ws a)
   lent-right k =
-      tells-same (right-tells k (slots b) (bests b)) (right-tells k (slotsOf ws a) (bestsOf ws a))
+      reflects-same (right-reflects k (slots b) (bests b)) (right-reflects k (slotsOf ws a) (bestsOf ws a))
       (right-ext k (slots b) (bests b) (slotsOf ws a) (bestsOf ws a) (λ s _ h. sym (lent-slot s h)) (λ i h. sym (lent-best i h)))
       (right-ext k (slotsOf ws a) (bestsOf ws a) (slots b) (bests b) (λ s _ h. lent-slot s h) (λ i h. lent-best i h))
 
   pub lent-empty : emptyB (slots b) (links b) ≡ emptyB (slotsOf ws a) (arraysOf ws .link a)
   lent-empty =
-      tells-same (empty-tells (slots b) (links b)) (empty-tells (slotsOf ws a) (arraysOf ws .link a))
+      reflects-same (empty-reflects (slots b) (links b)) (empty-reflects (slotsOf ws a) (arraysOf ws .link a))
       (λ z. record { slots = λ s l h. sym (lent-slot s h) ∙ z .slots s l h; links = λ i h. sym (lent-link i h) ∙ z .links i h })
       (λ z. record { slots = λ s l h. lent-slot s h ∙ z .slots s l h; links = λ i h. lent-link i h ∙ z .links i h })
 

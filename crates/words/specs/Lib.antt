@@ -1,8 +1,8 @@
 pub mod Words
-pub mod Almost
+pub mod TableBut
 pub mod Gained
 pub mod Table
-pub mod Decides
+pub mod CheckReflects
 pub mod View
 pub mod Size
 pub mod Rehung
@@ -10,6 +10,6 @@ pub mod Gain
 pub mod Release
 pub mod Stock
 pub mod Clear
-pub mod Reslot
+pub mod SlotSet
 pub mod Listed
 pub mod Lent

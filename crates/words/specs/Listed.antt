@@ -17,11 +17,11 @@ use Rattle.routes.specs.Collect.{own, collect, routes}
 use Rattle.laws.specs.Longest.{whole, routes-wfs}
 use Rattle.tree.specs.Arrays.{Arrays}
 use Rattle.tree.specs.Arrays as arrays
-use Rattle.tree.specs.Slot.{held-cases}
+use Rattle.tree.specs.SlotSet.{held-cases}
 use Rattle.tree.specs.Taken.{takenTo, taken-routes}
 use Rattle.words.specs.Words.{arraysOf, arrayCount}
 use Rattle.words.specs.Table.{listOf}
-use Rattle.words.specs.Almost.{Table}
+use Rattle.words.specs.TableBut.{Table}
 
 -- ---- hops are hops
 

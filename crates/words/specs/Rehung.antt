@@ -10,9 +10,9 @@ use Rattle.logic.specs.Cases.{same, less}
 use Rattle.sizes.specs.Sizes.{arrayWords, mostWords, slotEnd, cellCount, cellsAt}
 use Rattle.sizes.specs.Sizes.{arrayAt, wordAt, cellAt, perGroup, groupCount}
 use Rattle.tree.specs.Arrays.{Arrays, usedIn, usedOf}
-use Rattle.tree.specs.Hang.{Hang, used-out, used-inside}
+use Rattle.tree.specs.HungBelow.{HungBelow, used-out, used-inside}
 use Rattle.words.specs.Words.{arraysOf, arrayCount}
-use Rattle.words.specs.Almost.{Header}
+use Rattle.words.specs.TableBut.{Header}
 use Rattle.words.specs.Gained.{group, rehung}
 
 -- ---- where words lie
@@ -99,8 +99,8 @@ pub record Counted (ws vs : List ℕ) (a : ℕ) : Type 0 where
   pub group : getD vs ((a - 1) / perGroup + 1) 0 ≡ getD ws ((a - 1) / perGroup + 1) 0 + 1
   pub groups : (g : ℕ) → g < groupCount → g + 1 ≢ (a - 1) / perGroup + 1 → getD vs (g + 1) 0 ≡ getD ws (g + 1) 0
 
-module _ (L : ℕ) (ws vs : List ℕ) (p i a : ℕ) (h : Hang (arrayCount ws) L (arraysOf ws) (arraysOf vs) p i a) (c : Counted ws vs a)
-    (size : length ws ≤ mostWords) where
+module _ (L : ℕ) (ws vs : List ℕ) (p i a : ℕ) (h : HungBelow (arrayCount ws) L (arraysOf ws) (arraysOf vs) p i a)
+    (c : Counted ws vs a) (size : length ws ≤ mostWords) where
   abbrev t₀ : Arrays
   t₀ = arraysOf ws
 

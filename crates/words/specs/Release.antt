@@ -12,17 +12,17 @@ use Rattle.array.specs.Cell.{bestIn, linkIn, cell-blank}
 use Rattle.array.specs.With.{withLink, best-kept, link-cut}
 use Rattle.array.specs.Right.{Right, right-ext}
 use Rattle.tree.specs.Arrays.{Arrays, par, cell, lev}
-use Rattle.tree.specs.Shape.{Child, Hung}
-use Rattle.tree.specs.Tree.{hung, hangs}
-use Rattle.tree.specs.Hang.{Hang, cell-cases, unhang-shape, unhang-filled, used-inside}
+use Rattle.tree.specs.Shape.{Child, ParentLinks}
+use Rattle.tree.specs.Tree.{parent-links, is-child}
+use Rattle.tree.specs.HungBelow.{HungBelow, cell-cases, unhang-shape, unhang-filled, used-inside}
 use Rattle.words.specs.Words.{arraysOf, arrayCount, slotsOf, bestsOf}
-use Rattle.words.specs.Almost.{Almost}
+use Rattle.words.specs.TableBut.{TableBut}
 use Rattle.words.specs.Gained.{group, released}
 use Rattle.words.specs.Rehung.{apart, cell-tag, slot-tag, slot-cell, cell-cell}
 use Rattle.words.specs.Rehung.{re-length, re-other, re-tag, re-cell, re-count, re-group, Counted, counted-down}
 
 -- a used array that is not the root and has nothing in it
-pub record Empty (ws : List ℕ) (a : ℕ) : Type 0 where
+pub record Releasable (ws : List ℕ) (a : ℕ) : Type 0 where
   pub some : 2 ≤ a
   pub within : a ≤ arrayCount ws
   pub used : 1 ≤ arraysOf ws .tag a
@@ -30,7 +30,7 @@ pub record Empty (ws : List ℕ) (a : ℕ) : Type 0 where
   pub no-slot : (s : ℕ) → 1 ≤ s → s < slotEnd → slotsOf ws a s ≡ 0
   pub no-best : (j : ℕ) → j < cellCount → bestsOf ws a j ≡ 0
 
-module _ (L : ℕ) (ws : List ℕ) (a : ℕ) (ok : Almost L a ws) (em : Empty ws a) where
+module _ (L : ℕ) (ws : List ℕ) (a : ℕ) (ok : TableBut L a ws) (em : Releasable ws a) where
   abbrev u₁ : Arrays
   u₁ = arraysOf ws
 
@@ -46,11 +46,11 @@ module _ (L : ℕ) (ws : List ℕ) (a : ℕ) (ok : Almost L a ws) (em : Empty ws
   abbrev word₁ : ℕ
   word₁ = getD ws (cellAt p i) 0
 
-  hu : Hung (arrayCount ws) u₁ a
-  hu = hung (arrayCount ws) L u₁ (ok .shape) a (em .some) (em .within) (em .used)
+  hu : ParentLinks (arrayCount ws) u₁ a
+  hu = parent-links (arrayCount ws) L u₁ (ok .shape) a (em .some) (em .within) (em .used)
 
   ha : Child (arrayCount ws) L u₁ p i a
-  ha = hangs (arrayCount ws) L u₁ (ok .shape) a (em .some) (em .within) (em .used)
+  ha = is-child (arrayCount ws) L u₁ (ok .shape) a (em .some) (em .within) (em .used)
 
   fits₁ : arrayAt (a + 1) ≤ length ws
   fits₁ = omega (arith, ok .whole, ok .low, em .within)
@@ -103,9 +103,9 @@ module _ (L : ℕ) (ws : List ℕ) (a : ℕ) (ok : Almost L a ws) (em : Empty ws
       (λ e d. rw (e, d) (ap bestIn new-cell₁ ∙ best-kept word₁ 0 (omega arith)))
       (λ n. ap bestIn (other-cell₁ c j h b n))
 
-  pub released-hang : Hang (arrayCount ws) L t₁ u₁ p i a
+  pub released-hung-below : HungBelow (arrayCount ws) L t₁ u₁ p i a
   unfolding released
-  released-hang = record {
+  released-hung-below = record {
     some = em .some;
     within = em .within;
     parent = hu .some;
@@ -130,7 +130,7 @@ module _ (L : ℕ) (ws : List ℕ) (a : ℕ) (ok : Almost L a ws) (em : Empty ws
       omega (
         arith,
         ok .header .count,
-        used-inside (arrayCount ws) L t₁ u₁ p i a released-hang 0 (arrayCount ws)
+        used-inside (arrayCount ws) L t₁ u₁ p i a released-hung-below 0 (arrayCount ws)
             (omega (arith, em .some)) (omega (arith, em .within)),
       )
 
@@ -140,7 +140,7 @@ module _ (L : ℕ) (ws : List ℕ) (a : ℕ) (ok : Almost L a ws) (em : Empty ws
       omega (
         arith,
         ok .header .groups g (omega (arith, fits₁, ok .high)),
-        used-inside (arrayCount ws) L t₁ u₁ p i a released-hang
+        used-inside (arrayCount ws) L t₁ u₁ p i a released-hung-below
             (perGroup * g) perGroup (omega (arith, em .some)) (omega (arith, em .some)),
       )
 
@@ -166,17 +166,17 @@ module _ (L : ℕ) (ws : List ℕ) (a : ℕ) (ok : Almost L a ws) (em : Empty ws
       (λ l _. (let d : wordAt a k ≡ cellAt a (k - cellsAt) = omega arith in
       rw d (cell-blank _ (em .no-best (k - cellsAt) (omega arith)) (em .no-link (k - cellsAt) (omega arith)))))
 
-  pub released-almost : Almost L p (released ws a)
-  released-almost = record {
+  pub released-table-but : TableBut L p (released ws a)
+  released-table-but = record {
     whole = rw released-length (ok .whole);
     low = rw released-length (ok .low);
     high = rw released-length (ok .high);
-    shape = rw released-length (unhang-shape (arrayCount ws) L t₁ u₁ p i a released-hang (ok .shape));
-    filled = rw released-length (unhang-filled (arrayCount ws) L t₁ u₁ p i a released-hang (ok .filled));
+    shape = rw released-length (unhang-shape (arrayCount ws) L t₁ u₁ p i a released-hung-below (ok .shape));
+    filled = rw released-length (unhang-filled (arrayCount ws) L t₁ u₁ p i a released-hung-below (ok .filled));
     blank = rw released-length blank;
     right = rw released-length right;
     header =
-        counted-down L (released ws a) ws p i a (rw released-length released-hang) released-counted
+        counted-down L (released ws a) ws p i a (rw released-length released-hung-below) released-counted
         (rw released-length (ok .high)) (ok .header);
     rest =
         λ k h w. other-word₁ k (λ e. omega (arith, em .some)) (λ e. omega (arith, hu .some)) (λ e. omega arith)
@@ -205,7 +205,7 @@ module _ (L : ℕ) (ws : List ℕ) (a : ℕ) (ok : Almost L a ws) (em : Empty ws
       right : (c : ℕ) → 1 ≤ c → c ≤ arrayCount ws → 1 ≤ t₁ .tag c
           → Right (lev t₁ c) (slotsOf (released ws a) c) (bestsOf (released ws a) c)
       right c h w z =
-          let n : c ≢ a = λ e. (let q : t₁ .tag c ≡ t₁ .tag a = ap (t₁ .tag) e in omega (arith, released-hang .free)) in
+          let n : c ≢ a = λ e. (let q : t₁ .tag c ≡ t₁ .tag a = ap (t₁ .tag) e in omega (arith, released-hung-below .free)) in
           rw (tag-same c h n) (right-ext (lev u₁ c) (slotsOf ws c) (bestsOf ws c) (slotsOf (released ws a) c)
           (bestsOf (released ws a) c)
           (λ s l b. slot-same c s h l b) (λ j b. best-same₁ c j h b) (ok .right c h w (rw (← (tag-same c h n)) z)))

@@ -9,11 +9,11 @@ use Rattle.routes.specs.Room.{needTo, need}
 use Rattle.tree.specs.Arrays.{held}
 use Rattle.tree.specs.Need.{used-need}
 use Rattle.words.specs.Words.{arraysOf, arrayCount}
-use Rattle.words.specs.Almost.{Almost, Table}
+use Rattle.words.specs.TableBut.{TableBut, Table}
 use Rattle.tree.specs.Free.{firstFree, Found, found}
 use Rattle.words.specs.Table.{listOf}
 
-pub count-need : (J : ℕ) (ws : List ℕ) → Almost (suc J) 0 ws
+pub count-need : (J : ℕ) (ws : List ℕ) → TableBut (suc J) 0 ws
     → getD ws 0 0 ≡ needTo (8 * suc J) J (routes (8 * suc J) (held (arraysOf ws)))
 count-need J ws ok =
     ok .header .count ∙ used-need (arrayCount ws) (suc J) (arraysOf ws) (ok .shape) (ok .filled) J refl
@@ -27,6 +27,6 @@ pub table-need : (L : ℕ) (ws : List ℕ) → Table L ws → getD ws 0 0 ≡ ne
 table-need L ws ok = let e : 8 * L / 8 - 1 ≡ L - 1 = omega arith in rw e (table-count L ws ok)
 
 -- fewer used than there are: one is free
-pub find-some : (L e : ℕ) (ws : List ℕ) → Almost L e ws → getD ws 0 0 < arrayCount ws
+pub find-some : (L e : ℕ) (ws : List ℕ) → TableBut L e ws → getD ws 0 0 < arrayCount ws
     → Found (arraysOf ws) 1 (arrayCount ws) (firstFree (arraysOf ws) 1 (arrayCount ws))
 find-some L e ws ok h = found (arraysOf ws) 0 (arrayCount ws) (omega (arith, ok .header .count))

@@ -12,7 +12,7 @@ use Rattle.logic.specs.Every.{allB}
 use Rattle.array.specs.Check.{zeroAt, rightB, emptyB}
 use Rattle.tree.specs.Arrays.{lev, held, usedIn, usedOf}
 use Rattle.words.specs.Words.{arraysOf, arrayCount, slotsOf, bestsOf}
-use Rattle.tree.specs.Check.{linksB, hungB}
+use Rattle.tree.specs.Check.{linksB, parentLinksB}
 
 -- array a: free and 0; or used, its block right, its links leading to arrays that name their cell, and, the root aside, hung
 -- where its tag says and not empty
@@ -21,7 +21,7 @@ arrayB L ws a =
     cond (eqb (getD ws (arrayAt a) 0) 0) (allB (zeroAt ws (arrayAt a)) unusedAt)
     (rightB (lev (arraysOf ws) a) (slotsOf ws a) (bestsOf ws a)
     && (linksB (arrayCount ws) L (arraysOf ws) a
-    && (eqb a 1 || (hungB (arrayCount ws) (arraysOf ws) a && not (emptyB (slotsOf ws a) (arraysOf ws .link a))))))
+    && (eqb a 1 || (parentLinksB (arrayCount ws) (arraysOf ws) a && not (emptyB (slotsOf ws a) (arraysOf ws .link a))))))
 
 -- the number of arrays used among 8 * g + 1 .. 8 * g + 8
 unfoldable pub groupB : List ℕ → ℕ → Bool

@@ -12,8 +12,8 @@ use Rattle.routes.specs.Route.{Route}
 use Rattle.routes.specs.Seen.{Seen, misfit, foreign, table, misfits}
 use Rattle.words.specs.Words.{arrayCount}
 use Rattle.words.specs.Table.{tableB, listOf, seen}
-use Rattle.words.specs.Almost.{Table}
-use Rattle.words.specs.Decides.{Fits, table-tells}
+use Rattle.words.specs.TableBut.{Table}
+use Rattle.words.specs.CheckReflects.{Fits, table-reflects}
 
 -- ---- the size
 
@@ -35,7 +35,7 @@ module _ (L : ℕ) (ws : List ℕ) where
   table-fits t = record { whole = t .whole; low = t .low; high = t .high }
 
   table-true : Table L ws → tableB L ws ≡ true
-  table-true t = table-tells L ws (t .shape .some-level) (t .shape .levels) (table-fits t) .from t
+  table-true t = table-reflects L ws (t .shape .some-level) (t .shape .levels) (table-fits t) .from t
 
   -- ---- what is seen
 
@@ -61,7 +61,7 @@ module _ (L : ℕ) (ws : List ℕ) where
       bool (misfits (length ws))
       (λ e. x e (seen-misfit e))
       (λ e. bool (tableB L ws)
-      (λ b. (let t = table-tells L ws some levels (no-misfit-fits (length ws) e) .to b in z e b t (seen-table t)))
+      (λ b. (let t = table-reflects L ws some levels (no-misfit-fits (length ws) e) .to b in z e b t (seen-table t)))
       (λ b. y e b (seen-foreign e b)))
 
 -- ---- and back

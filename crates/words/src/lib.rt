@@ -21,7 +21,7 @@ ghost use lib.ListN.{length};
 ghost use Rattle.sizes.specs.Sizes.{mostArrays, leastWords, mostWords, cellCount, arrayAt, perGroup, groupCount, groupStride};
 ghost use Rattle.array.specs.Check.{emptyB};
 ghost use Rattle.words.specs.Words.{arraysOf, arrayCount, slotsOf};
-ghost use Rattle.words.specs.Almost.{Header};
+ghost use Rattle.words.specs.TableBut.{Header};
 ghost use Rattle.tree.specs.Free.{usedFrom, firstFree};
 ghost use Rattle.words.specs.Gained.{gained, released, Gains, Releases};
 

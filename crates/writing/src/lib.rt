@@ -10,7 +10,7 @@ ghost use lib.ListN.{length, getD};
 ghost use Rattle.routes.specs.Bytes.{written};
 ghost use Rattle.routes.specs.Seen.{countOn, frontOn};
 ghost use Rattle.words.specs.Table.{listOf, seen};
-ghost use Rattle.writing.specs.Answer.{countAnswer, Fills};
+ghost use Rattle.writing.specs.Answer.{countAnswer, HasFilled};
 ghost use Rattle.numbers.specs.Wrote.{Wrote};
 ghost use Rattle.writing.specs.Halves.{halfOf};
 ghost use Rattle.writing.specs.Asked.{bytesOwn, bytesBelow, Puts, Within, Branches, Splits, Keeps, Dumps};
@@ -175,7 +175,7 @@ pub fn count(words: &[u32], room: usize) -> Counted
 
 // Writes the list out at the front of the buffer, whose other bytes stay; returns how many bytes, 0 where the count refuses.
 pub fn fill(words: &[u32], buffer: &mut [u8]) -> usize
-    ensures { λ r. ⌜ Fills (seen 4 (now (words .entry))) (now (buffer .entry)) r (now (buffer .exit)) ⌝ }
+    ensures { λ r. ⌜ HasFilled (seen 4 (now (words .entry))) (now (buffer .entry)) r (now (buffer .exit)) ⌝ }
 {
     let Counted::Bytes(_) = count(words, buffer.len()) else {
         return 0;

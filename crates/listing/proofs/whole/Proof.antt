@@ -3,7 +3,7 @@ use mathlib.Core.Path.{_≡_, sym, _∙_}
 use mathlib.Core.Bool.{true}
 use Prim.Native.Nat.{_-_, _≤_}
 use Rattle.logic.specs.Every.{allB}
-use Rattle.logic.specs.Tells.{all-none, all-more}
+use Rattle.logic.specs.Reflects.{all-none, all-more}
 use Rattle.logic.specs.Bools.{not-false}
 use Rattle.listing.specs.Listed.{recordB}
 use Rattle.listing.proofs.Tests.{whole-odd, whole-unended, whole-broken, whole-right}

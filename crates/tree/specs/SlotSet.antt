@@ -12,12 +12,12 @@ use Rattle.laws.specs.Collect.{Off, routes-insert, routes-remove}
 use Rattle.routes.specs.Collect.{routes, routeOf}
 use Rattle.routes.specs.Room.{level}
 use Rattle.tree.specs.Arrays.{Arrays, par, cell, at, node, depthOf, slotOf, held}
-use Rattle.tree.specs.Shape.{Child, Hung, Shape}
+use Rattle.tree.specs.Shape.{Child, ParentLinks, Shape}
 use Rattle.tree.specs.Tree.{down-zero, down-some, node-level, node-inj}
 use Rattle.tree.specs.Need.{at-some, slot-some, slot-within}
 
 -- u is t but for slot s of array b, which holds h
-pub record Slotted (t u : Arrays) (b s h : ℕ) : Type 0 where
+pub record TreeSlotSet (t u : Arrays) (b s h : ℕ) : Type 0 where
   pub tags : (c : ℕ) → 1 ≤ c → u .tag c ≡ t .tag c
   pub links : (c i : ℕ) → 1 ≤ c → i < cellCount → u .link c i ≡ t .link c i
   pub here : u .slot b s ≡ h
@@ -41,7 +41,7 @@ module _ (t u : Arrays) (tags : (c : ℕ) → 1 ≤ c → u .tag c ≡ t .tag c)
           named = rw (tags a h) (tags (t .link a i) (z .some) ∙ z .named);
         })) (s .links a i h w b));
     tags = λ a h w. ⊎-elim (λ (z : t .tag a ≡ 0). inl (tags a (omega arith) ∙ z))
-        (λ (z : Hung A t a). (let e = tags a (omega arith) in inr (record {
+        (λ (z : ParentLinks A t a). (let e = tags a (omega arith) in inr (record {
           some = rw e (z .some);
           within = rw e (z .within);
           back = rw e (links (par t a) (cell t a) (z .some) (omega arith) ∙ z .back);
@@ -103,9 +103,9 @@ held-cases A L t sh P none some v l =
     (some a (slotOf v l) (p .some) (p .within) (omega (arith, p .level)) (slot-some v l) (slot-within v l))))
 
 module _ (A L : ℕ) (t u : Arrays) (b q k d x h : ℕ) (s : Shape A L t) (p : Place A L t b q k d x)
-    (g : Slotted t u b (2 ^ d + x) h) where
-  slotted-here : held u (q * 2 ^ d + x) (8 * k + d) ≡ h
-  slotted-here = held-place A L u b q k d x here ∙ g .here
+    (g : TreeSlotSet t u b (2 ^ d + x) h) where
+  slot-set-here : held u (q * 2 ^ d + x) (8 * k + d) ≡ h
+  slot-set-here = held-place A L u b q k d x here ∙ g .here
     where
       here : Place A L u b q k d x
       here =
@@ -118,9 +118,9 @@ module _ (A L : ℕ) (t u : Arrays) (b q k d x h : ℕ) (s : Shape A L t) (p : P
             small = p .small;
           }
 
-  slotted-off : (W : ℕ) → Off W (q * 2 ^ d + x) (8 * k + d) (held t) (held u)
+  slot-set-off : (W : ℕ) → Off W (q * 2 ^ d + x) (8 * k + d) (held t) (held u)
   unfolding held
-  slotted-off W v l w small n = rw (same-node t u (g .tags) (g .links) (v / 2 ^ e) j) (sym (at-same (node t (v / 2 ^ e) j) refl))
+  slot-set-off W v l w small n = rw (same-node t u (g .tags) (g .links) (v / 2 ^ e) j) (sym (at-same (node t (v / 2 ^ e) j) refl))
     where
       j : ℕ
       j = level l
@@ -160,18 +160,18 @@ module _ (A L : ℕ) (t u : Arrays) (b q k d x h : ℕ) (s : Shape A L t) (p : P
           ∙ sym (at-some t c (2 ^ e + y) o)))
 
   -- the list with the route put in, or taken out
-  pub slotted-insert : (W : ℕ) → W < 256 → 8 * k + d ≤ W → 0 < h
+  pub slot-set-insert : (W : ℕ) → W < 256 → 8 * k + d ≤ W → 0 < h
       → routes W (held u) ≡ insert (routeOf (W - (8 * k + d)) (q * 2 ^ d + x) (8 * k + d) h) (routes W (held t))
-  slotted-insert W w f z =
-      routes-insert W w (held t) (held u) (q * 2 ^ d + x) (8 * k + d) f fits (slotted-off W) (rw slotted-here z) ∙ rw slotted-here
+  slot-set-insert W w f z =
+      routes-insert W w (held t) (held u) (q * 2 ^ d + x) (8 * k + d) f fits (slot-set-off W) (rw slot-set-here z) ∙ rw slot-set-here
     where
       fits : q * 2 ^ d + x < 2 ^ (8 * k + d)
       fits = omega (arith, pow-add 2 (8 * k) d, mul-le-mul-right (2 ^ d) (p .head), p .small)
 
-  pub slotted-remove : (W : ℕ) → W < 256 → 8 * k + d ≤ W → h ≡ 0
+  pub slot-set-remove : (W : ℕ) → W < 256 → 8 * k + d ≤ W → h ≡ 0
       → routes W (held u) ≡ remove (key (routeOf (W - (8 * k + d)) (q * 2 ^ d + x) (8 * k + d) h)) (routes W (held t))
-  slotted-remove W w f z =
-      routes-remove W w (held t) (held u) (q * 2 ^ d + x) (8 * k + d) f fits (slotted-off W) (slotted-here ∙ z)
+  slot-set-remove W w f z =
+      routes-remove W w (held t) (held u) (q * 2 ^ d + x) (8 * k + d) f fits (slot-set-off W) (slot-set-here ∙ z)
     where
       fits : q * 2 ^ d + x < 2 ^ (8 * k + d)
       fits = omega (arith, pow-add 2 (8 * k) d, mul-le-mul-right (2 ^ d) (p .head), p .small)

@@ -10,23 +10,23 @@ use lib.ListN.{length, getD}
 use borrow.Author.Tests.{eqb-true, eq-eqb, ne-eqb}
 use Rattle.logic.specs.Cases.{same}
 use Rattle.logic.specs.Bools.{and-to, and-from}
-use Rattle.logic.specs.Tells.{Tells, tells-eq, tells-and, tells-all, tells-as, all-from, all-to}
+use Rattle.logic.specs.Reflects.{Reflects, reflects-eq, reflects-and, reflects-all, reflects-as, all-from, all-to}
 use Rattle.sizes.specs.Sizes.{arrayWords, leastWords, mostWords, cellCount, cellsAt, unusedAt, arrayAt}
 use Rattle.sizes.specs.Sizes.{wordAt, cellAt, levelBound, groupCount, restAt, restWords}
 use Rattle.array.specs.Cell.{link-blank}
 use Rattle.array.specs.Right.{Right}
 use Rattle.array.specs.Check.{zeroAt, rightB, emptyB}
-use Rattle.array.specs.Decides.{right-tells, full-tells}
+use Rattle.array.specs.CheckReflects.{right-reflects, full-reflects}
 use Rattle.tree.specs.Arrays.{Arrays, lev, usedIn, usedOf}
-use Rattle.tree.specs.Shape.{Child, Hung, HasSlot, HasLink}
+use Rattle.tree.specs.Shape.{Child, ParentLinks, HasSlot, HasLink}
 use Rattle.words.specs.Words.{arraysOf, arrayCount, slotsOf, bestsOf}
-use Rattle.words.specs.Almost.{Header, Table}
-use Rattle.tree.specs.Check.{linksB, hungB, links-tells, hung-tells}
+use Rattle.words.specs.TableBut.{Header, Table}
+use Rattle.tree.specs.Check.{linksB, parentLinksB, links-reflects, parent-links-reflects}
 use Rattle.words.specs.Table.{arrayB, groupB, headerB, tableB}
 
 -- something in an array
-pub some-tells : (t : Arrays) (a : ℕ) → Tells (not (emptyB (t .slot a) (t .link a))) (HasSlot t a ⊎ HasLink t a)
-some-tells t a = full-tells (t .slot a) (t .link a)
+pub some-reflects : (t : Arrays) (a : ℕ) → Reflects (not (emptyB (t .slot a) (t .link a))) (HasSlot t a ⊎ HasLink t a)
+some-reflects t a = full-reflects (t .slot a) (t .link a)
 
 -- ---- one array
 
@@ -39,7 +39,7 @@ record Used (L : ℕ) (ws : List ℕ) (a : ℕ) : Type 0 where
   pub right : Right (lev (arraysOf ws) a) (slotsOf ws a) (bestsOf ws a)
   pub links : (i : ℕ) → i < cellCount
       → (arraysOf ws .link a i ≡ 0) ⊎ Child (arrayCount ws) L (arraysOf ws) a i (arraysOf ws .link a i)
-  pub hung : a ≢ 1 → Hung (arrayCount ws) (arraysOf ws) a
+  pub hung : a ≢ 1 → ParentLinks (arrayCount ws) (arraysOf ws) a
   pub some : a ≢ 1 → HasSlot (arraysOf ws) a ⊎ HasLink (arraysOf ws) a
 
 module _ (L : ℕ) (ws : List ℕ) (a : ℕ) where
@@ -50,7 +50,7 @@ module _ (L : ℕ) (ws : List ℕ) (a : ℕ) where
   A = arrayCount ws
 
   abbrev placed : Bool
-  placed = hungB A t a && not (emptyB (slotsOf ws a) (t .link a))
+  placed = parentLinksB A t a && not (emptyB (slotsOf ws a) (t .link a))
 
   abbrev usedB : Bool
   usedB = rightB (lev t a) (slotsOf ws a) (bestsOf ws a) && (linksB A L t a && (eqb a 1 || placed))
@@ -61,26 +61,26 @@ module _ (L : ℕ) (ws : List ℕ) (a : ℕ) where
       let y = and-to (linksB A L t a) (eqb a 1 || placed) (x .1) in
       record {
         tag = n;
-        right = right-tells (lev t a) (slotsOf ws a) (bestsOf ws a) .to (x .0);
-        links = links-tells A L t a .to (y .0);
-        hung = λ m. ⊎-elim (λ (z : t .tag a ≡ 0). absurd (n z)) (λ (z : Hung A t a). z) (hung-tells A t a .to (rest m (y .1) .0));
-        some = λ m. some-tells t a .to (rest m (y .1) .1);
+        right = right-reflects (lev t a) (slotsOf ws a) (bestsOf ws a) .to (x .0);
+        links = links-reflects A L t a .to (y .0);
+        hung = λ m. ⊎-elim (λ (z : t .tag a ≡ 0). absurd (n z)) (λ (z : ParentLinks A t a). z) (parent-links-reflects A t a .to (rest m (y .1) .0));
+        some = λ m. some-reflects t a .to (rest m (y .1) .1);
       }
     where
-      rest : a ≢ 1 → (eqb a 1 || placed) ≡ true → (hungB A t a ≡ true) × (not (emptyB (slotsOf ws a) (t .link a)) ≡ true)
-      rest m e = and-to (hungB A t a) (not (emptyB (slotsOf ws a) (t .link a))) (rw (ne-eqb a 1 m) at e)
+      rest : a ≢ 1 → (eqb a 1 || placed) ≡ true → (parentLinksB A t a ≡ true) × (not (emptyB (slotsOf ws a) (t .link a)) ≡ true)
+      rest m e = and-to (parentLinksB A t a) (not (emptyB (slotsOf ws a) (t .link a))) (rw (ne-eqb a 1 m) at e)
 
   used-from : Used L ws a → usedB ≡ true
   used-from x =
       and-from (rightB (lev t a) (slotsOf ws a) (bestsOf ws a)) (linksB A L t a && (eqb a 1 || placed))
-      (right-tells (lev t a) (slotsOf ws a) (bestsOf ws a) .from (x .right))
-      (and-from (linksB A L t a) (eqb a 1 || placed) (links-tells A L t a .from (x .links))
-      (same a 1 (λ q e. rw e) (λ n e. rw e (and-from (hungB A t a) (not (emptyB (slotsOf ws a) (t .link a)))
-      (hung-tells A t a .from (inr (x .hung n))) (some-tells t a .from (x .some n))))))
+      (right-reflects (lev t a) (slotsOf ws a) (bestsOf ws a) .from (x .right))
+      (and-from (linksB A L t a) (eqb a 1 || placed) (links-reflects A L t a .from (x .links))
+      (same a 1 (λ q e. rw e) (λ n e. rw e (and-from (parentLinksB A t a) (not (emptyB (slotsOf ws a) (t .link a)))
+      (parent-links-reflects A t a .from (inr (x .hung n))) (some-reflects t a .from (x .some n))))))
 
-  array-tells : Tells (arrayB L ws a) (Free ws a ⊎ Used L ws a)
+  array-reflects : Reflects (arrayB L ws a) (Free ws a ⊎ Used L ws a)
   unfolding arrayB
-  array-tells =
+  array-reflects =
       same (getD ws (arrayAt a) 0) 0
       (λ z e. rw e (record {
         to = λ b. inl (record { tag = z; blank = λ k h. eqb-true _ 0 (all-to (zeroAt ws (arrayAt a)) unusedAt b k h) });
@@ -97,21 +97,21 @@ module _ (L : ℕ) (ws : List ℕ) (a : ℕ) where
 abbrev Rest : List ℕ → Type 0
 Rest ws = (k : ℕ) → restAt ≤ k → k < arrayWords → getD ws k 0 ≡ 0
 
-header-tells : (ws : List ℕ) → Tells (headerB ws) (Header ws × Rest ws)
+header-reflects : (ws : List ℕ) → Reflects (headerB ws) (Header ws × Rest ws)
 unfolding headerB groupB
-header-tells ws =
-    tells-as
+header-reflects ws =
+    reflects-as
     (λ z. (
       record { count = z .0; groups = z .1 .0 },
       λ k h w. let e : restAt + (k - restAt) ≡ k = omega arith in
           rw e at (z .1 .1 (k - restAt) (omega arith)),
     ))
     (λ z. (z .0 .count, (z .0 .groups, λ k h. z .1 (restAt + k) (omega arith) (omega arith))))
-    (tells-and (tells-eq (getD ws 0 0) (usedIn (arraysOf ws) 0 (arrayCount ws)))
-    (tells-and
-    (tells-all (groupB ws) (λ g. getD ws (g + 1) 0 ≡ usedOf (arraysOf ws) g) groupCount
-    (λ g h. tells-eq (getD ws (g + 1) 0) (usedOf (arraysOf ws) g)))
-    (tells-all (zeroAt ws restAt) (λ k. getD ws (restAt + k) 0 ≡ 0) restWords (λ k h. tells-eq (getD ws (restAt + k) 0) 0))))
+    (reflects-and (reflects-eq (getD ws 0 0) (usedIn (arraysOf ws) 0 (arrayCount ws)))
+    (reflects-and
+    (reflects-all (groupB ws) (λ g. getD ws (g + 1) 0 ≡ usedOf (arraysOf ws) g) groupCount
+    (λ g h. reflects-eq (getD ws (g + 1) 0) (usedOf (arraysOf ws) g)))
+    (reflects-all (zeroAt ws restAt) (λ k. getD ws (restAt + k) 0 ≡ 0) restWords (λ k h. reflects-eq (getD ws (restAt + k) 0) 0))))
 
 -- n words make a table's size
 pub record Fits (n : ℕ) : Type 0 where
@@ -163,18 +163,18 @@ module _ (L : ℕ) (ws : List ℕ) (some : 1 ≤ L) (levels : L < levelBound) (s
         links = λ i b. k .shape .links (j + 1) i (omega arith) (omega arith) b;
         hung =
             λ e. ⊎-elim (λ (z : arraysOf ws .tag (j + 1) ≡ 0). absurd (m z))
-            (λ (z : Hung (arrayCount ws) (arraysOf ws) (j + 1)). z) (k .shape .tags (j + 1) (omega arith) (omega arith));
+            (λ (z : ParentLinks (arrayCount ws) (arraysOf ws) (j + 1)). z) (k .shape .tags (j + 1) (omega arith) (omega arith));
         some = λ e. k .filled (j + 1) (omega arith) (omega arith) (λ q. omega arith) (omega arith);
       }))
 
   -- the check is true exactly of a table
-  pub table-tells : Tells (tableB L ws) (Table L ws)
+  pub table-reflects : Reflects (tableB L ws) (Table L ws)
   unfolding tableB
-  table-tells =
-      tells-as
+  table-reflects =
+      reflects-as
       (λ z. to-table (z .0) (z .1 .0) (z .1 .1))
       (λ k. (k .shape .root, ((k .header, k .rest), from-table k)))
-      (tells-and (tells-eq (getD ws arrayWords 0) 1)
-      (tells-and (header-tells ws)
-      (tells-all (λ j. arrayB L ws (j + 1)) (λ j. Free ws (j + 1) ⊎ Used L ws (j + 1)) (arrayCount ws)
-      (λ j h. array-tells L ws (j + 1)))))
+      (reflects-and (reflects-eq (getD ws arrayWords 0) 1)
+      (reflects-and (header-reflects ws)
+      (reflects-all (λ j. arrayB L ws (j + 1)) (λ j. Free ws (j + 1) ⊎ Used L ws (j + 1)) (arrayCount ws)
+      (λ j h. array-reflects L ws (j + 1)))))

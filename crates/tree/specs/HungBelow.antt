@@ -9,12 +9,12 @@ use Rattle.sizes.specs.Sizes.{slotEnd, cellCount, levelBound}
 use Rattle.routes.specs.Room.{level}
 use Rattle.array.specs.Tag.{tagOf, levelIn}
 use Rattle.tree.specs.Arrays.{Arrays, par, cell, lev, down, at, node, depthOf, slotOf, held, usedIn}
-use Rattle.tree.specs.Shape.{Child, Hung, Shape, HasSlot, HasLink, Filled}
+use Rattle.tree.specs.Shape.{Child, ParentLinks, Shape, HasSlot, HasLink, Filled}
 use Rattle.tree.specs.Tree.{decode, down-some, down-zero}
 use Rattle.tree.specs.Need.{at-some, slot-some, slot-within}
 
 -- u is t with the empty array a hung below cell i of p
-pub record Hang (A L : ℕ) (t u : Arrays) (p i a : ℕ) : Type 0 where
+pub record HungBelow (A L : ℕ) (t u : Arrays) (p i a : ℕ) : Type 0 where
   pub some : 2 ≤ a
   pub within : a ≤ A
   pub parent : 1 ≤ p
@@ -36,7 +36,7 @@ pub record Hang (A L : ℕ) (t u : Arrays) (p i a : ℕ) : Type 0 where
 pub cell-cases : {P : Type 0} (c j p i : ℕ) → (c ≡ p → j ≡ i → P) → ((c ≢ p) ⊎ (j ≢ i) → P) → P
 cell-cases c j p i x y = same c p (λ e _. same j i (λ d _. x e d) (λ n _. y (inr n))) (λ n _. y (inl n))
 
-module _ (A L : ℕ) (t u : Arrays) (p i a : ℕ) (h : Hang A L t u p i a) where
+module _ (A L : ℕ) (t u : Arrays) (p i a : ℕ) (h : HungBelow A L t u p i a) where
   pub other : p ≢ a
   other e = let z : t .tag p ≡ t .tag a = ap (t .tag) e in omega (arith, h .used, h .free)
 
@@ -71,7 +71,7 @@ module _ (A L : ℕ) (t u : Arrays) (p i a : ℕ) (h : Hang A L t u p i a) where
           within = rw (par-is (s .levels)) (h .inside);
           back = rw (par-is (s .levels), cell-is (s .levels)) (h .on);
         })))
-        (λ n _. ⊎-elim (λ (z : t .tag c ≡ 0). inl (h .tags c (omega arith) n ∙ z)) (λ (z : Hung A t c). inr (hung-keeps c k n z))
+        (λ n _. ⊎-elim (λ (z : t .tag c ≡ 0). inl (h .tags c (omega arith) n ∙ z)) (λ (z : ParentLinks A t c). inr (hung-keeps c k n z))
         (s .tags c k w));
   }
     where
@@ -88,7 +88,7 @@ module _ (A L : ℕ) (t u : Arrays) (p i a : ℕ) (h : Hang A L t u p i a) where
             named = rw (lev-same c k n) (h .tags (t .link c j) (z .some) m ∙ z .named);
           }
 
-      hung-keeps : (c : ℕ) → 2 ≤ c → c ≢ a → Hung A t c → Hung A u c
+      hung-keeps : (c : ℕ) → 2 ≤ c → c ≢ a → ParentLinks A t c → ParentLinks A u c
       hung-keeps c k n z =
           let e : u .tag c ≡ t .tag c = h .tags c (omega arith) n in
           record {
@@ -113,7 +113,7 @@ module _ (A L : ℕ) (t u : Arrays) (p i a : ℕ) (h : Hang A L t u p i a) where
     tags = λ c k w. same c a
         (λ e _. rw e (inl (h .free)))
         (λ n _. ⊎-elim (λ (z : u .tag c ≡ 0). inl (sym (h .tags c (omega arith) n) ∙ z))
-        (λ (z : Hung A u c). inr (hung-keeps c k n z)) (s .tags c k w));
+        (λ (z : ParentLinks A u c). inr (hung-keeps c k n z)) (s .tags c k w));
   }
     where
       keeps : (c j : ℕ) → 1 ≤ c → j < cellCount → (c ≢ p) ⊎ (j ≢ i) → Child A L u c j (u .link c j)
@@ -137,7 +137,7 @@ module _ (A L : ℕ) (t u : Arrays) (p i a : ℕ) (h : Hang A L t u p i a) where
               (omega (arith, h .deep, s .levels)) e in
               ⊎-elim (λ (m : c ≢ p). m (d .0)) (λ (m : j ≢ i). m (d .1)) ne
 
-      hung-keeps : (c : ℕ) → 2 ≤ c → c ≢ a → Hung A u c → Hung A t c
+      hung-keeps : (c : ℕ) → 2 ≤ c → c ≢ a → ParentLinks A u c → ParentLinks A t c
       hung-keeps c k n z =
           let e : u .tag c ≡ t .tag c = h .tags c (omega arith) n in
           record {

@@ -12,11 +12,11 @@ use Rattle.array.specs.Right.{Right, right-ext}
 use Rattle.tree.specs.Arrays.{Arrays, lev, usedIn}
 use Rattle.tree.specs.Shape.{HasSlot, HasLink}
 use Rattle.words.specs.Words.{arraysOf, arrayCount, slotsOf, bestsOf}
-use Rattle.words.specs.Almost.{Almost}
-use Rattle.tree.specs.Slot.{Slotted, same-shape}
+use Rattle.words.specs.TableBut.{TableBut}
+use Rattle.tree.specs.SlotSet.{TreeSlotSet, same-shape}
 
 -- vs is ws but for slot s of array a, which holds h, and a's best cells
-pub record Reslot (ws vs : List ℕ) (a s h : ℕ) : Type 0 where
+pub record SlotSet (ws vs : List ℕ) (a s h : ℕ) : Type 0 where
   pub size : length vs ≡ length ws
   pub outside : (k : ℕ) → (k < arrayAt a) ⊎ (arrayAt (a + 1) ≤ k) → getD vs k 0 ≡ getD ws k 0
   pub tag : getD vs (arrayAt a) 0 ≡ getD ws (arrayAt a) 0
@@ -26,8 +26,8 @@ pub record Reslot (ws vs : List ℕ) (a s h : ℕ) : Type 0 where
   pub right : Right (lev (arraysOf vs) a) (slotsOf vs a) (bestsOf vs a)
 
 -- a table is one but for any array
-pub almost-loose : (L e : ℕ) (ws : List ℕ) → Almost L 0 ws → Almost L e ws
-almost-loose L e ws o = record {
+pub table-is-but : (L e : ℕ) (ws : List ℕ) → TableBut L 0 ws → TableBut L e ws
+table-is-but L e ws o = record {
   whole = o .whole;
   low = o .low;
   high = o .high;
@@ -40,9 +40,9 @@ almost-loose L e ws o = record {
 }
 
 -- nothing may be empty
-pub almost-whole : (L e : ℕ) (ws : List ℕ) → Almost L e ws
-    → (2 ≤ e → HasSlot (arraysOf ws) e ⊎ HasLink (arraysOf ws) e) → Almost L 0 ws
-almost-whole L e ws o f = record {
+pub but-is-table : (L e : ℕ) (ws : List ℕ) → TableBut L e ws
+    → (2 ≤ e → HasSlot (arraysOf ws) e ⊎ HasLink (arraysOf ws) e) → TableBut L 0 ws
+but-is-table L e ws o f = record {
   whole = o .whole;
   low = o .low;
   high = o .high;
@@ -54,7 +54,7 @@ almost-whole L e ws o f = record {
   rest = o .rest;
 }
 
-module _ (L e : ℕ) (ws vs : List ℕ) (a s h : ℕ) (some : 1 ≤ a) (g : Reslot ws vs a s h) where
+module _ (L e : ℕ) (ws vs : List ℕ) (a s h : ℕ) (some : 1 ≤ a) (g : SlotSet ws vs a s h) where
   abbrev t : Arrays
   t = arraysOf ws
 
@@ -76,8 +76,8 @@ module _ (L e : ℕ) (ws vs : List ℕ) (a s h : ℕ) (some : 1 ≤ a) (g : Resl
   links c i k w =
       same c a (λ q _. rw q (g .links i w)) (λ n _. ap linkIn (cell c i n w))
 
-  pub reslot-slotted : Slotted t u a s h
-  reslot-slotted = record {
+  pub slot-set-tree : TreeSlotSet t u a s h
+  slot-set-tree = record {
     tags = tags;
     links = links;
     here = g .here;
@@ -91,8 +91,8 @@ module _ (L e : ℕ) (ws vs : List ℕ) (a s h : ℕ) (some : 1 ≤ a) (g : Resl
   used-same lo (suc n) = rw (tags (lo + suc n) (omega arith), used-same lo n)
 
   -- a table but for a
-  pub reslot-almost : Almost L e ws → (e ≡ 0) ⊎ (e ≡ a) → 1 ≤ getD ws (arrayAt a) 0 → Almost L a vs
-  reslot-almost o ea us = record {
+  pub slot-set-table-but : TableBut L e ws → (e ≡ 0) ⊎ (e ≡ a) → 1 ≤ getD ws (arrayAt a) 0 → TableBut L a vs
+  slot-set-table-but o ea us = record {
     whole = rw (g .size) (o .whole);
     low = rw (g .size) (o .low);
     high = rw (g .size) (o .high);

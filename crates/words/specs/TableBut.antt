@@ -15,7 +15,7 @@ pub record Header (ws : List ℕ) : Type 0 where
   pub groups : (g : ℕ) → g < groupCount → getD ws (g + 1) 0 ≡ usedOf (arraysOf ws) g
 
 -- a table but for the array e, that may be empty (e ≡ 0: a table)
-pub record Almost (L e : ℕ) (ws : List ℕ) : Type 0 where
+pub record TableBut (L e : ℕ) (ws : List ℕ) : Type 0 where
   pub whole : length ws % arrayWords ≡ 0
   pub low : leastWords ≤ length ws
   pub high : length ws ≤ mostWords
@@ -30,4 +30,4 @@ pub record Almost (L e : ℕ) (ws : List ℕ) : Type 0 where
 
 -- a table of L levels
 abbrev pub Table : ℕ → List ℕ → Type 0
-Table L ws = Almost L 0 ws
+Table L ws = TableBut L 0 ws
