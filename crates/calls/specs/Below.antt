@@ -55,7 +55,8 @@ clear-back : (a : Answer (Unit {0})) → audit.clearAnswer (asCleared a) ≡ a
 clear-back (gives u) = refl
 clear-back (refuses n) = refl
 
-pub clear-below : (ws vs : List ℕ) (n : ℕ) → HasCleared ws vs n → Below (λ r. refusal (audit.clearAnswer r)) (audit.HasCleared 4 ws vs) n
+pub clear-below : (ws vs : List ℕ) (n : ℕ) → HasCleared ws vs n
+    → Below (λ r. refusal (audit.clearAnswer r)) (audit.HasCleared 4 ws vs) n
 clear-below ws vs n p =
     let e = clear-back (clearOn (length ws)) in
     record {

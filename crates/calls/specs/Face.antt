@@ -94,7 +94,8 @@ pub record AgreeBuilt (bytes ws vs vs′ : List ℕ) (r r′ : Built) : Type 0 w
   pub words : By (buildOn (listedIn bytes) (length ws)) → vs ≡ vs′
   pub alike : (rs : List Route) → listedIn bytes ≡ listed rs → Alike (wordsFor rs) vs vs′
 
-pub copy-build-agrees : (bytes ws vs vs′ : List ℕ) (r r′ : Built) → Bytes bytes → HasBuilt bytes ws vs r → HasBuilt bytes ws vs′ r′
+pub copy-build-agrees : (bytes ws vs vs′ : List ℕ) (r r′ : Built) → Bytes bytes → HasBuilt bytes ws vs r
+    → HasBuilt bytes ws vs′ r′
     → AgreeBuilt bytes ws vs vs′ r r′
 copy-build-agrees bytes ws vs vs′ r r′ b p q = record {
   answer = p .answer ∙ sym (q .answer);

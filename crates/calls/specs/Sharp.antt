@@ -31,7 +31,8 @@ use Rattle.feed.specs.Series.{Series, all-answered}
 
 -- ---- clear, check
 
-pub clear-agrees : (ws vs vs′ : List ℕ) (r r′ : Cleared) → HasCleared 4 ws vs r → HasCleared 4 ws vs′ r′ → audit.Agree 4 vs vs′ r r′
+pub clear-agrees : (ws vs vs′ : List ℕ) (r r′ : Cleared) → HasCleared 4 ws vs r → HasCleared 4 ws vs′ r′
+    → audit.Agree 4 vs vs′ r r′
 clear-agrees ws vs vs′ r r′ p q = audit.clear-sharp 4 ws vs vs′ r r′ p q
 
 pub check-agrees : (ws : List ℕ) (r r′ : Checked) → checkAnswer r ≡ checkOn 32 (seen 4 ws)
@@ -46,12 +47,14 @@ lookup-agrees ws a r r′ p q = reply-one r r′ (p ∙ sym q)
 
 -- ---- announce, withdraw
 
-pub update-agrees : (ws : List ℕ) (u : Update) (vs vs′ : List ℕ) (r r′ : code.Reply) → HasUpdated 4 ws vs u r → HasUpdated 4 ws vs′ u r′
+pub update-agrees : (ws : List ℕ) (u : Update) (vs vs′ : List ℕ) (r r′ : code.Reply) → HasUpdated 4 ws vs u r
+    → HasUpdated 4 ws vs′ u r′
     → update.Agree 4 vs vs′ r r′
 update-agrees ws u vs vs′ r r′ p q = update.sharp 4 ws vs vs′ u r r′ p q
 
 -- the work after the check, on a table
-pub work-agrees : (ws : List ℕ) (u : Update) (vs vs′ : List ℕ) (r r′ : code.Reply) → HasApplied 4 ws vs u r → HasApplied 4 ws vs′ u r′
+pub work-agrees : (ws : List ℕ) (u : Update) (vs vs′ : List ℕ) (r r′ : code.Reply) → HasApplied 4 ws vs u r
+    → HasApplied 4 ws vs′ u r′
     → update.Agree 4 vs vs′ r r′
 work-agrees ws u vs vs′ r r′ p q =
     let e : r ≡ r′ = reply-one r r′ (p .answer ∙ sym (q .answer)) in

@@ -10,7 +10,8 @@ use Rattle.sizes.specs.Sizes.{cellCount}
 use Rattle.array.specs.Tag.{tagOf}
 use Rattle.tree.specs.Arrays.{Arrays, par, cell, lev}
 use Rattle.tree.specs.Shape.{Child, ParentLinks}
-use Rattle.logic.specs.Reflects.{Reflects, reflects-eq, reflects-le, reflects-lt, reflects-and, reflects-or, reflects-as, reflects-all}
+use Rattle.logic.specs.Reflects.{Reflects, reflects-eq, reflects-le, reflects-lt, reflects-and, reflects-or, reflects-as}
+use Rattle.logic.specs.Reflects.{reflects-all}
 use Rattle.logic.specs.Every.{allB}
 
 abbrev childB : ℕ → ℕ → Arrays → ℕ → ℕ → ℕ → Bool
@@ -66,4 +67,5 @@ pub links-reflects : (A L : ℕ) (t : Arrays) (a : ℕ)
     → Reflects (linksB A L t a) ((i : ℕ) → i < cellCount → (t .link a i ≡ 0) ⊎ Child A L t a i (t .link a i))
 unfolding linksB
 links-reflects A L t a =
-    reflects-all (linkB A L t a) (λ i. (t .link a i ≡ 0) ⊎ Child A L t a i (t .link a i)) cellCount (λ i h. link-reflects A L t a i)
+    reflects-all (linkB A L t a) (λ i. (t .link a i ≡ 0) ⊎ Child A L t a i (t .link a i)) cellCount
+    (λ i h. link-reflects A L t a i)

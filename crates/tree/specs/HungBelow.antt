@@ -71,7 +71,8 @@ module _ (A L : ℕ) (t u : Arrays) (p i a : ℕ) (h : HungBelow A L t u p i a) 
           within = rw (par-is (s .levels)) (h .inside);
           back = rw (par-is (s .levels), cell-is (s .levels)) (h .on);
         })))
-        (λ n _. ⊎-elim (λ (z : t .tag c ≡ 0). inl (h .tags c (omega arith) n ∙ z)) (λ (z : ParentLinks A t c). inr (hung-keeps c k n z))
+        (λ n _. ⊎-elim (λ (z : t .tag c ≡ 0). inl (h .tags c (omega arith) n ∙ z))
+        (λ (z : ParentLinks A t c). inr (hung-keeps c k n z))
         (s .tags c k w));
   }
     where

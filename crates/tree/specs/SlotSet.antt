@@ -163,7 +163,8 @@ module _ (A L : ℕ) (t u : Arrays) (b q k d x h : ℕ) (s : Shape A L t) (p : P
   pub slot-set-insert : (W : ℕ) → W < 256 → 8 * k + d ≤ W → 0 < h
       → routes W (held u) ≡ insert (routeOf (W - (8 * k + d)) (q * 2 ^ d + x) (8 * k + d) h) (routes W (held t))
   slot-set-insert W w f z =
-      routes-insert W w (held t) (held u) (q * 2 ^ d + x) (8 * k + d) f fits (slot-set-off W) (rw slot-set-here z) ∙ rw slot-set-here
+      routes-insert W w (held t) (held u) (q * 2 ^ d + x) (8 * k + d) f fits (slot-set-off W) (rw slot-set-here z)
+      ∙ rw slot-set-here
     where
       fits : q * 2 ^ d + x < 2 ^ (8 * k + d)
       fits = omega (arith, pow-add 2 (8 * k) d, mul-le-mul-right (2 ^ d) (p .head), p .small)

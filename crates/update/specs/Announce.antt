@@ -156,7 +156,8 @@ module _ {L : ℕ} {ws : List ℕ} {a l k d x j b g : ℕ} (s : Sought L ws a l 
 
           almost : TableBut L r us
           almost =
-              slot-set-table-but L r vs us r (2 ^ d + x) h (grown .some) (p .slot) (grown .ok) (inr refl) (omega (arith, lv .level))
+              slot-set-table-but L r vs us r (2 ^ d + x) h (grown .some) (p .slot) (grown .ok) (inr refl)
+              (omega (arith, lv .level))
 
           slotted : TreeSlotSet (arraysOf vs) (arraysOf us) r (2 ^ d + x) h
           slotted = slot-set-tree L r vs us r (2 ^ d + x) h (grown .some) (p .slot)

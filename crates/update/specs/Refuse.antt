@@ -31,7 +31,8 @@ unaccepted W foreign u e = refl
 unaccepted W (table A rs) u e = rw e
 
 -- a refusal that leaves the words
-refuses : (L : ℕ) (ws : List ℕ) (u : Update) (n : ℕ) → answerOn (8 * L) (seen L ws) u ≡ refused n → HasUpdated L ws ws u (Refused n)
+refuses : (L : ℕ) (ws : List ℕ) (u : Update) (n : ℕ) → answerOn (8 * L) (seen L ws) u ≡ refused n
+    → HasUpdated L ws ws u (Refused n)
 refuses L ws u n e =
     let l = sym (unaccepted (8 * L) (seen L ws) u (ap isDone e)) in
     record { answer = sym e; list = l; kept = λ _. refl; still = λ _. refl; frame = λ c h n w b. refl }

@@ -15,7 +15,8 @@ pub record Agree (L : ℕ) (vs us : List ℕ) (r s : Reply) : Type 0 where
   pub seen : seen L vs ≡ seen L us
   pub words : isRefused (saidReply r) ≡ true → vs ≡ us
 
-pub sharp : (L : ℕ) (ws vs us : List ℕ) (u : Update) (r s : Reply) → HasUpdated L ws vs u r → HasUpdated L ws us u s → Agree L vs us r s
+pub sharp : (L : ℕ) (ws vs us : List ℕ) (u : Update) (r s : Reply) → HasUpdated L ws vs u r → HasUpdated L ws us u s
+    → Agree L vs us r s
 sharp L ws vs us u r s p q =
     let e : r ≡ s = reply-one r s (p .answer ∙ sym (q .answer)) in
     record { answer = e; seen = p .list ∙ sym (q .list); words = λ z. p .kept z ∙ sym (q .kept (rw e at z)) }

@@ -63,7 +63,9 @@ module _ (L : ℕ) (ws : List ℕ) (a : ℕ) where
         tag = n;
         right = right-reflects (lev t a) (slotsOf ws a) (bestsOf ws a) .to (x .0);
         links = links-reflects A L t a .to (y .0);
-        hung = λ m. ⊎-elim (λ (z : t .tag a ≡ 0). absurd (n z)) (λ (z : ParentLinks A t a). z) (parent-links-reflects A t a .to (rest m (y .1) .0));
+        hung =
+            λ m. ⊎-elim (λ (z : t .tag a ≡ 0). absurd (n z)) (λ (z : ParentLinks A t a). z)
+            (parent-links-reflects A t a .to (rest m (y .1) .0));
         some = λ m. some-reflects t a .to (rest m (y .1) .1);
       }
     where
@@ -111,7 +113,8 @@ header-reflects ws =
     (reflects-and
     (reflects-all (groupB ws) (λ g. getD ws (g + 1) 0 ≡ usedOf (arraysOf ws) g) groupCount
     (λ g h. reflects-eq (getD ws (g + 1) 0) (usedOf (arraysOf ws) g)))
-    (reflects-all (zeroAt ws restAt) (λ k. getD ws (restAt + k) 0 ≡ 0) restWords (λ k h. reflects-eq (getD ws (restAt + k) 0) 0))))
+    (reflects-all (zeroAt ws restAt) (λ k. getD ws (restAt + k) 0 ≡ 0) restWords
+    (λ k h. reflects-eq (getD ws (restAt + k) 0) 0))))
 
 -- n words make a table's size
 pub record Fits (n : ℕ) : Type 0 where
