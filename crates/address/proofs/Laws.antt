@@ -1,6 +1,7 @@
 -- What the loops and returns of `address` ask, over plain numbers and lists. Assumes nothing.
 use mathlib.Core.Path.{_≡_, sym, ap, ap₂, _∙_}
-use mathlib.Core.Bool.{true, false, not}
+use mathlib.Core.Logic.{_≢_}
+use mathlib.Core.Bool.{Bool, true, false, not}
 use mathlib.Core.List.{List}
 use Prim.Native.Nat.{ℕ, _+_, _-_, _*_, _/_, _%_, _^_, _≤_, _<_}
 use native.Mathlib.Nat.{mod-one, zero-mul, mul-le-mul-right}
@@ -8,7 +9,8 @@ use native.Mathlib.Omega.{arith}
 use lib.Dec.{eqb}
 use lib.ListN.{length, getD, drop}
 use lib.Pow.{pow-pos, mod-pow-add, mod-mod-pow}
-use borrow.Author.Tests.{eq-eqb, ne-eqb}
+use borrow.Author.Tests.{eq-eqb, ne-eqb, eqb-true, eqb-false}
+use Rattle.logic.specs.Bools.{not-true, not-false}
 use Rattle.routes.specs.Route.{stray}
 use Rattle.numbers.specs.Number.{number, AreBytes, number-byte, number-rest, number-some, number-end}
 
@@ -50,17 +52,23 @@ module _ (bs : List ℕ) (ok : AreBytes bs) (l k : ℕ) (top : l ≤ 8 * length 
       let e : 8 * length bs - l ≡ 0 = omega arith in
       sym (ap not (eq-eqb (number bs % 2 ^ (8 * length bs - l)) 0 (ap (λ (n : ℕ). number bs % 2 ^ n) e ∙ mod-one (number bs))))
 
-  pub stray-here : k < length bs → (getD bs k 0 % 2 ^ (8 - l % 8) ≡ 0 → ⊥) → true ≡ stray (8 * length bs) (number bs) l
+  abbrev here : Bool
+  here = stray 8 (getD bs k 0) (l % 8)
+
+  pub stray-here : k < length bs → here ≡ true → true ≡ stray (8 * length bs) (number bs) l
   stray-here h n =
       let e = 8 * length bs - 8 * (k + 1) in
       let y = getD bs k 0 % 2 ^ (8 - l % 8) in
+      let z : y ≢ 0 = eqb-false y 0 (not-true (eqb y 0) n) in
       let g : 1 * 2 ^ e ≤ y * 2 ^ e = mul-le-mul-right (2 ^ e) (omega arith) in
       sym (ap not (ne-eqb (number bs % 2 ^ (8 * length bs - l)) 0 (λ z. omega (arith, after h, pow-pos e))))
 
-  pub stray-rest : k < length bs → getD bs k 0 % 2 ^ (8 - l % 8) ≡ 0
+  pub stray-rest : k < length bs → here ≡ false
       → not (eqb (number (drop (k + 1) bs)) 0) ≡ stray (8 * length bs) (number bs) l
-  stray-rest h z =
+  stray-rest h n =
       let e = 8 * length bs - 8 * (k + 1) in
+      let y = getD bs k 0 % 2 ^ (8 - l % 8) in
+      let z : y ≡ 0 = eqb-true y 0 (not-false (eqb y 0) n) in
       let f : number bs % 2 ^ (8 * length bs - l) ≡ number (drop (k + 1) bs) =
       after h ∙ ap (λ (n : ℕ). n * 2 ^ e + number (drop (k + 1) bs)) z ∙ omega (arith, zero-mul (2 ^ e)) in
       rw f

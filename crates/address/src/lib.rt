@@ -1,6 +1,6 @@
 // An address as lent bytes, the high one first. It has as many bytes as a table has levels: four in IPv4.
 ghost use mathlib.Core.Path.{_≡_};
-ghost use Prim.Native.Nat.{_+_, _*_, _-_, _%_, _^_, _<_, _≤_};
+ghost use Prim.Native.Nat.{_+_, _*_, _-_, _%_, _<_, _≤_};
 ghost use mathlib.Core.Bool.{not};
 ghost use lib.Dec.{eqb};
 ghost use lib.ListN.{length as size, drop};
@@ -81,15 +81,6 @@ fn set_from(address: &[u8], from: usize) -> bool
     false
 }
 
-// The last s bits of a byte.
-fn low_bits(y: u8, s: u32) -> u32
-    requires { ⌜ s ≤ 8 ⌝ }
-    ensures { λ r. ⌜ r ≡ y % 2 ^ s ⌝ }
-{
-    let p: u32 = 1 << s;
-    y as u32 % p
-}
-
 // Whether a bit after the length is set.
 pub fn stray(address: &[u8], length: u32) -> bool
     requires { ⌜ length ≤ 8 * size (now address) ⌝ }
@@ -99,7 +90,7 @@ pub fn stray(address: &[u8], length: u32) -> bool
     if k == address.len() {
         return false;
     }
-    if low_bits(address[k], 8 - length % 8) != 0 {
+    if numbers::agree::stray_in(address[k], length % 8) {
         return true;
     }
     set_from(address, k + 1)

@@ -13,7 +13,6 @@ use Rattle.lengths.specs.Way.{miss, hit, outside}
 use Rattle.lengths.specs.Marks.{bestAt}
 use Rattle.listing.specs.Listed.{routeAt, listOf}
 use Rattle.laws.specs.Longest.{wfs}
-use lib.Pow.{pow-mono}
 use Rattle.lengths.specs.Layout.{Places, placesOf, start, place, look, find}
 use Rattle.lengths.specs.Hash.{start-lt, place-lt, place-met, Room, Free}
 use Rattle.lengths_build.specs.Filling.{chosen, Filling, Filled, putAt, Put, isMiss, orBelow, below}
@@ -132,9 +131,6 @@ module _ (bs ws : List ℕ) (i m v : ℕ) (b : Bests bs ws i m v) where
 -- ---- a record entered
 
 module _ (k : Bool) (bs ws : List ℕ) (i m o p : ℕ) (f : Filling k bs ws (i + 1) m o p) where
-  pub head-word : routeAt bs i .addr / 2 ^ (32 - m) < 4294967296
-  head-word = omega (arith, head-fits bs (f .list) i (omega (arith, f .upto)) m (f .most), pow-mono {i = m} {j = 32} (f .most))
-
   module _ (c : chosen k m (routeAt bs i .len) ≡ true) (x : ℕ) (xe : x ≡ routeAt bs i .addr / 2 ^ (32 - m)) (b : Bool)
       (e : b ≡ isMiss (find (placesOf ws o) m p x)) where
     pub enter-again : not b ≡ true → Filled k bs ws ws i m o p

@@ -1,25 +1,26 @@
 -- How many words a list needs: the entries of its lengths summed up, and the answer from that. Assumes nothing.
-use mathlib.Core.Path.{_≡_, ap, _∙_}
-use mathlib.Core.Bool.{Bool, true, false, not}
-use mathlib.Core.List.{List}
-use Prim.Native.Nat.{ℕ, _+_, _*_, _≤_}
+use mathlib.Core.Path.{_≡_, refl, sym, _∙_}
+use mathlib.Core.Logic.{_≢_}
+use mathlib.Core.Bool.{Bool, true, false, cond, not}
+use mathlib.Core.List.{List, [], _∷_}
+use Prim.Native.Nat.{ℕ, zero, suc, _+_, _*_, _/_, _≤_}
 use native.Mathlib.Numerals.{add-one}
 use native.Mathlib.Omega.{arith}
 use lib.ListN.{length}
 use lib.Dec.{eqb}
-use borrow.Author.Tests.{le-leb, lt-leb}
-use Rattle.routes.specs.Route.{Route, IsList}
+use borrow.Author.Tests.{eq-eqb, ne-eqb}
+use Rattle.routes.specs.Route.{Route, key, From, IsList}
 use Rattle.routes.specs.Room.{distinct}
 use Rattle.routes.specs.Seen.{gives, refuses}
 use Rattle.logic.specs.Cases.{same}
 use Rattle.logic.specs.Bools.{not-true, not-false}
-use Rattle.laws.specs.Longest.{wfs}
-use Rattle.listing.specs.Listed.{listOf, listedIn}
-use Rattle.listing.specs.Heads.{picks, between, picks-same}
+use Rattle.laws.specs.Longest.{Wfs, wfs}
+use Rattle.listing.specs.Listed.{routeAt, routesFrom, listOf, listedIn}
+use Rattle.listing.specs.Heads.{picks, between}
 use Rattle.listing.specs.Records.{Reads}
 use Rattle.lengths.specs.Layout.{headerWords}
 use Rattle.lengths.specs.Marks.{markers, entries}
-use Rattle.lengths.specs.Entries.{own, tally, entriesTo, own-distinct, entries-all}
+use Rattle.lengths.specs.Entries.{tally, entriesTo, entries-all}
 use Rattle.lengths_build.specs.Answer.{needOn}
 use Rattle.lengths_build.specs.Reach.{reach, entries-reach}
 
@@ -29,18 +30,39 @@ entries-count rs m k a l h j e q = rw (entries-reach m rs h j (wfs 32 rs (l .rou
 
 -- ---- summed up
 
--- the routes of length 0
-zero-only : (n : ℕ) → between 0 0 n ≡ eqb n 0
-zero-only n = same n 0 (λ q e. rw (e, q)) (λ q e. rw (e, lt-leb n 0 (omega arith), le-leb 0 n (omega arith)))
+-- the default route has the key 0: it is the first, or there is none
+default-past : (lo : ℕ) (rs : List Route) → 1 ≤ lo → From lo rs → Wfs 32 rs → tally 0 rs ≡ 0
+default-past lo [] h f w = refl
+default-past lo (r ∷ rs) h f w =
+    same (r .len) 0
+    (λ z _. absurd (omega (arith, f .0, w .0 .inside, rw z at (w .0 .clean))))
+    (λ n e. rw e (default-past (suc (key r)) rs (omega arith) (f .1) (w .1)))
 
-default-own : (rs : List Route) → IsList 32 rs → picks (between 0 0) 0 rs ≡ own 0 rs
-default-own rs l = picks-same (between 0 0) (λ n. eqb n 0) 0 rs (λ n h. zero-only n) (wfs 32 rs (l .routes))
+module _ (bs : List ℕ) where
+  pub default-empty : length bs / 8 ≡ 0 → 0 ≡ tally 0 (listOf bs)
+  unfolding routesFrom
+  default-empty e = rw e
 
-pub total-none : (rs : List Route) (a : ℕ) → IsList 32 rs → a ≡ distinct (picks (between 0 0) 0 rs)
-    → a ≡ entriesTo 0 rs + tally 0 rs
+  default-some : (n : ℕ) → From 0 (routesFrom bs n 0) → Wfs 32 (routesFrom bs n 0) → n ≢ 0
+      → tally 0 (routesFrom bs n 0) ≡ cond (eqb (routeAt bs 0 .len) 0) 1 0
+  unfolding routesFrom
+  default-some zero f w n = absurd (n refl)
+  default-some (suc k) f w n =
+      rw (default-past (suc (key (routeAt bs 0))) (routesFrom bs k 1) (omega arith) (f .1) (w .1))
+
+  module _ (s : IsList 32 (listOf bs)) (n : length bs / 8 ≢ 0) (l : ℕ) (e : l ≡ routeAt bs 0 .len) where
+    first-is : tally 0 (listOf bs) ≡ cond (eqb (routeAt bs 0 .len) 0) 1 0
+    first-is = default-some (length bs / 8) (s .sorted) (wfs 32 (listOf bs) (s .routes)) n
+
+    pub default-absent : l ≢ 0 → 0 ≡ tally 0 (listOf bs)
+    default-absent d = sym (first-is ∙ rw (ne-eqb (routeAt bs 0 .len) 0 (λ z. d (e ∙ z))))
+
+    pub default-there : l ≡ 0 → 1 ≡ tally 0 (listOf bs)
+    default-there z = sym (first-is ∙ rw (eq-eqb (routeAt bs 0 .len) 0 (sym e ∙ z)))
+
+pub total-none : (rs : List Route) (a : ℕ) → a ≡ tally 0 rs → a ≡ entriesTo 0 rs + tally 0 rs
 unfolding entriesTo
-total-none rs a l e =
-    omega (arith, e ∙ ap distinct (default-own rs l), own-distinct 0 0 rs (omega arith) (l .sorted) (wfs 32 rs (l .routes)))
+total-none rs a e = omega arith
 
 pub total-more : (rs : List Route) (m s a : ℕ) → s ≡ entriesTo m rs + tally 0 rs → a ≡ distinct (entries (m + 1) rs)
     → s + a ≡ entriesTo (m + 1) rs + tally 0 rs

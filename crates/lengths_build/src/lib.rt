@@ -9,6 +9,7 @@ ghost use lib.ListN.{length};
 ghost use Rattle.routes.specs.Route.{IsList};
 ghost use Rattle.routes.specs.Room.{distinct};
 ghost use Rattle.lengths.specs.Marks.{bestAt, markers, entries as entriesOf};
+ghost use Rattle.lengths.specs.Entries.{tally};
 ghost use Rattle.listing.specs.Listed.{routeAt, listOf, listedIn};
 ghost use Rattle.listing.specs.Records.{keyBound};
 ghost use Rattle.lengths.specs.Layout.{headerWords, placesOf, find};
@@ -71,12 +72,26 @@ fn entries(bytes: &[u8], m: u32) -> usize
     listing::count(bytes, m, reach(m), m)
 }
 
+// How many default routes the list has: its first record, or none.
+fn defaults(bytes: &[u8]) -> usize
+    requires { ⌜ IsList 32 (listOf (now bytes)) ⌝ }
+    ensures { λ r. ⌜ (r ≡ tally 0 (listOf (now (bytes .entry)))) × (r ≤ 1) ⌝ }
+{
+    if bytes.len() / 8 == 0 {
+        return 0;
+    }
+    if listing::bits(bytes, 0) != 0 {
+        return 0;
+    }
+    1
+}
+
 // The entries of all lengths, and the default route: as many as there are routes and markers.
 fn total(bytes: &[u8]) -> usize
     requires { ⌜ IsList 32 (listOf (now bytes)) ⌝ }
     ensures { λ r. ⌜ (r ≡ length (listOf (now (bytes .entry))) + markers (listOf (now (bytes .entry)))) × (r ≤ 33 * keyBound) ⌝ }
 {
-    let mut sum = listing::count(bytes, 0, 0, 0);
+    let mut sum = defaults(bytes);
     let mut m: u32 = 0;
     while m < 32 {
         m += 1;
@@ -173,7 +188,7 @@ fn enter(bytes: &[u8], words: &mut [u32], marks: bool, i: usize, m: u32, o: usiz
     requires { ⌜ Filling marks (now bytes) (now words) (i + 1) m o p × (chosen marks m (routeAt (now bytes) i .len) ≡ true) ⌝ }
     ensures { λ _. ⌜ Filled marks (now (bytes .entry)) (now (words .entry)) (now (words .exit)) i m o p ⌝ }
 {
-    let v = listing::head(bytes, i, m) as u32;
+    let v = listing::head(bytes, i, m);
     if !absent(words, o, m, p, v) {
         return;
     }

@@ -1,25 +1,56 @@
 -- Heads counted from the last record to the first, as the loop takes them, and the arrays from such counts. Assumes nothing.
 use mathlib.Core.Path.{_≡_, refl, sym, ap, _∙_}
-use mathlib.Core.Bool.{Bool, true, false}
+use mathlib.Core.Logic.{_≢_}
+use mathlib.Core.Bool.{Bool, true, false, cond}
 use mathlib.Core.List.{List, _∷_}
-use Prim.Native.Nat.{ℕ, suc, _+_, _-_, _/_, _^_, _≤_}
+use Prim.Native.Nat.{ℕ, suc, _+_, _-_, _*_, _/_, _^_, _≤_, _<_}
 use native.Mathlib.Numerals.{add-one}
 use native.Mathlib.Omega.{arith}
+use lib.Dec.{eqb}
+use lib.Pow.{shr-le}
+use borrow.Author.Tests.{eq-eqb, ne-eqb, eqb-true, eqb-false}
 use Rattle.routes.specs.Route.{Route, IsList}
 use Rattle.routes.specs.Room.{distinct, need, needTo}
 use Rattle.logic.specs.Cases.{same}
 use Rattle.laws.specs.Longest.{wfs}
 use Rattle.listing.specs.Listed.{routeAt, routesFrom}
-use Rattle.listing.specs.Heads.{picks, between, noHead, Counted, firstOr, heads-picks, count-skip, count-same, count-new}
+use Rattle.listing.specs.Heads.{picks, between, noHead, lastHead, Counted, firstOr, head-low, heads-picks, count-skip}
+use Rattle.listing.specs.Heads.{count-same, count-new}
 use Rattle.listing.specs.Heads.{count-first, distinct-length}
 use Rattle.listing.specs.Records.{keyBound, tail-step, tail-end, tail-list, records-length, list-short}
 
--- what was counted so far, over the records from i on: the count, and the head met last
+-- what was counted so far, over the records from i on: the count, and the address met last
 pub record Counts (P : ℕ → Bool) (m : ℕ) (rs : List Route) (seen last : ℕ) : Type 0 where
   pub count : seen ≡ distinct (picks P m rs)
-  pub first : last ≡ firstOr noHead (picks P m rs)
+  pub first : lastHead m seen last ≡ firstOr noHead (picks P m rs)
 
-pub counts-none : (P : ℕ → Bool) (m n : ℕ) (bs : List ℕ) → Counts P m (routesFrom bs (n - n) n) 0 noHead
+-- ---- one address more: the first, one of the head met last, one of another
+
+module _ (seen a last m : ℕ) where
+  pub counted-first : seen ≡ 0 → a < noHead → Counted seen (a / 2 ^ (32 - m)) (lastHead m seen last) 1
+  counted-first z h = record {
+    same = λ e. omega (arith, shr-le a (32 - m), rw (eq-eqb seen 0 z) at e);
+    more = λ _. omega arith;
+  }
+
+  pub counted-same : eqb (a / 2 ^ (32 - m)) (last / 2 ^ (32 - m)) ≡ true
+      → seen ≢ 0 → Counted seen (a / 2 ^ (32 - m)) (lastHead m seen last) seen
+  counted-same e n = record {
+    same = λ _. refl;
+    more = λ d. absurd (rw (ne-eqb seen 0 n) at d (eqb-true _ _ e));
+  }
+
+  pub counted-new : eqb (a / 2 ^ (32 - m)) (last / 2 ^ (32 - m)) ≡ false → a < noHead
+      → Counted seen (a / 2 ^ (32 - m)) (lastHead m seen last) (seen + 1)
+  counted-new e h =
+      same seen 0
+      (λ z _. (let one : 1 ≡ seen + 1 = omega arith in rw (← one) (counted-first z h)))
+      (λ n _. record {
+        same = λ d. absurd (eqb-false _ _ e (rw (ne-eqb seen 0 n) at d));
+        more = λ _. refl;
+      })
+
+pub counts-none : (P : ℕ → Bool) (m n : ℕ) (bs : List ℕ) → Counts P m (routesFrom bs (n - n) n) 0 0
 counts-none P m n bs = rw (tail-end bs n) (record { count = refl; first = refl })
 
 module _ (P : ℕ → Bool) (m n i j : ℕ) (bs : List ℕ) (e : j + 1 ≡ i) (h : i ≤ n) (l : IsList 32 (routesFrom bs n 0))
@@ -36,19 +67,27 @@ module _ (P : ℕ → Bool) (m n i j : ℕ) (bs : List ℕ) (e : j + 1 ≡ i) (h
             ∙ ap (firstOr noHead) (sym z);
       })
 
-  pub counts-more : (b : Bool) (v r : ℕ) → b ≡ P (routeAt bs j .len) → b ≡ true → v ≡ routeAt bs j .addr / 2 ^ (32 - m)
-      → Counted seen v last r
-      → Counts P m (routesFrom bs (n - j) j) r v
-  counts-more b v r q f a c =
+  pub counts-more : (b : Bool) (a r : ℕ) → b ≡ P (routeAt bs j .len) → b ≡ true → a ≡ routeAt bs j .addr
+      → Counted seen (a / 2 ^ (32 - m)) (lastHead m seen last) r
+      → Counts P m (routesFrom bs (n - j) j) r a
+  counts-more b a r q f ea c =
       let p : P (routeAt bs j .len) ≡ true = sym q ∙ f in
       let x = routeAt bs j in
       let xs = routesFrom bs (n - i) i in
+      let v = a / 2 ^ (32 - m) in
+      let ev : v ≡ x .addr / 2 ^ (32 - m) = rw ea in
+      let low : v < noHead = rw ev (head-low P m x xs list) in
+      let old = lastHead m seen last in
+      let some : r ≢ 0 = λ z. same v old
+      (λ y _. same seen 0 (λ o t. omega (arith, y ∙ ap (λ (w : Bool). cond w noHead (last / 2 ^ (32 - m))) t))
+      (λ o _. omega (arith, c .same y)))
+      (λ y _. omega (arith, c .more y)) in
       rw (tail-step bs n i j e h) (record {
-        count = same v last
-            (λ z _. c .same z ∙ s .count ∙ sym (count-same P m x xs list p (sym a ∙ z ∙ s .first)))
+        count = same v old
+            (λ z _. c .same z ∙ s .count ∙ sym (count-same P m x xs list p (sym ev ∙ z ∙ s .first)))
             (λ z _. c .more z ∙ add-one seen ∙ ap suc (s .count)
-            ∙ sym (count-new P m x xs list p (λ y. z (a ∙ y ∙ sym (s .first)))));
-        first = a ∙ sym (count-first P m x xs list p);
+            ∙ sym (count-new P m x xs list p (λ y. z (ev ∙ y ∙ sym (s .first)))));
+        first = rw (ne-eqb r 0 some) (ev ∙ sym (count-first P m x xs list p));
       })
 
 pub counts-low : (P : ℕ → Bool) (m n i : ℕ) (bs : List ℕ) (seen last : ℕ) → Counts P m (routesFrom bs (n - i) i) seen last
@@ -74,10 +113,17 @@ counts-end P m n i bs seen last h l s =
 
 -- ---- the arrays
 
-pub arrays-need : (rs : List Route) (a b c : ℕ) → IsList 32 rs → a ≡ distinct (picks (between 9 32) 8 rs)
-    → b ≡ distinct (picks (between 17 32) 16 rs) → c ≡ distinct (picks (between 25 32) 24 rs)
-    → 1 + a + b + c ≡ need 32 rs
+pub arrays-none : (rs : List Route) → 1 ≡ needTo 32 0 rs
 unfolding needTo
-arrays-need rs a b c l p q r =
-    let w = wfs 32 rs (l .routes) in
-    rw (heads-picks 8 rs w, heads-picks 16 rs w, heads-picks 24 rs w, p, q, r)
+arrays-none rs = refl
+
+-- those of one level more
+pub arrays-more : (rs : List Route) (sum k j c : ℕ) → IsList 32 rs → sum ≡ needTo 32 k rs → j ≡ k + 1
+    → c ≡ distinct (picks (between (8 * j + 1) 32) (8 * j) rs) → sum + c ≡ needTo 32 j rs
+unfolding needTo
+arrays-more rs sum k j c l e s q =
+    let z : j ≡ suc k = omega arith in
+    rw (z, heads-picks (8 * suc k) rs (wfs 32 rs (l .routes)), e) (ap (λ (n : ℕ). needTo 32 k rs + n) (rw z at q))
+
+pub arrays-all : (rs : List Route) (sum k : ℕ) → sum ≡ needTo 32 k rs → k ≤ 3 → 3 ≤ k → sum ≡ need 32 rs
+arrays-all rs sum k e h l = let z : k ≡ 3 = omega arith in rw z at e

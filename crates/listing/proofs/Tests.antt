@@ -3,12 +3,12 @@ use mathlib.Core.Path.{_≡_, refl, sym, _∙_}
 use mathlib.Core.Logic.{_≢_}
 use mathlib.Core.Bool.{Bool, true, false, not, _&&_, false≢true}
 use mathlib.Core.List.{List}
-use Prim.Native.Nat.{ℕ, _+_, _-_, _*_, _/_, _%_, _^_, _≤_, _<_}
+use Prim.Native.Nat.{ℕ, _+_, _-_, _*_, _/_, _%_, _≤_, _<_}
 use native.Mathlib.Omega.{arith}
 use lib.ListN.{length, getD}
 use lib.Dec.{ltb, leb, eqb}
 use borrow.Author.Tests.{lt-ltb, le-ltb, le-leb, lt-leb, eq-eqb, ne-eqb}
-use Rattle.routes.specs.Route.{route, key}
+use Rattle.routes.specs.Route.{route, key, stray}
 use Rattle.numbers.specs.Digits.{twoAt, fourAt}
 use Rattle.routes.specs.Room.{need}
 use Rattle.logic.specs.Cases.{less}
@@ -25,15 +25,15 @@ module _ (a l h : ℕ) where
   pub route-long : 32 < l → false ≡ routeB (route a l h)
   route-long w = rw (lt-ltb 32 l w)
 
-  pub route-stray : (x : ℕ) → x ≡ a % 2 ^ (32 - l) → l ≤ 32 → x ≢ 0 → false ≡ routeB (route a l h)
-  route-stray x e w n = rw (le-ltb 32 l w, ne-eqb (a % 2 ^ (32 - l)) 0 (λ q. n (e ∙ q)))
+  pub route-stray : (x : Bool) → x ≡ stray 32 a l → l ≤ 32 → x ≡ true → false ≡ routeB (route a l h)
+  route-stray x e w n = rw (le-ltb 32 l w, sym e ∙ n)
 
-  pub route-none : (x : ℕ) → x ≡ a % 2 ^ (32 - l) → l ≤ 32 → x ≡ 0 → h ≡ 0 → false ≡ routeB (route a l h)
-  route-none x e w z q = rw (le-ltb 32 l w, eq-eqb (a % 2 ^ (32 - l)) 0 (sym e ∙ z), eq-eqb h 0 q)
+  pub route-none : (x : Bool) → x ≡ stray 32 a l → l ≤ 32 → x ≡ false → h ≡ 0 → false ≡ routeB (route a l h)
+  route-none x e w z q = rw (le-ltb 32 l w, sym e ∙ z, eq-eqb h 0 q)
 
-  pub route-hop : (x : ℕ) → x ≡ a % 2 ^ (32 - l) → l ≤ 32 → x ≡ 0 → h ≢ 0 → leb h 65535 ≡ routeB (route a l h)
+  pub route-hop : (x : Bool) → x ≡ stray 32 a l → l ≤ 32 → x ≡ false → h ≢ 0 → leb h 65535 ≡ routeB (route a l h)
   route-hop x e w z q =
-      rw (le-ltb 32 l w, eq-eqb (a % 2 ^ (32 - l)) 0 (sym e ∙ z), ne-eqb h 0 q)
+      rw (le-ltb 32 l w, sym e ∙ z, ne-eqb h 0 q)
       (less 65535 h (λ u d. rw (d, lt-leb h 65535 u)) (λ u d. rw (d, le-leb h 65535 u)))
 
 -- ---- a record

@@ -30,6 +30,10 @@ between from to l = leb from l && leb l to
 abbrev pub noHead : ℕ
 noHead = 4294967296
 
+-- the head of the address met last, where one was counted
+abbrev pub lastHead : ℕ → ℕ → ℕ → ℕ
+lastHead m seen last = cond (eqb seen 0) noHead (last / 2 ^ (32 - m))
+
 -- one more, unless v is the one before
 pub record Counted (seen v last r : ℕ) : Type 0 where
   pub same : v ≡ last → r ≡ seen
@@ -102,7 +106,7 @@ module _ (P : ℕ → Bool) (m : ℕ) (r : Route) (rs : List Route) (l : IsList 
   abbrev v : ℕ
   v = r .addr / 2 ^ (32 - m)
 
-  head-low : r .addr / 2 ^ (32 - m) < noHead
+  pub head-low : r .addr / 2 ^ (32 - m) < noHead
   head-low = omega (arith, shr-le (r .addr) (32 - m), l .routes .0 .wf .inside)
 
   rising : Rising v (picks P m rs)

@@ -6,11 +6,8 @@ ghost use lib.ListN.{length};
 ghost use Rattle.routes.specs.Route.{key, route, IsList};
 ghost use Rattle.routes.specs.Room.{distinct, need};
 ghost use Rattle.listing.specs.Listed.{routeAt, listOf, routeB, recordB};
-ghost use Rattle.listing.specs.Heads.{picks, between, Counted};
+ghost use Rattle.listing.specs.Heads.{picks, between, lastHead, Counted};
 ghost use Rattle.listing.specs.Records.{Whole, Reads, keyBound};
-
-// Above every head: before the first there is none.
-const NO_HEAD: u64 = 4294967296;
 
 // ---- numbers of a record
 
@@ -31,19 +28,27 @@ pub fn hop(bytes: &[u8], i: usize) -> u32
     numbers::two_at(bytes, 8 * i + 6)
 }
 
-// The first m bits of the address of record i.
-pub fn head(bytes: &[u8], i: usize, m: u32) -> u64
-    requires { ⌜ (8 * i + 8 ≤ length (now bytes)) × (m ≤ 32) ⌝ }
+// The address of record i.
+fn address(bytes: &[u8], i: usize) -> u32
+    requires { ⌜ 8 * i + 8 ≤ length (now bytes) ⌝ }
+    ensures { λ r. ⌜ r ≡ routeAt (now (bytes .entry)) i .addr ⌝ }
+{
+    numbers::four_at(bytes, 8 * i + 1)
+}
+
+// Its first m bits, as a number.
+pub fn head(bytes: &[u8], i: usize, m: u32) -> u32
+    requires { ⌜ (8 * i + 8 ≤ length (now bytes)) × (1 ≤ m) × (m ≤ 32) ⌝ }
     ensures { λ r. ⌜ r ≡ routeAt (now (bytes .entry)) i .addr / 2 ^ (32 - m) ⌝ }
 {
-    numbers::four_at(bytes, 8 * i + 1) as u64 >> (32 - m)
+    address(bytes, i) >> (32 - m)
 }
 
 fn key_at(bytes: &[u8], i: usize) -> u64
     requires { ⌜ 8 * i + 8 ≤ length (now bytes) ⌝ }
     ensures { λ r. ⌜ r ≡ key (routeAt (now (bytes .entry)) i) ⌝ }
 {
-    numbers::four_at(bytes, 8 * i + 1) as u64 * 256 + bits(bytes, i) as u64
+    address(bytes, i) as u64 * 256 + bits(bytes, i) as u64
 }
 
 // ---- whether the bytes are a list
@@ -54,7 +59,7 @@ fn is_route(address: u32, length: u32, hop: u32) -> bool
     if length > 32 {
         return false;
     }
-    if numbers::low_bits(address, length) != 0 {
+    if numbers::agree::stray(address, length) {
         return false;
     }
     if hop == 0 {
@@ -117,15 +122,18 @@ pub fn is_between(from: u32, to: u32, l: u32) -> bool
     l <= to
 }
 
-// One more, unless the number is the one before.
-fn counted(seen: usize, v: u64, last: u64) -> usize
-    requires { ⌜ seen < 2 ^ 63 ⌝ }
-    ensures { λ r. ⌜ Counted seen v last r ⌝ }
+// One more, unless the first m bits are those of the address before.
+fn counted(seen: usize, address: u32, last: u32, m: u32) -> usize
+    requires { ⌜ (seen < 2 ^ 63) × (m ≤ 32) ⌝ }
+    ensures { λ r. ⌜ Counted seen (address / 2 ^ (32 - m)) (lastHead m seen last) r ⌝ }
 {
-    if v == last {
-        return seen;
+    if !numbers::agree::first(address, last, m) {
+        return seen + 1;
     }
-    seen + 1
+    if seen == 0 {
+        return 1;
+    }
+    seen
 }
 
 // How many different heads of m bits the routes of the lengths from .. to have. Heads rise with the records, so equal ones are
@@ -136,24 +144,30 @@ pub fn count(bytes: &[u8], from: u32, to: u32, m: u32) -> usize
 {
     let mut i = bytes.len() / 8;
     let mut seen: usize = 0;
-    let mut last = NO_HEAD;
+    let mut last: u32 = 0;
     while i > 0 {
         i -= 1;
         if is_between(from, to, bits(bytes, i)) {
-            let v = head(bytes, i, m);
-            seen = counted(seen, v, last);
-            last = v;
+            let a = address(bytes, i);
+            seen = counted(seen, a, last, m);
+            last = a;
         }
     }
     seen
 }
 
-// The arrays that a table needs for the list.
+// The arrays that a table needs for the list: one, and for each level below the root as many as it has heads.
 fn arrays(bytes: &[u8]) -> usize
     requires { ⌜ IsList 32 (listOf (now bytes)) ⌝ }
     ensures { λ r. ⌜ r ≡ need 32 (listOf (now (bytes .entry))) ⌝ }
 {
-    1 + count(bytes, 9, 32, 8) + count(bytes, 17, 32, 16) + count(bytes, 25, 32, 24)
+    let mut sum: usize = 1;
+    let mut k: u32 = 0;
+    while k < 3 {
+        k += 1;
+        sum += count(bytes, 8 * k + 1, 32, 8 * k);
+    }
+    sum
 }
 
 // ---- the list

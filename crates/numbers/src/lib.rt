@@ -1,4 +1,6 @@
-// Plain numbers: of two and of four bytes in lent bytes, the high byte first; powers of 2; the bits of an address after a length.
+// Plain numbers: of two and of four bytes in lent bytes, the high byte first; powers of 2.
+pub mod agree; // equal leading bits
+
 ghost use mathlib.Core.Path.{_≡_};
 ghost use Prim.Native.Nat.{_+_, _-_, _%_, _^_, _<_, _≤_};
 ghost use lib.ListN.{length};
@@ -33,13 +35,4 @@ pub fn power(n: u32) -> u32
     ensures { λ r. ⌜ r ≡ 2 ^ n ⌝ }
 {
     1 << n
-}
-
-// The bits of an address after a length. Length 0 would be a shift by 32, so the size has 64 bits.
-pub fn low_bits(address: u32, length: u32) -> u64
-    requires { ⌜ length ≤ 32 ⌝ }
-    ensures { λ r. ⌜ r ≡ address % 2 ^ (32 - length) ⌝ }
-{
-    let size: u64 = 1 << (32 - length);
-    address as u64 % size
 }

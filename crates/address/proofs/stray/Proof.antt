@@ -16,21 +16,18 @@ returns c =
     let s = k .before .args in
     stray-whole (s .address .now) (λ i. omega (arith, k .shared-slice-known .given i)) (s .length) (s .length / 8) (omega arith) refl (c .if1 .taken)
 
-shared-slice-read-low-bits : tie.Need-shared-slice-read-low-bits
-shared-slice-read-low-bits c = search needs
+shared-slice-read-stray-in : tie.Need-shared-slice-read-stray-in
+shared-slice-read-stray-in c = search needs
 
-sub-low-bits : tie.Need-sub-low-bits
-sub-low-bits c = search needs
-
-low-bits-requires : tie.Need-low-bits-requires
-low-bits-requires c κs = search needs
+stray-in-requires : tie.Need-stray-in-requires
+stray-in-requires c κs = search needs
 
 returns-2 : tie.Need-returns-2
 returns-2 c =
     let k = c .before .before .before .before in
     let s = k .before .args in
     stray-here (s .address .now) (λ i. omega (arith, k .shared-slice-known .given i)) (s .length) (s .length / 8) (omega arith) refl (omega arith)
-    (λ z. c .if2 .taken (c .before .low-bits .ensures ∙ z))
+    (sym (c .before .stray-in .ensures) ∙ c .if2 .taken)
 
 add-set-from : tie.Need-add-set-from
 add-set-from c = search needs
@@ -44,7 +41,7 @@ returns-3 c =
     let s = k .before .args in
     c .set-from .ensures
     ∙ stray-rest (s .address .now) (λ i. omega (arith, k .shared-slice-known .given i)) (s .length) (s .length / 8) (omega arith) refl (omega arith)
-    (sym (c .before .before .low-bits .ensures) ∙ c .before .if2 .left)
+    (sym (c .before .before .stray-in .ensures) ∙ c .before .if2 .left)
 
 pub stray-spec : {M : Type 1} → statement M
 stray-spec =
@@ -52,9 +49,8 @@ stray-spec =
     (tie.spec
     cast-k
     returns
-    shared-slice-read-low-bits
-    sub-low-bits
-    low-bits-requires
+    shared-slice-read-stray-in
+    stray-in-requires
     returns-2
     add-set-from
     set-from-requires

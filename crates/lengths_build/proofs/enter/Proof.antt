@@ -1,18 +1,14 @@
 -- `lengths_build::enter` meets its contract: the head is there already, or is put with its best match. Assumes nothing.
-use Rattle.lengths_build.proofs.Entry.{head-word, enter-again, enter-bests, enter-room, enter-put}
+use Rattle.lengths_build.proofs.Entry.{enter-again, enter-bests, enter-room, enter-put}
 use borrow.Author.Needs.{needs}
 use native.Mathlib.Omega.{arith}
 use Rattle.lengths_build.proofs.enter.Statement.{statement}
 use Rattle.lengths_build.proofs.enter.Tie as tie
 
 head-requires : tie.Need-head-requires
-head-requires c κs = (omega (arith, c .before .before .pre .0 .upto), c .before .before .pre .0 .most)
-
-cast-v : tie.Need-cast-v
-cast-v c =
-    let a = c .before .before .before .args in
-    let p = c .before .before .before .pre in
-    omega (arith, c .head .ensures, head-word (a .marks) (a .bytes .now) (a .words .now) (a .i) (a .m) (a .o) (a .p) (p .0))
+head-requires c κs =
+    let f = c .before .before .pre .0 in
+    (omega (arith, f .upto), f .few, f .most)
 
 absent-requires : tie.Need-absent-requires
 absent-requires c κs = c .before .before .before .before .pre .0 .fits
@@ -67,7 +63,6 @@ enter-spec =
     tie.close
     (tie.spec
     head-requires
-    cast-v
     absent-requires
     same-length
     returns

@@ -16,14 +16,14 @@ Inv-loop bytes sum₀ m₀ sum m = (m ≤ 32) × (sum ≡ entriesTo m (listOf by
 abbrev μ-loop : tie.MeasureT-loop
 μ-loop bytes sum₀ m₀ sum m = 32 - m
 
-count-requires : tie.Need-count-requires Inv-loop μ-loop
-count-requires c κs = (c .before .pre, omega arith)
+defaults-requires : tie.Need-defaults-requires Inv-loop μ-loop
+defaults-requires c κs = c .before .pre
 
 loop-holds : tie.Need-loop-holds Inv-loop μ-loop
 loop-holds c =
     let a = c .before .before .args in
-    let p = c .before .before .pre in
-    (omega arith, total-none (listOf (a .bytes .now)) (c .count .result) p (c .count .ensures .0), omega (arith, c .count .ensures .1))
+    let d = c .defaults in
+    (omega arith, total-none (listOf (a .bytes .now)) (d .result) (d .ensures .0), omega (arith, d .ensures .1))
 
 add-m : tie.Need-add-m Inv-loop μ-loop
 add-m c = omega arith
@@ -59,7 +59,7 @@ total-spec =
     (tie.spec
     Inv-loop
     μ-loop
-    count-requires
+    defaults-requires
     loop-holds
     add-m
     entries-requires

@@ -1,4 +1,4 @@
--- `listing::count` meets its contract. The loop keeps the count over the records from i on, and the head met last. Assumes
+-- `listing::count` meets its contract. The loop keeps the count over the records from i on, and the address met last. Assumes
 -- nothing.
 use mathlib.Core.Path.{_≡_, _∙_}
 use Prim.Native.Nat.{_-_, _/_, _≤_}
@@ -31,8 +31,8 @@ bits-requires c κs = omega arith
 is-between-requires : tie.Need-is-between-requires Inv-loop μ-loop
 is-between-requires c κs = search needs
 
-head-requires : tie.Need-head-requires Inv-loop μ-loop
-head-requires c κs = (omega arith, omega arith)
+address-requires : tie.Need-address-requires Inv-loop μ-loop
+address-requires c κs = omega arith
 
 counted-requires : tie.Need-counted-requires Inv-loop μ-loop
 counted-requires c κs =
@@ -54,7 +54,7 @@ loop-again c =
     let e : test .result ≡ between (a .from) (a .to) (routeAt (a .bytes .now) (l .i - 1) .len) = test .ensures ∙ rw (bits .ensures .0) in (
       omega arith,
       counts-more (between (a .from) (a .to)) (a .m) (length (a .bytes .now) / 8) (l .i) (l .i - 1) (a .bytes .now) (omega arith) (omega arith) (p .0)
-          (l .seen) (l .last) (l .inv .1) (test .result) (c .before .head .result) (c .counted .result) e (if1 .taken) (c .before .head .ensures)
+          (l .seen) (l .last) (l .inv .1) (test .result) (c .before .address .result) (c .counted .result) e (if1 .taken) (c .before .address .ensures)
           (c .counted .ensures),
     )
 
@@ -92,7 +92,7 @@ count-spec =
     sub-i
     bits-requires
     is-between-requires
-    head-requires
+    address-requires
     counted-requires
     loop-less
     loop-again

@@ -7,28 +7,28 @@ use Rattle.listing.proofs.is_route.Tie as tie
 returns : tie.Need-returns
 returns c = route-long (c .before .args .address) (c .before .args .length) (c .before .args .hop) (c .if1 .taken)
 
-low-bits-requires : tie.Need-low-bits-requires
-low-bits-requires c κs = search needs
+stray-requires : tie.Need-stray-requires
+stray-requires c κs = search needs
 
 returns-2 : tie.Need-returns-2
 returns-2 c =
     let a = c .before .before .before .args in
     let if1 = c .before .before .if1 in
-    route-stray (a .address) (a .length) (a .hop) (c .before .low-bits .result) (c .before .low-bits .ensures) (if1 .left) (c .if2 .taken)
+    route-stray (a .address) (a .length) (a .hop) (c .before .stray .result) (c .before .stray .ensures) (if1 .left) (c .if2 .taken)
 
 returns-3 : tie.Need-returns-3
 returns-3 c =
     let a = c .before .before .before .before .args in
     let if1 = c .before .before .before .if1 in
-    let low-bits = c .before .before .low-bits in
-    route-none (a .address) (a .length) (a .hop) (low-bits .result) (low-bits .ensures) (if1 .left) (c .before .if2 .left) (c .if3 .taken)
+    let stray = c .before .before .stray in
+    route-none (a .address) (a .length) (a .hop) (stray .result) (stray .ensures) (if1 .left) (c .before .if2 .left) (c .if3 .taken)
 
 returns-4 : tie.Need-returns-4
 returns-4 c =
     let a = c .before .before .before .before .args in
     let if1 = c .before .before .before .if1 in
-    let low-bits = c .before .before .low-bits in
-    route-hop (a .address) (a .length) (a .hop) (low-bits .result) (low-bits .ensures) (if1 .left) (c .before .if2 .left) (c .if3 .left)
+    let stray = c .before .before .stray in
+    route-hop (a .address) (a .length) (a .hop) (stray .result) (stray .ensures) (if1 .left) (c .before .if2 .left) (c .if3 .left)
 
 pub is-route-spec : {M : Type 1} → statement M
-is-route-spec = tie.close (tie.spec returns low-bits-requires returns-2 returns-3 returns-4)
+is-route-spec = tie.close (tie.spec returns stray-requires returns-2 returns-3 returns-4)
