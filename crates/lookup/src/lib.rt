@@ -1,7 +1,5 @@
 // Looking an address up in lent words: the layout's walk, from the root down. It reads one word a level and checks nothing else.
 use replies::Reply;
-use sizes::ARRAY_WORDS;
-use sizes::CELLS_AT;
 use sizes::HOP_BOUND;
 ghost use mathlib.Core.Path.{_≡_};
 ghost use Prim.Native.Nat.{_+_, _*_, _<_, _≤_};
@@ -39,13 +37,13 @@ fn descend(words: &[u32], address: &[u8]) -> u32
     requires { ⌜ Fits (size (now words)) × (size (now address) ≤ 16) ⌝ }
     ensures { λ r. ⌜ Walks (size (now (address .entry))) (now (words .entry)) (number (now (address .entry))) r ⌝ }
 {
-    let arrays = words.len() / ARRAY_WORDS - 1;
+    let arrays = words::size::arrays_in(words);
     let mut a: usize = 1;
     let mut best: u32 = 0;
     let mut k: usize = 0;
     while k < address.len() {
         let i = address::byte_at(address, k);
-        let word = words[ARRAY_WORDS * a + CELLS_AT + i];
+        let word = words::part::cell(words, a, i);
         best = newer(best, array::cell::best_in(word), 8 * k as u32);
         let next = array::cell::link_in(word);
         if next == 0 {

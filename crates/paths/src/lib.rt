@@ -2,7 +2,6 @@
 // empty released.
 use address::Place;
 use array::tag::parent_in;
-use sizes::ARRAY_WORDS;
 ghost use mathlib.Core.Path.{_≡_};
 ghost use Prim.Native.Nat.{_+_, _-_, _^_, _<_, _≤_};
 ghost use lib.ListN.{length as size, getD};
@@ -58,8 +57,7 @@ fn hop_at(words: &[u32], s: Stop, p: Place) -> u32
     let a = s.array;
     let d = p.depth;
     let x = p.value;
-    let slot = array::place::slot_of(d, x);
-    words[ARRAY_WORDS * a + slot]
+    words::part::slot(words, a, array::place::slot_of(d, x))
 }
 
 // A prefix that was sought: where it stands, where its path stops, and its hop, 0 where it is not held.
@@ -117,7 +115,7 @@ pub fn extend(words: &mut [u32], address: &[u8], a: usize, j: usize, k: usize) -
     if j == k {
         return a;
     }
-    let n = words.len() / ARRAY_WORDS - 1;
+    let n = words::size::arrays_in(words);
     let m = words[0] as usize;
     if n < m + (k - j) {
         return 0;
@@ -135,8 +133,7 @@ pub fn prune(words: &mut [u32], levels: usize, a: usize)
         if !words::empty(words, b) {
             return;
         }
-        let from = ARRAY_WORDS * b;
-        let p = parent_in(words[from]);
+        let p = parent_in(words::part::tag(words, b));
         words::release(words, b);
         b = p;
     }

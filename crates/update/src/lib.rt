@@ -1,7 +1,6 @@
 // Announcements and withdrawals: a route put into a table of lent words, or taken out of it. An address is its bytes, as many as
 // the table has levels.
 use replies::Reply;
-use sizes::ARRAY_WORDS;
 ghost use mathlib.Core.Path.{_≡_};
 ghost use Prim.Native.Nat.{_+_, _*_, _<_, _≤_};
 ghost use lib.ListN.{length as size};
@@ -52,8 +51,8 @@ fn reslot(words: &mut [u32], a: usize, p: address::Place, hop: u32) -> u32
     requires { ⌜ Seat (now words) a (p .level) (p .depth) (p .value) × (hop < hopBound) ⌝ }
     ensures { λ r. ⌜ Seated (now (words .entry)) (now (words .exit)) a (p .depth) (p .value) hop r ⌝ }
 {
-    let from = ARRAY_WORDS * a;
-    let to = from + ARRAY_WORDS;
+    let from = words::part::array_at(a);
+    let to = words::part::array_at(a + 1);
     let d = p.depth;
     let x = p.value;
     array::change::reslot(&mut words[from..to], d, x, hop)

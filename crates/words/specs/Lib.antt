@@ -13,3 +13,4 @@ pub mod Clear
 pub mod SlotSet
 pub mod Listed
 pub mod Lent
+pub mod Half

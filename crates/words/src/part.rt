@@ -1,16 +1,19 @@
-// Where an array stands in the words, and what is read of it: its tag, a slot, a cell, or all of its words.
+// Where an array stands in the words, and what is read of it: its tag, a slot, a cell, or all of its words; where the halves of a
+// prefix stand.
 use sizes::ARRAY_WORDS;
+use sizes::CELL_SLOTS;
 use sizes::CELLS_AT;
 ghost use mathlib.Core.Path.{_≡_};
 ghost use Prim.Native.Nat.{_+_, _<_, _≤_};
 ghost use lib.ListN.{length, getD};
-ghost use Rattle.sizes.specs.Sizes.{arrayWords, mostArrays, slotEnd, cellCount, arrayAt, cellAt};
+ghost use Rattle.sizes.specs.Sizes.{arrayWords, slotEnd, cellCount, arrayAt, cellAt};
 ghost use Rattle.array.specs.Frame.{blockOf};
 ghost use Rattle.words.specs.Words.{arraysOf, slotsOf};
+ghost use Rattle.words.specs.Half.{Within, halfOf};
 
 // The place of array a's first word, one past the array before it.
 pub fn array_at(a: usize) -> usize
-    requires { ⌜ a ≤ mostArrays + 1 ⌝ }
+    requires { ⌜ arrayAt a < 9223372036854775808 ⌝ }
     ensures { λ r. ⌜ r ≡ arrayAt a ⌝ }
 {
     ARRAY_WORDS * a
@@ -48,4 +51,22 @@ pub fn block(words: &[u32], a: usize) -> &[u32]
     let from = ARRAY_WORDS * a;
     let to = from + ARRAY_WORDS;
     &words[from..to]
+}
+
+// The slot of the lower half of the prefix in `slot`, 0 where there is none; the upper half's is the next. Slot s of an array has
+// its halves at 2 s and 2 s + 1; from slot 256 on it stands above a cell and has its halves in the array below that.
+pub fn half(words: &[u32], slot: usize) -> usize
+    requires { ⌜ Within (now words) slot ⌝ }
+    ensures { λ r. ⌜ r ≡ halfOf (now (words .entry)) slot ⌝ }
+{
+    let s = slot % ARRAY_WORDS;
+    if s < CELL_SLOTS {
+        return slot + s;
+    }
+    let cell = slot + (CELLS_AT - CELL_SLOTS);
+    let below = array::cell::link_in(words[cell]);
+    if below == 0 {
+        return 0;
+    }
+    ARRAY_WORDS * below + 2
 }

@@ -1,8 +1,5 @@
 // Writing a table's routes out into a lent buffer: lower address first, at equal address shorter length first. That is the order
 // in which a walk down the binary trie meets the prefixes, array below array.
-use sizes::ARRAY_WORDS;
-use sizes::CELL_SLOTS;
-use sizes::CELLS_AT;
 use sizes::ROOT_SLOT;
 ghost use mathlib.Core.Path.{_≡_};
 ghost use Prim.Native.Nat.{_+_, _*_, _<_, _≤_};
@@ -12,8 +9,7 @@ ghost use Rattle.routes.specs.Seen.{countOn, frontOn};
 ghost use Rattle.words.specs.Table.{listOf, seen};
 ghost use Rattle.writing.specs.Answer.{countAnswer, HasFilled};
 ghost use Rattle.numbers.specs.Wrote.{Wrote};
-ghost use Rattle.writing.specs.Halves.{halfOf};
-ghost use Rattle.writing.specs.Asked.{bytesOwn, bytesBelow, Puts, Within, Branches, Splits, Keeps, Dumps};
+ghost use Rattle.writing.specs.Asked.{bytesOwn, bytesBelow, Puts, Branches, Splits, Keeps, Dumps};
 ghost use Rattle.writing.specs.Prefix.{standAt};
 ghost use Rattle.address.specs.Parts.{filled};
 
@@ -66,24 +62,6 @@ fn put(hop: u32, address: &[u8], bits: usize, buffer: &mut [u8], at: usize) -> u
     end + 3
 }
 
-// The slot of the lower half of the prefix in `slot`, 0 where there is none; the upper half's is the next. Slot s of an array has
-// its halves at 2 s and 2 s + 1; from slot 256 on it stands above a cell and has its halves in the array below that.
-fn half(words: &[u32], slot: usize) -> usize
-    requires { ⌜ Within (now words) slot ⌝ }
-    ensures { λ r. ⌜ r ≡ halfOf (now (words .entry)) slot ⌝ }
-{
-    let s = slot % ARRAY_WORDS;
-    if s < CELL_SLOTS {
-        return slot + s;
-    }
-    let cell = slot + (CELLS_AT - CELL_SLOTS);
-    let below = array::cell::link_in(words[cell]);
-    if below == 0 {
-        return 0;
-    }
-    ARRAY_WORDS * below + 2
-}
-
 // Makes the address that of the prefix in `slot`, of which the whole bytes are there. The slot's number in its array is a 1 and
 // then the prefix's bits there: moved to the front of a byte they are the prefix's last, and the 1 falls out.
 fn stand_at(address: &mut [u8], slot: usize, bits: usize)
@@ -112,7 +90,7 @@ fn branch(
     if bits == 0 {
         return at;
     }
-    let low = half(words, slot);
+    let low = words::part::half(words, slot);
     if low == 0 {
         return at;
     }

@@ -1,6 +1,6 @@
 -- `lookup::descend` is the layout's walk. The loop's invariant: what is left of the walk, from this array on and with the best so far,
 -- is the whole walk; and that best is in its range while a level is left. The measure is the levels left. Assumes nothing.
-use mathlib.Core.Path.{_≡_, refl, sym, _∙_}
+use mathlib.Core.Path.{_≡_, sym, _∙_}
 use Prim.Native.Nat.{_+_, _*_, _-_, _/_, _≤_}
 use native.Mathlib.Omega.{arith}
 use lib.ListN.{length}
@@ -23,32 +23,20 @@ Inv-loop words address arrays a₀ best₀ k₀ a best k =
 abbrev μ-loop : tie.MeasureT-loop
 μ-loop words address arrays a₀ best₀ k₀ a best k = length address - k
 
-sub-arrays : tie.Need-sub-arrays Inv-loop μ-loop
-sub-arrays c = search needs
+arrays-in-requires : tie.Need-arrays-in-requires Inv-loop μ-loop
+arrays-in-requires c κs = search needs
 
 loop-holds : tie.Need-loop-holds Inv-loop μ-loop
 loop-holds c =
-    let L = length (c .before .before .args .address .now) in
+    let L = length (c .before .before .before .args .address .now) in
     let e : L - 0 ≡ L = omega arith in
     (omega arith, omega arith, omega arith, rw e, λ h. omega arith)
 
 byte-at-requires : tie.Need-byte-at-requires Inv-loop μ-loop
 byte-at-requires c κs = search needs
 
-mul-word : tie.Need-mul-word Inv-loop μ-loop
-mul-word c = search needs
-
-add-word : tie.Need-add-word Inv-loop μ-loop
-add-word c = search needs
-
-add-word-2 : tie.Need-add-word-2 Inv-loop μ-loop
-add-word-2 c = search needs
-
-mul-word-2 : tie.Need-mul-word-2 Inv-loop μ-loop
-mul-word-2 c = search needs
-
-shared-slice-read-word : tie.Need-shared-slice-read-word Inv-loop μ-loop
-shared-slice-read-word c = search needs
+cell-requires : tie.Need-cell-requires Inv-loop μ-loop
+cell-requires c κs = (omega arith, omega arith)
 
 best-in-requires : tie.Need-best-in-requires Inv-loop μ-loop
 best-in-requires c κs = search needs
@@ -69,11 +57,12 @@ returns : tie.Need-returns Inv-loop μ-loop
 returns c =
     let u = c .before in
     let l = u .before .before .before .before .before .before .loop in
-    let s = u .before .before .before .before .before .before .before .before .before .args in
+    let s = u .before .before .before .before .before .before .before .before .before .before .args in
+    let w = u .before .before .before .cell in
     let L = length (s .address .now) in
     let y = u .before .before .before .before .byte-at in
-    let n = u .link-in .ensures .0 in
-    let e = rw (u .before .before .best-in .ensures .0) at (u .before .newer .ensures) in
+    let n = rw (w .ensures) at (u .link-in .ensures .0) in
+    let e = rw (u .before .before .best-in .ensures .0, w .ensures) at (u .before .newer .ensures) in
     no-link L (s .words .now) (number (s .address .now)) (l .k) (L - l .k) (l .a) (l .best) _ (y .result) (omega arith) (omega arith)
     (y .ensures .0) (l .inv .4 (omega arith)) e (sym n ∙ c .if1 .taken)
     ∙ l .inv .3
@@ -85,11 +74,12 @@ returns-2 : tie.Need-returns-2 Inv-loop μ-loop
 returns-2 c =
     let u = c .before .before in
     let l = u .before .before .before .before .before .before .loop in
-    let s = u .before .before .before .before .before .before .before .before .before .args in
+    let s = u .before .before .before .before .before .before .before .before .before .before .args in
+    let w = u .before .before .before .cell in
     let L = length (s .address .now) in
     let y = u .before .before .before .before .byte-at in
-    let n = u .link-in .ensures .0 in
-    let e = rw (u .before .before .best-in .ensures .0) at (u .before .newer .ensures) in
+    let n = rw (w .ensures) at (u .link-in .ensures .0) in
+    let e = rw (u .before .before .best-in .ensures .0, w .ensures) at (u .before .newer .ensures) in
     ended-astray (8 * L) (omega arith)
     ∙ bad-link L (s .words .now) (number (s .address .now)) (l .k) (L - l .k) (l .a) (l .best) _ (y .result) (omega arith) (omega arith)
     (y .ensures .0) (l .inv .4 (omega arith)) e (λ z. c .before .if1 .left (n ∙ z)) (omega (arith, n))
@@ -105,14 +95,15 @@ loop-again : tie.Need-loop-again Inv-loop μ-loop
 loop-again c =
     let u = c .before .before in
     let l = u .before .before .before .before .before .before .loop in
-    let s = u .before .before .before .before .before .before .before .before .before .args in
+    let s = u .before .before .before .before .before .before .before .before .before .before .args in
+    let w = u .before .before .before .cell in
     let L = length (s .address .now) in
     let y = u .before .before .before .before .byte-at in
-    let n = u .link-in .ensures .0 in
-    let e = rw (u .before .before .best-in .ensures .0) at (u .before .newer .ensures) in
+    let n = rw (w .ensures) at (u .link-in .ensures .0) in
+    let e = rw (u .before .before .best-in .ensures .0, w .ensures) at (u .before .newer .ensures) in
     let o = onward L (s .words .now) (number (s .address .now)) (l .k) (L - l .k) (l .a) (l .best) _ (y .result) (omega arith) (omega arith)
     (y .ensures .0) (l .inv .4 (omega arith)) e (λ z. c .before .if1 .left (n ∙ z)) (omega (arith, n))
-    (omega (arith, u .before .before .before .shared-slice-known3 .given (cellAt (l .a) (y .result)))) in
+    (omega (arith, u .before .before .before .before .before .before .before .before .before .shared-slice-known .given (cellAt (l .a) (y .result)))) in
     let d : L - (l .k + 1) ≡ L - l .k - 1 = omega arith in
     (omega arith, omega arith, omega arith, rw (d, n) (o .0) ∙ l .inv .3, λ h. o .1 (omega arith))
 
@@ -122,7 +113,7 @@ mul-result-2 c = search needs
 returns-3 : tie.Need-returns-3 Inv-loop μ-loop
 returns-3 c =
     let l = c .before .loop in
-    let s = c .before .before .before .before .args in
+    let s = c .before .before .before .before .before .args in
     let L = length (s .address .now) in
     ended-astray (8 * L) (omega arith)
     ∙ walk-none L (s .words .now) (number (s .address .now)) (L - l .k) (l .a) (deeper 0 none (l .best)) (omega arith)
@@ -134,14 +125,10 @@ descend-spec =
     (tie.spec
     Inv-loop
     μ-loop
-    sub-arrays
+    arrays-in-requires
     loop-holds
     byte-at-requires
-    mul-word
-    add-word
-    add-word-2
-    mul-word-2
-    shared-slice-read-word
+    cell-requires
     best-in-requires
     cast-newer
     mul-newer

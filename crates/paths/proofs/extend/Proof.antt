@@ -16,8 +16,8 @@ returns c =
     let n = a .address .now in
     opened-there (length n) (a .words .now) (number n) (a .k) (a .j) (a .a) (s .pre .1) (s .pre .2) (c .if1 .taken)
 
-sub-n : tie.Need-sub-n
-sub-n c = search needs
+arrays-in-requires : tie.Need-arrays-in-requires
+arrays-in-requires c κs = search needs
 
 slice-read-m : tie.Need-slice-read-m
 slice-read-m c = search needs
@@ -31,28 +31,31 @@ sub-if2 c = search needs
 add-if2 : tie.Need-add-if2
 add-if2 c = omega (arith, c .slice-known2 .given 0)
 
+same-length : tie.Need-same-length
+same-length c = search needs
+
 returns-2 : tie.Need-returns-2
 returns-2 c =
-    let s = c .before .before .before .before .before in
+    let s = c .before .before .before .before .before .before .before in
     let a = s .args in
     let n = a .address .now in
     opened-full (length n) (a .words .now) (number n) (a .k) (a .j) (a .a) (s .pre .1) (s .pre .2) (omega arith)
 
 hang-path-requires : tie.Need-hang-path-requires
 hang-path-requires c κs =
-    let s = c .before .before .before .before .before .before in
+    let s = c .before .before .before .before .before .before .before .before in
     let a = s .args in
     let n = a .address .now in
     let p = s .pre .2 in
     let low : a .j < a .k = omega (arith, p .low) in
     ((low, s .pre .0, omega arith), opened-tip (length n) (a .words .now) (number n) (a .k) (a .j) (a .a) (s .pre .1) p low)
 
-same-length : tie.Need-same-length
-same-length c = search needs
+same-length-2 : tie.Need-same-length-2
+same-length-2 c = search needs
 
 returns-3 : tie.Need-returns-3
 returns-3 c =
-    let s = c .before .before .before .before .before .before .before .before .before in
+    let s = c .before .before .before .before .before .before .before .before .before .before .before in
     let a = s .args in
     let n = a .address .now in
     let h = c .before .before .hang-path in
@@ -63,12 +66,13 @@ extend-spec =
     tie.close
     (tie.spec
     returns
-    sub-n
+    arrays-in-requires
     slice-read-m
     cast-m
     sub-if2
     add-if2
+    same-length
     returns-2
     hang-path-requires
-    same-length
+    same-length-2
     returns-3)

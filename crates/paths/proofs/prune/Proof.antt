@@ -32,37 +32,33 @@ same-length c = c .before .before .before .before .loop .inv .freed .size
 returns : tie.Need-returns Inv-loop μ-loop
 returns c = prune-some (c .before .before .before .before .loop .inv) (ap not (sym (c .before .empty .ensures)) ∙ c .if1 .taken)
 
-mul-from : tie.Need-mul-from Inv-loop μ-loop
-mul-from c = omega arith
-
-mul-parent-in : tie.Need-mul-parent-in Inv-loop μ-loop
-mul-parent-in c = omega arith
-
-slice-read-parent-in : tie.Need-slice-read-parent-in Inv-loop μ-loop
-slice-read-parent-in c = omega arith
+tag-requires : tie.Need-tag-requires Inv-loop μ-loop
+tag-requires c κs =
+    let k = c .before .before .before .before .before .loop .inv .loose in
+    omega (arith, k .within, k .ok .low)
 
 parent-in-requires : tie.Need-parent-in-requires Inv-loop μ-loop
 parent-in-requires c κs = search needs
 
 release-requires : tie.Need-release-requires Inv-loop μ-loop
 release-requires c κs =
-    let b = c .before .before .before in
+    let b = c .before .before .before .before in
     can-release (b .before .before .before .before .loop .inv) (λ z. omega arith) (sym (b .before .empty .ensures) ∙ not-false _ (b .if1 .left))
 
 loop-less : tie.Need-loop-less Inv-loop μ-loop
 loop-less c =
     let r = c .before .before in
     let p = r .before .before in
-    let b = p .before .before in
-    rw (r .release .ensures, p .parent-in .ensures)
+    let b = p .before .before .before in
+    rw (r .release .ensures, p .parent-in .ensures, p .before .tag .ensures)
     (falls (b .before .before .before .before .loop .inv) (λ z. omega arith) (sym (b .before .empty .ensures) ∙ not-false _ (b .if1 .left)))
 
 loop-again : tie.Need-loop-again Inv-loop μ-loop
 loop-again c =
     let r = c .before .before in
     let p = r .before .before in
-    let b = p .before .before in
-    rw (r .release .ensures, p .parent-in .ensures)
+    let b = p .before .before .before in
+    rw (r .release .ensures, p .parent-in .ensures, p .before .tag .ensures)
     (shrink (b .before .before .before .before .loop .inv) (λ z. omega arith) (sym (b .before .empty .ensures) ∙ not-false _ (b .if1 .left)))
 
 same-length-2 : tie.Need-same-length-2 Inv-loop μ-loop
@@ -81,9 +77,7 @@ prune-spec =
     empty-requires
     same-length
     returns
-    mul-from
-    mul-parent-in
-    slice-read-parent-in
+    tag-requires
     parent-in-requires
     release-requires
     loop-less

@@ -8,11 +8,14 @@ use borrow.Author.Needs.{needs}
 use Rattle.update.proofs.reslot.Statement.{statement}
 use Rattle.update.proofs.reslot.Tie as tie
 
-mul-from : tie.Need-mul-from
-mul-from c = search needs
+array-at-requires : tie.Need-array-at-requires
+array-at-requires c κs = search needs
 
-add-to : tie.Need-add-to
-add-to c = search needs
+add-array-at : tie.Need-add-array-at
+add-array-at c = search needs
+
+array-at-requires-2 : tie.Need-array-at-requires-2
+array-at-requires-2 c κs = search needs
 
 mul-reslot : tie.Need-mul-reslot
 mul-reslot c = search needs
@@ -28,30 +31,36 @@ part-reslot-end c = search needs
 
 reslot-requires : tie.Need-reslot-requires
 reslot-requires c κs =
-    let t = c .before .before in
+    let t = c .before .before .before .before in
+    let a = t .args .a in
     let p = t .args .p in
-    let e : arrayAt (t .args .a) + arrayWords - arrayAt (t .args .a) ≡ arrayWords = omega arith in
-    (rw e (seat-spot (t .args .words .now) (t .args .a) (p .level) (p .depth) (p .value) (t .pre .0)), t .pre .1)
+    let e : arrayAt (a + 1) - arrayAt a ≡ arrayWords = omega arith in
+    rw (c .before .array-at2 .ensures, c .before .before .array-at .ensures, e)
+    (seat-spot (t .args .words .now) a (p .level) (p .depth) (p .value) (t .pre .0), t .pre .1)
 
 same-length : tie.Need-same-length
 same-length c = search needs
 
 returns : tie.Need-returns
 returns c =
-    let t = c .before .before .before .before .before in
+    let t = c .before .before .before .before .before .before .before in
+    let a = t .args .a in
     let p = t .args .p in
-    let e : arrayAt (t .args .a) + arrayWords - arrayAt (t .args .a) ≡ arrayWords = omega arith in
+    let to = c .before .before .before .before .array-at2 .ensures in
+    let from = c .before .before .before .before .before .array-at .ensures in
+    let e : arrayAt (a + 1) - arrayAt a ≡ arrayWords = omega arith in
     let r = c .before .before .reslot in
-    let g = rw e at (r .ensures) in
-    rw e (seated (t .args .words .now) _ (r .last .0) (t .args .a) (p .level) (p .depth) (p .value) (t .args .hop) (r .result)
+    let g = rw (to, from, e) at (r .ensures) in
+    rw (to, from, e) (seated (t .args .words .now) _ (r .last .0) a (p .level) (p .depth) (p .value) (t .args .hop) (r .result)
     (t .pre .0) (g .0) (g .1) refl)
 
 pub reslot-spec : {M : Type 1} → statement M
 reslot-spec =
     tie.close
     (tie.spec
-    mul-from
-    add-to
+    array-at-requires
+    add-array-at
+    array-at-requires-2
     mul-reslot
     sub-reslot
     part-reslot-start

@@ -18,7 +18,7 @@ use Rattle.writing.proofs.+branch+halves.Lts-branch as branch-lts
 use Rattle.writing.proofs.halves.Reads as halves
 use Rattle.writing.proofs.halves.Kinds as halves-kinds
 use Rattle.writing.proofs.+branch+halves.Lts-halves as halves-lts
-use Rattle.writing.proofs.half.Reads as half-reads
+use Rattle.words.proofs.part.half.Reads as half-reads
 use Rattle.writing.proofs.put.Reads as put-reads
 use Rattle.writing.proofs.stand_at.Reads as stand-at-reads
 use Rattle.writing.proofs.+branch+halves.{statement}
