@@ -1,15 +1,15 @@
 -- The block is uniform and no smaller number of bits is. Assumes nothing.
 use mathlib.Core.Path.{_≡_, sym}
-use mathlib.Core.Logic.{_⊎_, inl, inr}
+use mathlib.Core.Logic.{inl, inr}
 use mathlib.Core.List.{List, [], _∷_}
-use Prim.Native.Nat.{ℕ, suc, _-_, _/_, _^_, _≤_, _<_, min, max}
+use Prim.Native.Nat.{ℕ, _-_, _^_, _≤_, _<_}
 use native.Mathlib.Omega.{arith}
-use Rattle.routes.specs.Route.{Route, All, Wf, IsRoute, IsList}
+use Rattle.routes.specs.Route.{Route, Wf, IsRoute, IsList}
 use Rattle.logic.specs.Cases.{most}
 use Rattle.laws.specs.Sorted.{all-map}
 use Rattle.laws.specs.Longest.{Wfs}
 use Rattle.numbers.specs.Agree.{agreement, agree-from, agree-to}
-use Rattle.routes.specs.Block.{Share, Uniform, Smallest, reach, block}
+use Rattle.routes.specs.Block.{Uniform, Smallest, reach, block}
 use Rattle.laws.specs.Uniform.{Aside, Clear, clear-uniform, uniform-clear}
 
 module _ (W a q : ℕ) (small : a < 2 ^ W) (fits : q ≤ W) where

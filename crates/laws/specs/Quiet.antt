@@ -1,17 +1,17 @@
 -- The block over the list of a table f : prefix (v, l) ↦ hop: at most q where nothing longer is held below the first q bits.
 -- Assumes nothing.
-use mathlib.Core.Path.{_≡_, sym, ap, _∙_}
+use mathlib.Core.Path.{_≡_, _∙_}
 use mathlib.Core.Logic.{inl, inr, ⊎-elim}
 use mathlib.Core.List.{List, [], _∷_}
 use Prim.Native.Nat.{ℕ, zero, suc, _+_, _-_, _*_, _/_, _^_, _≤_, _<_}
-use native.Mathlib.Nat.{mul-div-cancel, pow-succ'}
+use native.Mathlib.Nat.{mul-div-cancel}
 use native.Mathlib.Omega.{arith}
 use lib.Pow.{pow-pos, shr-lt, shl-lt}
 use Rattle.routes.specs.Route.{Route, key, All, hopAt, Wf}
 use Rattle.logic.specs.Cases.{same, most}
 use Rattle.laws.specs.Sorted.{all-append, hop-skip}
 use Rattle.laws.specs.Collect.{routes-hop}
-use Rattle.laws.specs.Longest.{Wfs, routes-wfs}
+use Rattle.laws.specs.Longest.{routes-wfs}
 use Rattle.routes.specs.Collect.{routeOf, own, collect, routes}
 use Rattle.routes.specs.Block.{Share, block}
 use Rattle.laws.specs.Uniform.{Aside, Clear, Member, all-member, share-less}

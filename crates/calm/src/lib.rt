@@ -1,0 +1,1 @@
+// The blocks of one array, of its slots and links alone: laws.
