@@ -20,7 +20,7 @@ use Rattle.routes.specs.Collect.{routes, routeOf}
 use Rattle.array.specs.Tag.{levelIn}
 use Rattle.array.specs.Cell.{bestIn, linkIn, link-blank}
 use Rattle.array.specs.With.{withBest, best-set, link-kept}
-use Rattle.array.specs.Block.{bestOf}
+use Rattle.array.specs.Page.{bestOf}
 use Rattle.array.specs.Right.{Right}
 use Rattle.array.specs.Best.{best-some, best-ext}
 use Rattle.array.specs.Change.{best-apart}

@@ -11,7 +11,7 @@ use borrow.Author.Tests.{ne-eqb, le-ltb}
 use Rattle.sizes.specs.Sizes.{slotEnd, hopBound}
 use Rattle.routes.specs.Match.{Match, none, orShorter, last}
 use Rattle.logic.specs.Cases.{same}
-use Rattle.array.specs.Block.{bestOf}
+use Rattle.array.specs.Page.{bestOf}
 use Rattle.array.specs.Best.{best-parts, halved}
 use Rattle.lookup.specs.Walk.{hopOf, lengthOf, outside, deeper}
 

@@ -1,4 +1,4 @@
--- A slot of one array of the words, as the floor of one block has it: what that floor asks, and what its promise says of the
+-- A slot of one array of the words, as the floor of one page has it: what that floor asks, and what its promise says of the
 -- words. Assumes nothing.
 use mathlib.Core.Path.{_≡_, refl, sym, ap, _∙_}
 use mathlib.Core.Logic.{_⊎_, ⊎-elim}
@@ -11,10 +11,10 @@ use lib.Pow.{pow-add, pow-mono}
 use Rattle.sizes.specs.Sizes.{arrayWords, slotEnd, cellCount, cellSlots, cellsAt, arrayAt, wordAt, cellAt}
 use Rattle.array.specs.Tag.{levelIn}
 use Rattle.array.specs.Cell.{bestIn, linkIn}
-use Rattle.array.specs.Block.{slots, bests, links}
+use Rattle.array.specs.Page.{slots, bests, links}
 use Rattle.array.specs.Right.{Right, right-ext}
-use Rattle.array.specs.Put.{anyUp, exposed, SlotAt, BlockSlotSet}
-use Rattle.array.specs.Frame.{blockOf, withBlock, block-word, block-length, with-length, with-in, with-other}
+use Rattle.array.specs.Put.{anyUp, exposed, SlotAt, PageSlotSet}
+use Rattle.array.specs.Frame.{pageOf, withPage, page-word, page-length, with-length, with-in, with-other}
 use Rattle.tree.specs.Arrays.{lev}
 use Rattle.words.specs.Words.{arraysOf, arrayCount, slotsOf, bestsOf}
 use Rattle.words.specs.TableBut.{TableBut}
@@ -59,39 +59,39 @@ module _ (f g : ℕ → ℕ) (e : (s : ℕ) → s < slotEnd → f s ≡ g s) whe
   exposed-ext d i zero h = refl
   exposed-ext d i (suc n) h = rw (any-ext (8 - d) (cellSlots + (i + n)) (omega arith), exposed-ext d i n (omega arith))
 
--- ---- what the floor of one block asks and gives
+-- ---- what the floor of one page asks and gives
 
 module _ (ws : List ℕ) (a k d x : ℕ) (s : Seat ws a k d x) where
-  block-slot : (r : ℕ) → r < slotEnd → slots (blockOf ws a) r ≡ slotsOf ws a r
-  block-slot = lent-slot ws a
+  page-slot : (r : ℕ) → r < slotEnd → slots (pageOf ws a) r ≡ slotsOf ws a r
+  page-slot = lent-slot ws a
 
-  pub seat-spot : SlotAt (blockOf ws a) d x
+  pub seat-spot : SlotAt (pageOf ws a) d x
   seat-spot = record {
-    block = block-length ws a (s .inside);
+    page = page-length ws a (s .inside);
     depth = s .deep;
     value = s .small;
-    sound = right-ext (k + 1) (slotsOf ws a) (bestsOf ws a) (slots (blockOf ws a)) (bests (blockOf ws a))
-        (λ r l h. block-slot r h) (lent-best ws a) (s .right) .sound;
+    sound = right-ext (k + 1) (slotsOf ws a) (bestsOf ws a) (slots (pageOf ws a)) (bests (pageOf ws a))
+        (λ r l h. page-slot r h) (lent-best ws a) (s .right) .sound;
   }
 
   slot-lt : 2 ^ d + x < slotEnd
   slot-lt = omega (arith, s .small, pow-mono {i = d} {j = 8} (s .deep))
 
-  seat-exposed : exposed (slots (blockOf ws a)) d (x * 2 ^ (8 - d)) (2 ^ (8 - d))
+  seat-exposed : exposed (slots (pageOf ws a)) d (x * 2 ^ (8 - d)) (2 ^ (8 - d))
       ≡ exposed (slotsOf ws a) d (x * 2 ^ (8 - d)) (2 ^ (8 - d))
   seat-exposed =
       let e : d + (8 - d) ≡ 8 = omega (arith, s .deep) in
       let p : 2 ^ d * 2 ^ (8 - d) ≡ 256 = sym (pow-add 2 d (8 - d)) ∙ ap (λ (n : ℕ). 2 ^ n) e in
       let fits : x * 2 ^ (8 - d) + 2 ^ (8 - d) ≤ cellCount = omega (arith, mul-le-mul-right (2 ^ (8 - d)) (s .small)) in
-      exposed-ext (slots (blockOf ws a)) (slotsOf ws a) block-slot d (x * 2 ^ (8 - d)) (2 ^ (8 - d)) fits
+      exposed-ext (slots (pageOf ws a)) (slotsOf ws a) page-slot d (x * 2 ^ (8 - d)) (2 ^ (8 - d)) fits
 
-  -- the block m has come back
-  module _ (m : List ℕ) (h : ℕ) (g : BlockSlotSet (blockOf ws a) m (2 ^ d + x) h) where
+  -- the page m has come back
+  module _ (m : List ℕ) (h : ℕ) (g : PageSlotSet (pageOf ws a) m (2 ^ d + x) h) where
     abbrev vs : List ℕ
-    vs = withBlock ws a m
+    vs = withPage ws a m
 
     whole : length m ≡ arrayWords
-    whole = g .size ∙ block-length ws a (s .inside)
+    whole = g .size ∙ page-length ws a (s .inside)
 
     word : (i : ℕ) → i < arrayWords → getD vs (wordAt a i) 0 ≡ getD m i 0
     word = with-in ws a m (s .inside) whole
@@ -99,7 +99,7 @@ module _ (ws : List ℕ) (a k d x : ℕ) (s : Seat ws a k d x) where
     tag : getD vs (arrayAt a) 0 ≡ getD ws (arrayAt a) 0
     tag =
         let e : wordAt a 0 ≡ arrayAt a = omega arith in
-        rw e at (word 0 (omega arith) ∙ g .tag ∙ block-word ws a 0 (omega arith))
+        rw e at (word 0 (omega arith) ∙ g .tag ∙ page-word ws a 0 (omega arith))
 
     slot : (r : ℕ) → r < slotEnd → slotsOf vs a r ≡ slots m r
     slot r w = word r (omega arith)
@@ -115,10 +115,10 @@ module _ (ws : List ℕ) (a k d x : ℕ) (s : Seat ws a k d x) where
     right : Right (k + 1) (slots m) (bests m)
     right = record {
       sound = g .sound;
-      first = λ z. g .same-slots 1 (omega arith) (omega arith) (not-first z) ∙ block-slot 1 (omega arith) ∙ s .right .first z;
+      first = λ z. g .same-slots 1 (omega arith) (omega arith) (not-first z) ∙ page-slot 1 (omega arith) ∙ s .right .first z;
     }
 
-    seat-reslot : SlotSet ws (withBlock ws a m) a (2 ^ d + x) h
+    seat-reslot : SlotSet ws (withPage ws a m) a (2 ^ d + x) h
     seat-reslot =
         let lv : lev (arraysOf vs) a ≡ k + 1 = ap levelIn tag ∙ s .level in
         record {
@@ -127,7 +127,7 @@ module _ (ws : List ℕ) (a k d x : ℕ) (s : Seat ws a k d x) where
           tag = tag;
           links = λ i w. ap linkIn (cell i w) ∙ g .same-links i w ∙ lent-link ws a i w;
           here = slot (2 ^ d + x) slot-lt ∙ g .here;
-          slots = λ r l w n. slot r w ∙ g .same-slots r l w n ∙ block-slot r w;
+          slots = λ r l w n. slot r w ∙ g .same-slots r l w n ∙ page-slot r w;
           right = rw lv (right-ext (k + 1) (slots m) (bests m) (slotsOf vs a) (bestsOf vs a)
               (λ r l w. slot r w) (λ i w. ap bestIn (cell i w)) right);
         }
@@ -139,8 +139,8 @@ pub record Seated (ws vs : List ℕ) (a d x hop cells : ℕ) : Type 0 where
   pub count : cells ≡ exposed (slotsOf ws a) d (x * 2 ^ (8 - d)) (2 ^ (8 - d))
 
 -- with the words as the code has them
-pub seated : (ws vs m : List ℕ) (a k d x hop cells : ℕ) → Seat ws a k d x → BlockSlotSet (blockOf ws a) m (2 ^ d + x) hop
-    → cells ≡ exposed (slots (blockOf ws a)) d (x * 2 ^ (8 - d)) (2 ^ (8 - d)) → vs ≡ withBlock ws a m
+pub seated : (ws vs m : List ℕ) (a k d x hop cells : ℕ) → Seat ws a k d x → PageSlotSet (pageOf ws a) m (2 ^ d + x) hop
+    → cells ≡ exposed (slots (pageOf ws a)) d (x * 2 ^ (8 - d)) (2 ^ (8 - d)) → vs ≡ withPage ws a m
     → Seated ws vs a d x hop cells
 seated ws vs m a k d x hop cells s g c e =
     rw e (record { slot = seat-reslot ws a k d x s m hop g; count = c ∙ seat-exposed ws a k d x s })

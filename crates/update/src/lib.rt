@@ -45,7 +45,7 @@ fn route_fault(address: &[u8], length: u32, hop: u32) -> u32
     0
 }
 
-// The slot at a place of array a set to a hop, or to 0 for none. The block of that array alone is lent; the cells rewritten are
+// The slot at a place of array a set to a hop, or to 0 for none. The page of that array alone is lent; the cells rewritten are
 // counted.
 fn reslot(words: &mut [u32], a: usize, p: address::Place, hop: u32) -> u32
     requires { ⌜ Seat (now words) a (p .level) (p .depth) (p .value) × (hop < hopBound) ⌝ }

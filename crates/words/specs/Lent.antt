@@ -1,4 +1,4 @@
--- One array's words lent as a part of all: what the check of one block says of the part, it says of the array. Assumes nothing.
+-- One array's words lent as a part of all: what the check of one page says of the part, it says of the array. Assumes nothing.
 use mathlib.Core.Path.{_≡_, refl, sym, ap, _∙_}
 use mathlib.Core.Bool.{Bool, true≢false}
 use mathlib.Core.List.{List}
@@ -9,8 +9,8 @@ use Rattle.logic.specs.Cases.{bool}
 use Rattle.logic.specs.Reflects.{Reflects}
 use Rattle.sizes.specs.Sizes.{lastSlot, slotEnd, cellCount, cellsAt, wordAt, cellAt}
 use Rattle.array.specs.Cell.{bestIn, linkIn}
-use Rattle.array.specs.Block.{slots, bests, links}
-use Rattle.array.specs.Frame.{blockOf, block-word}
+use Rattle.array.specs.Page.{slots, bests, links}
+use Rattle.array.specs.Frame.{pageOf, page-word}
 use Rattle.array.specs.Check.{rightB, emptyB}
 use Rattle.array.specs.Taken.{taken}
 use Rattle.array.specs.CheckReflects.{right-reflects, empty-reflects}
@@ -31,14 +31,14 @@ taken-ext f g (suc n) e = rw (e (n + 1) (omega arith) (omega arith), taken-ext f
 
 module _ (ws : List ℕ) (a : ℕ) where
   abbrev b : List ℕ
-  b = blockOf ws a
+  b = pageOf ws a
 
   pub lent-slot : (s : ℕ) → s < slotEnd → slots b s ≡ slotsOf ws a s
-  lent-slot s h = block-word ws a s (omega arith)
+  lent-slot s h = page-word ws a s (omega arith)
 
   pub lent-cell : (i : ℕ) → i < cellCount → getD b (cellsAt + i) 0 ≡ getD ws (cellAt a i) 0
   lent-cell i h =
-      let e : cellAt a i ≡ wordAt a (cellsAt + i) = omega arith in rw e (block-word ws a (cellsAt + i) (omega arith))
+      let e : cellAt a i ≡ wordAt a (cellsAt + i) = omega arith in rw e (page-word ws a (cellsAt + i) (omega arith))
 
   pub lent-best : (i : ℕ) → i < cellCount → bests b i ≡ bestsOf ws a i
   lent-best i h = ap bestIn (lent-cell i h)

@@ -1,4 +1,4 @@
--- One array's slots and bests rewritten: what the floor of one block has to hand over. Assumes nothing.
+-- One array's slots and bests rewritten: what the floor of one page has to hand over. Assumes nothing.
 use mathlib.Core.Path.{_≡_, refl, sym, ap, _∙_}
 use mathlib.Core.Logic.{_⊎_, _≢_, inl, inr, ⊎-elim}
 use mathlib.Core.List.{List}

@@ -14,7 +14,7 @@ use Rattle.tree.specs.Arrays.{lev, held, usedIn, usedOf}
 use Rattle.words.specs.Words.{arraysOf, arrayCount, slotsOf, bestsOf}
 use Rattle.tree.specs.Check.{linksB, parentLinksB}
 
--- array a: free and 0; or used, its block right, its links leading to arrays that name their cell, and, the root aside, hung
+-- array a: free and 0; or used, its page right, its links leading to arrays that name their cell, and, the root aside, hung
 -- where its tag says and not empty
 unfoldable pub arrayB : ℕ → List ℕ → ℕ → Bool
 arrayB L ws a =

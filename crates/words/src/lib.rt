@@ -6,8 +6,8 @@ use array::tag::cell_in;
 use array::tag::level_in;
 use array::tag::parent_in;
 use array::tag::tag_of;
-use part::block;
 use part::cell;
+use part::page;
 use part::tag;
 use size::arrays_in;
 use sizes::ARRAY_WORDS;
@@ -105,7 +105,7 @@ pub fn empty(words: &[u32], a: usize) -> bool
     requires { ⌜ (arrayAt (a + 1) ≤ length (now words)) × (length (now words) ≤ mostWords) ⌝ }
     ensures { λ r. ⌜ r ≡ emptyB (slotsOf (now (words .entry)) a) (arraysOf (now (words .entry)) .link a) ⌝ }
 {
-    array::check::empty(block(words, a))
+    array::check::empty(page(words, a))
 }
 
 // The free array a, hung below cell i of p.

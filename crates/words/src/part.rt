@@ -7,7 +7,7 @@ ghost use mathlib.Core.Path.{_≡_};
 ghost use Prim.Native.Nat.{_+_, _<_, _≤_};
 ghost use lib.ListN.{length, getD};
 ghost use Rattle.sizes.specs.Sizes.{arrayWords, slotEnd, cellCount, arrayAt, cellAt};
-ghost use Rattle.array.specs.Frame.{blockOf};
+ghost use Rattle.array.specs.Frame.{pageOf};
 ghost use Rattle.words.specs.Words.{arraysOf, slotsOf};
 ghost use Rattle.words.specs.Half.{Within, halfOf};
 
@@ -44,9 +44,9 @@ pub fn cell(words: &[u32], a: usize, i: usize) -> u32
 }
 
 // The words of array a.
-pub fn block(words: &[u32], a: usize) -> &[u32]
+pub fn page(words: &[u32], a: usize) -> &[u32]
     requires { ⌜ arrayAt (a + 1) ≤ length (now words) ⌝ }
-    ensures { λ r. ⌜ (now r ≡ blockOf (now (words .entry)) a) × (length (now r) ≡ arrayWords) ⌝ }
+    ensures { λ r. ⌜ (now r ≡ pageOf (now (words .entry)) a) × (length (now r) ≡ arrayWords) ⌝ }
 {
     let from = ARRAY_WORDS * a;
     let to = from + ARRAY_WORDS;

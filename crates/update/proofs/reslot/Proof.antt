@@ -1,4 +1,4 @@
--- `update::reslot` meets its contract: what the floor of one block promises of the lent block holds of the array in the words. Assumes nothing.
+-- `update::reslot` meets its contract: what the floor of one page promises of the lent page holds of the array in the words. Assumes nothing.
 use mathlib.Core.Path.{_≡_, refl}
 use Prim.Native.Nat.{_+_, _-_}
 use native.Mathlib.Omega.{arith}

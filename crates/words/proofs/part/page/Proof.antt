@@ -1,12 +1,12 @@
--- `words::part::block` lends an array's words: as many as an array has. Assumes nothing.
+-- `words::part::page` lends an array's words: as many as an array has. Assumes nothing.
 use mathlib.Core.Path.{_≡_, refl}
 use Prim.Native.Nat.{_+_, _-_}
 use native.Mathlib.Omega.{arith}
 use Rattle.sizes.specs.Sizes.{arrayWords, arrayAt}
-use Rattle.array.specs.Frame.{block-length}
+use Rattle.array.specs.Frame.{page-length}
 use borrow.Author.Needs.{needs}
-use Rattle.words.proofs.part.block.Statement.{statement}
-use Rattle.words.proofs.part.block.Tie as tie
+use Rattle.words.proofs.part.page.Statement.{statement}
+use Rattle.words.proofs.part.page.Tie as tie
 
 mul-from : tie.Need-mul-from
 mul-from c = search needs
@@ -30,9 +30,9 @@ returns : tie.Need-returns
 returns c =
     let a = c .before .args .a in
     let e : arrayAt a + arrayWords - arrayAt a ≡ arrayWords = omega arith in
-    rw e (refl, block-length (c .before .args .words .now) a (omega arith))
+    rw e (refl, page-length (c .before .args .words .now) a (omega arith))
 
-pub block-spec : {M : Type 1} → statement M
-block-spec =
+pub page-spec : {M : Type 1} → statement M
+page-spec =
     tie.close
     (tie.spec mul-from add-to mul-result sub-result part-result-start part-result-end returns)
