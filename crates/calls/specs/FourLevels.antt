@@ -17,10 +17,12 @@ use Rattle.routes.specs.Seen.{table}
 use Rattle.routes.specs.Small.{ip}
 use Rattle.logic.specs.Cases.{same}
 use Rattle.routes.specs.Collect.{routes, routeOf}
-use Rattle.array.specs.Tag.{levelIn}
+use Rattle.array.specs.Tag.{tagOf, levelIn}
 use Rattle.array.specs.Cell.{bestIn, linkIn, link-blank}
 use Rattle.array.specs.With.{withBest, best-set, link-kept}
 use Rattle.array.specs.Page.{bestOf}
+use Rattle.array.specs.Frame.{pageOf, withPage, page-length}
+use Rattle.array.specs.Link.{relink, relinked-set}
 use Rattle.array.specs.Right.{Right}
 use Rattle.array.specs.Best.{best-some, best-ext}
 use Rattle.array.specs.Change.{best-apart}
@@ -29,9 +31,10 @@ use Rattle.tree.specs.Tree.{node-level}
 use Rattle.tree.specs.Need.{node-child}
 use Rattle.words.specs.Words.{arraysOf, arrayCount, slotsOf, bestsOf}
 use Rattle.words.specs.TableBut.{TableBut}
-use Rattle.words.specs.Gained.{gained}
+use Rattle.words.specs.Gained.{groupAt, retagged, Ends, Gained}
+use Rattle.words.specs.Rehung.{rehangs}
 use Rattle.tree.specs.HungBelow.{HungBelow, node-cases, hang-held}
-use Rattle.words.specs.Gain.{Gain, gained-length, gained-hung-below, gained-table-but}
+use Rattle.words.specs.Gain.{Gain, gain-ends, gained-hung-below, gained-table-but}
 use Rattle.tree.specs.SlotSet.{TreeSlotSet, Place, same-node, slot-set-insert}
 use Rattle.words.specs.SlotSet.{SlotSet, table-is-but, but-is-table, slot-set-tree, slot-set-table-but}
 use Rattle.words.specs.Clear.{cleared, cleared-word, cleared-length, cleared-table, cleared-routes}
@@ -61,12 +64,24 @@ row-first = record {
   list = cleared-routes 5120 32 (omega arith);
 }
 
+-- ws with array a hung below cell i of p
+unfoldable pub hung : List ℕ → ℕ → ℕ → ℕ → List ℕ
+hung ws p i a =
+    retagged (withPage ws p (relink (pageOf ws p) i (a - 1))) a (tagOf p i (levelIn (getD ws (arrayAt p) 0) + 1))
+    (getD ws 0 0 + 1) (getD ws (groupAt a) 0 + 1)
+
+hung-gained : (ws : List ℕ) (p i a : ℕ) → Ends ws p i a → Gained ws (hung ws p i a) p i a
+unfolding hung
+hung-gained ws p i a g =
+    rehangs ws (relink (pageOf ws p) i (a - 1)) p i a _ a _ _ g
+    (relinked-set (pageOf ws p) i (page-length ws p (g .inside)) (g .cells) a (g .some) (omega (arith, g .within, g .size)))
+
 module _ (k q i : ℕ) (ws : List ℕ) (row : Row k q ws) (more : k < 3) (cell : i < cellCount) where
   abbrev t : Arrays
   t = arraysOf ws
 
   abbrev vs : List ℕ
-  vs = gained ws (k + 1) i (k + 2)
+  vs = hung ws (k + 1) i (k + 2)
 
   abbrev u : Arrays
   u = arraysOf vs
@@ -91,8 +106,11 @@ module _ (k q i : ℕ) (ws : List ℕ) (row : Row k q ws) (more : k < 3) (cell :
     free = row .free (k + 2) (omega arith);
   }
 
+  now : Gained ws vs (k + 1) i (k + 2)
+  now = hung-gained ws (k + 1) i (k + 2) (gain-ends 4 ws (k + 1) i (k + 2) (row .ok) gain)
+
   hang : HungBelow (arrayCount ws) 4 t u (k + 1) i (k + 2)
-  hang = gained-hung-below 4 ws (k + 1) i (k + 2) (row .ok) gain
+  hang = gained-hung-below 4 ws (k + 1) i (k + 2) (row .ok) gain vs now
 
   -- what a path led to, it leads to
   keeps : (v j : ℕ) → 1 ≤ node t v j → node u v j ≡ node t v j
@@ -114,8 +132,8 @@ module _ (k q i : ℕ) (ws : List ℕ) (row : Row k q ws) (more : k < 3) (cell :
 
   row-more : Row (k + 1) (q * 256 + i) vs
   row-more = record {
-    ok = (let e : k + 1 + 1 ≡ k + 2 = omega arith in rw e (gained-table-but 4 ws (k + 1) i (k + 2) (row .ok) gain));
-    size = gained-length 4 ws (k + 1) i (k + 2) (row .ok) gain ∙ row .size;
+    ok = (let e : k + 1 + 1 ≡ k + 2 = omega arith in rw e (gained-table-but 4 ws (k + 1) i (k + 2) (row .ok) gain vs now));
+    size = now .size ∙ row .size;
     leads = leads-to;
     free = λ c h. hang .tags c (omega arith) (λ e. omega arith) ∙ row .free c (omega arith);
     off = λ j h.
@@ -265,7 +283,7 @@ module _ (e : ℕ) (ws : List ℕ) (rs : List Route) (p : Posts e ws rs) (j x h 
 -- ---- the table
 
 abbrev row : List ℕ
-row = gained (gained (gained (cleared 5120) 1 10 2) 2 1 3) 3 1 4
+row = hung (hung (hung (cleared 5120) 1 10 2) 2 1 3) 3 1 4
 
 abbrev pub deep : List ℕ
 deep = posted (posted (posted (posted row 4 1 4) 3 1 3) 2 1 2) 1 10 1

@@ -16,13 +16,13 @@ use Rattle.tree.specs.Need.{node-child, node-above}
 use Rattle.words.specs.Words.{arraysOf, arrayCount}
 use Rattle.words.specs.TableBut.{TableBut}
 use Rattle.tree.specs.Free.{firstFree}
-use Rattle.words.specs.Gained.{gained, Gains}
+use Rattle.words.specs.Gained.{Gains, Gained}
 use Rattle.tree.specs.HungBelow.{HungBelow, hang-held, other, node-cases}
-use Rattle.words.specs.Gain.{Gain, gained-hung-below, gained-table-but, gained-length, gained-counted}
+use Rattle.words.specs.Gain.{Gain, gain-ends, gained-hung-below, gained-table-but}
 use Rattle.tree.specs.Free.{Found, used-full}
 use Rattle.words.specs.Stock.{find-some}
 use Rattle.numbers.specs.Front.{front, byteOf, byte-lt, front-more, front-up}
-use Rattle.paths.specs.Alike.{Alike, gained-alike}
+use Rattle.paths.specs.Alike.{Alike, rehung-alike}
 
 -- a table of L levels but for b, the array of the first 8 * j bits q, whose cell i is without a link
 pub record OpenCell (L : ℕ) (ws : List ℕ) (q j b i : ℕ) : Type 0 where
@@ -49,9 +49,6 @@ module _ (L : ℕ) (ws : List ℕ) (q j b i : ℕ) (tip : OpenCell L ws q j b i)
   abbrev f : ℕ
   f = firstFree (arraysOf ws) 1 (arrayCount ws)
 
-  abbrev vs : List ℕ
-  vs = gained ws b i f
-
   fo : Found (arraysOf ws) 1 (arrayCount ws) f
   fo = find-some L b ws (tip .ok) room
 
@@ -71,17 +68,10 @@ module _ (L : ℕ) (ws : List ℕ) (q j b i : ℕ) (tip : OpenCell L ws q j b i)
     free = fo .free;
   }
 
-  hang : HungBelow (arrayCount ws) L (arraysOf ws) (arraysOf vs) b i f
-  hang = gained-hung-below L ws b i f (tip .ok) gn
-
   can-gain : Gains ws b i f
   can-gain = record {
-    size = tip .ok .high;
-    parent = tip .some;
-    inside = omega (arith, lv .within, tip .ok .low);
-    cells = tip .cells;
-    some = fo .low;
-    within = omega (arith, fo .high, tip .ok .low);
+    ends = gain-ends L ws b i f (tip .ok) gn;
+    off = tip .off;
     count = omega (arith, tip .ok .high);
     groups =
         let g = (f - 1) / 8 in
@@ -89,33 +79,37 @@ module _ (L : ℕ) (ws : List ℕ) (q j b i : ℕ) (tip : OpenCell L ws q j b i)
         omega (arith, e, used-full (arraysOf ws) (perGroup * g) perGroup);
   }
 
-  -- a path that led somewhere leads there
-  stay : (v k : ℕ) → 1 ≤ node (arraysOf ws) v k → node (arraysOf vs) v k ≡ node (arraysOf ws) v k
-  stay v k p = ⊎-elim
-      (λ (e : node (arraysOf vs) v k ≡ node (arraysOf ws) v k). e)
-      (λ (e : (node (arraysOf vs) v k ≡ f) × (node (arraysOf ws) v k ≡ 0)). absurd (omega (arith, e .1)))
-      (node-cases (arrayCount ws) L (arraysOf ws) (arraysOf vs) b i f hang (tip .ok .shape) v k)
+  module _ (vs : List ℕ) (re : Gained ws vs b i f) where
+    hang : HungBelow (arrayCount ws) L (arraysOf ws) (arraysOf vs) b i f
+    hang = gained-hung-below L ws b i f (tip .ok) gn vs re
 
-  stay-tip : node (arraysOf vs) q j ≡ b
-  stay-tip = stay q j (rw (tip .leads) (tip .some)) ∙ tip .leads
+    -- a path that led somewhere leads there
+    stay : (v k : ℕ) → 1 ≤ node (arraysOf ws) v k → node (arraysOf vs) v k ≡ node (arraysOf ws) v k
+    stay v k p = ⊎-elim
+        (λ (e : node (arraysOf vs) v k ≡ node (arraysOf ws) v k). e)
+        (λ (e : (node (arraysOf vs) v k ≡ f) × (node (arraysOf ws) v k ≡ 0)). absurd (omega (arith, e .1)))
+        (node-cases (arrayCount ws) L (arraysOf ws) (arraysOf vs) b i f hang (tip .ok .shape) v k)
 
-  leads : node (arraysOf vs) (q * 256 + i) (suc j) ≡ f
-  leads = node-child (arraysOf vs) q j i (tip .cells) (rw stay-tip (tip .some)) ∙ rw stay-tip (hang .on)
+    stay-tip : node (arraysOf vs) q j ≡ b
+    stay-tip = stay q j (rw (tip .leads) (tip .some)) ∙ tip .leads
 
-  ok : TableBut L f vs
-  ok = gained-table-but L ws b i f (tip .ok) gn
+    leads : node (arraysOf vs) (q * 256 + i) (suc j) ≡ f
+    leads = node-child (arraysOf vs) q j i (tip .cells) (rw stay-tip (tip .some)) ∙ rw stay-tip (hang .on)
 
-  -- the fresh array is a tip itself, at any cell
-  grow-tip : (y : ℕ) → y < cellCount → OpenCell L vs (q * 256 + i) (suc j) f y
-  grow-tip y w = record {
-    ok = ok;
-    some = fo .low;
-    leads = leads;
-    cells = w;
-    off =
-        let n : f ≢ b = λ e. other (arrayCount ws) L (arraysOf ws) (arraysOf vs) b i f hang (sym e) in
-        hang .links f y (fo .low) w (inl n) ∙ hang .no-link y w;
-  }
+    ok : TableBut L f vs
+    ok = gained-table-but L ws b i f (tip .ok) gn vs re
+
+    -- the fresh array is a tip itself, at any cell
+    grow-tip : (y : ℕ) → y < cellCount → OpenCell L vs (q * 256 + i) (suc j) f y
+    grow-tip y w = record {
+      ok = ok;
+      some = fo .low;
+      leads = leads;
+      cells = w;
+      off =
+          let n : f ≢ b = λ e. other (arrayCount ws) L (arraysOf ws) (arraysOf vs) b i f hang (sym e) in
+          hang .links f y (fo .low) w (inl n) ∙ hang .no-link y w;
+    }
 
 -- ---- in a row, from level j to level i
 
@@ -166,45 +160,43 @@ module _ {L : ℕ} {ws vs : List ℕ} {a j i b : ℕ} (t : Turn L ws vs a j i b)
     abbrev F : ℕ
     F = firstFree (arraysOf vs) 1 (arrayCount vs)
 
-    abbrev U : List ℕ
-    U = gained vs b Y F
+    module _ (U : List ℕ) (re : Gained vs U b Y F) where
+      leads-on : node (arraysOf U) (front L a (suc i)) (suc i) ≡ F
+      leads-on =
+          ap (λ (q : ℕ). node (arraysOf U) q (suc i)) (front-more L a i (omega arith))
+          ∙ leads L vs (front L a i) i b Y (t .tip) deep room U re
 
-    leads-on : node (arraysOf U) (front L a (suc i)) (suc i) ≡ F
-    leads-on =
-        ap (λ (q : ℕ). node (arraysOf U) q (suc i)) (front-more L a i (omega arith))
-        ∙ leads L vs (front L a i) i b Y (t .tip) deep room
+      others : (c : ℕ) → 1 ≤ c → ((n : ℕ) → j ≤ n → n ≤ suc i → node (arraysOf U) (front L a n) n ≢ c) → Alike ws U c
+      others c h n w m =
+          let kept : (k : ℕ) → k ≤ i → node (arraysOf U) (front L a k) k ≡ node (arraysOf vs) (front L a k) k =
+          λ k hi. stay L vs (front L a i) i b Y (t .tip) deep room U re (front L a k) k (there k hi) in
+          rehung-alike (can-gain L vs (front L a i) i b Y (t .tip) deep room .ends) re c h
+          (λ e. n (suc i) (omega (arith, t .low)) (omega arith) (leads-on ∙ sym e))
+          (λ e. n i (t .low) (omega arith) (stay-tip L vs (front L a i) i b Y (t .tip) deep room U re ∙ sym e)) w m
+          ∙ t .grown .others c h (λ k lo hi e. n k lo (omega arith) (kept k hi ∙ e)) w m
 
-    others : (c : ℕ) → 1 ≤ c → ((n : ℕ) → j ≤ n → n ≤ suc i → node (arraysOf U) (front L a n) n ≢ c) → Alike ws U c
-    others c h n w m =
-        let kept : (k : ℕ) → k ≤ i → node (arraysOf U) (front L a k) k ≡ node (arraysOf vs) (front L a k) k =
-        λ k hi. stay L vs (front L a i) i b Y (t .tip) deep room (front L a k) k (there k hi) in
-        gained-alike vs b Y F (can-gain L vs (front L a i) i b Y (t .tip) deep room) c h
-        (λ e. n (suc i) (omega (arith, t .low)) (omega arith) (leads-on ∙ sym e))
-        (λ e. n i (t .low) (omega arith) (stay-tip L vs (front L a i) i b Y (t .tip) deep room ∙ sym e)) w m
-        ∙ t .grown .others c h (λ k lo hi e. n k lo (omega arith) (kept k hi ∙ e)) w m
+      grown : Grown L ws U a j (suc i) F
+      grown =
+          let hg = hang L vs (front L a i) i b Y (t .tip) deep room U re in
+          record {
+            ok = ok L vs (front L a i) i b Y (t .tip) deep room U re;
+            some = fo L vs (front L a i) i b Y (t .tip) deep room .low;
+            size = re .size ∙ t .grown .size;
+            leads = leads-on;
+            held = λ v l. hang-held (arrayCount vs) L (arraysOf vs) (arraysOf U) b Y F hg (t .tip .ok .shape) v l
+                ∙ t .grown .held v l;
+            count = omega (arith, re .count, t .grown .count, t .low);
+            others = others;
+          }
 
-    grown : Grown L ws U a j (suc i) F
-    grown =
-        let g = gn L vs (front L a i) i b Y (t .tip) deep room in
-        let hg = hang L vs (front L a i) i b Y (t .tip) deep room in
-        record {
-          ok = ok L vs (front L a i) i b Y (t .tip) deep room;
-          some = fo L vs (front L a i) i b Y (t .tip) deep room .low;
-          size = gained-length L vs b Y F (t .tip .ok) g ∙ t .grown .size;
-          leads = leads-on;
-          held = λ v l. hang-held (arrayCount vs) L (arraysOf vs) (arraysOf U) b Y F hg (t .tip .ok .shape) v l
-              ∙ t .grown .held v l;
-          count = omega (arith, gained-counted L vs b Y F (t .tip .ok) g .count, t .grown .count, t .low);
-          others = others;
-        }
+      turn : Turn L ws U a j (suc i) F
+      turn = record {
+        low = omega (arith, t .low);
+        high = deep;
+        grown = grown;
+        tip = rw (front-more L a i (omega arith))
+            (grow-tip L vs (front L a i) i b Y (t .tip) deep room U re (byteOf L a (suc i)) (byte-lt L a (suc i)));
+      }
 
-    pub turn-more : (us : List ℕ) → us ≡ gained vs b y f → Turn L ws us a j (i + 1) f
-    turn-more us eu =
-        let s : i + 1 ≡ suc i = omega arith in
-        rw (eu, ey, ef, s) (record {
-          low = omega (arith, t .low);
-          high = deep;
-          grown = grown;
-          tip = rw (front-more L a i (omega arith))
-              (grow-tip L vs (front L a i) i b Y (t .tip) deep room (byteOf L a (suc i)) (byte-lt L a (suc i)));
-        })
+    pub turn-more : (us : List ℕ) → Gained vs us b y f → Turn L ws us a j (i + 1) f
+    turn-more us g = let s : i + 1 ≡ suc i = omega arith in rw (ef, s) (turn us (rw (ey, ef) at g))

@@ -1,9 +1,10 @@
 -- The search for a free array, and what it finds. Assumes nothing.
-use mathlib.Core.Path.{_≡_}
+use mathlib.Core.Path.{_≡_, ap}
 use mathlib.Core.Bool.{cond}
 use Prim.Native.Nat.{ℕ, zero, suc, _+_, _≤_, _<_}
 use native.Mathlib.Omega.{arith}
 use lib.Dec.{eqb}
+use borrow.Author.Tests.{ne-eqb}
 use Rattle.logic.specs.Cases.{same}
 use Rattle.tree.specs.Arrays.{Arrays, usedIn, usedOf}
 
@@ -26,6 +27,14 @@ pub used-full : (t : Arrays) (lo n : ℕ) → usedIn t lo n ≤ n
 used-full t lo zero = omega arith
 used-full t lo (suc n) =
     same (t .tag (lo + suc n)) 0 (λ q b. rw b (omega (arith, used-full t lo n))) (λ q b. rw b (omega (arith, used-full t lo n)))
+
+-- one that is used counts
+pub used-some : (t : Arrays) (lo n a : ℕ) → lo < a → a ≤ lo + n → 1 ≤ t .tag a → 1 ≤ usedIn t lo n
+used-some t lo zero a h w u = absurd (omega arith)
+used-some t lo (suc n) a h w u =
+    same a (lo + suc n)
+    (λ e _. rw (ne-eqb (t .tag (lo + suc n)) 0 (λ z. omega (arith, ap (t .tag) e))) (omega arith))
+    (λ m _. omega (arith, used-some t lo n a h (omega arith) u))
 
 -- the first of them apart
 used-first : (t : Arrays) (lo n : ℕ) → usedIn t lo (suc n) ≡ cond (eqb (t .tag (lo + 1)) 0) 0 1 + usedIn t (suc lo) n

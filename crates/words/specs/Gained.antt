@@ -1,44 +1,70 @@
 -- An array gained or released: what is asked, and the words afterwards. Assumes nothing.
+use mathlib.Core.Path.{_≡_}
+use mathlib.Core.Logic.{_⊎_, _≢_}
 use mathlib.Core.List.{List}
 use Prim.Native.Nat.{ℕ, _+_, _-_, _/_, _≤_, _<_}
 use lib.ListN.{length, getD, set}
 use Rattle.sizes.specs.Sizes.{mostArrays, mostWords, cellCount, arrayAt, cellAt, perGroup}
 use Rattle.array.specs.Tag.{tagOf, parentIn, cellIn, levelIn}
-use Rattle.array.specs.With.{withLink}
+use Rattle.array.specs.Cell.{linkIn}
+use Rattle.array.specs.Link.{Relinked}
+use Rattle.array.specs.Frame.{pageOf}
 
 -- the word of the header that counts the group of array a
-abbrev pub group : ℕ → ℕ
-group a = (a - 1) / perGroup + 1
+abbrev pub groupAt : ℕ → ℕ
+groupAt a = (a - 1) / perGroup + 1
 
--- the words with the tag x of a, the cell y in word k, the count n and a's group m
-unfoldable pub rehung : List ℕ → ℕ → ℕ → ℕ → ℕ → ℕ → ℕ → List ℕ
-rehung ws a x k y n m = set (set (set (set ws (arrayAt a) x) k y) 0 n) (group a) m
+-- the words with the tag x of a, the count n and a's group m
+unfoldable pub retagged : List ℕ → ℕ → ℕ → ℕ → ℕ → List ℕ
+retagged ws a x n m = set (set (set ws (arrayAt a) x) 0 n) (groupAt a) m
 
-unfoldable pub gained : List ℕ → ℕ → ℕ → ℕ → List ℕ
-gained ws p i a =
-    let k = cellAt p i in
-    rehung ws a (tagOf p i (levelIn (getD ws (arrayAt p) 0) + 1)) k
-    (withLink (getD ws k 0) (a - 1)) (getD ws 0 0 + 1) (getD ws (group a) 0 + 1)
+-- ---- what is asked
 
-unfoldable pub released : List ℕ → ℕ → List ℕ
-released ws a =
-    let k = cellAt (parentIn (getD ws (arrayAt a) 0)) (cellIn (getD ws (arrayAt a) 0)) in
-    rehung ws a 0 k (withLink (getD ws k 0) 0) (getD ws 0 0 - 1) (getD ws (group a) 0 - 1)
-
-pub record Gains (ws : List ℕ) (p i a : ℕ) : Type 0 where
+-- an array a and another, p, of which i is a cell
+pub record Ends (ws : List ℕ) (p i a : ℕ) : Type 0 where
   pub size : length ws ≤ mostWords
   pub parent : 1 ≤ p
   pub inside : arrayAt (p + 1) ≤ length ws
   pub cells : i < cellCount
-  pub some : 1 ≤ a
+  pub some : 2 ≤ a
   pub within : arrayAt (a + 1) ≤ length ws
-  pub count : getD ws 0 0 < mostArrays
-  pub groups : getD ws (group a) 0 < mostArrays
+  pub apart : p ≢ a
 
-pub record Releases (ws : List ℕ) (a : ℕ) : Type 0 where
-  pub size : length ws ≤ mostWords
-  pub some : 1 ≤ a
-  pub within : arrayAt (a + 1) ≤ length ws
-  pub parent : arrayAt (parentIn (getD ws (arrayAt a) 0) + 1) ≤ length ws
+pub record Gains (ws : List ℕ) (p i a : ℕ) : Type 0 where
+  pub ends : Ends ws p i a
+  pub off : linkIn (getD ws (cellAt p i) 0) ≡ 0
+  pub count : getD ws 0 0 < mostArrays
+  pub groups : getD ws (groupAt a) 0 < mostArrays
+
+-- an array a, its tag x
+pub record ReleasesOf (ws : List ℕ) (a x : ℕ) : Type 0 where
+  pub ends : Ends ws (parentIn x) (cellIn x) a
+  pub on : linkIn (getD ws (cellAt (parentIn x) (cellIn x)) 0) ≢ 0
   pub count : 1 ≤ getD ws 0 0
-  pub groups : 1 ≤ getD ws (group a) 0
+  pub groups : 1 ≤ getD ws (groupAt a) 0
+
+abbrev pub Releases : List ℕ → ℕ → Type 0
+Releases ws a = ReleasesOf ws a (getD ws (arrayAt a) 0)
+
+-- ---- the words afterwards
+
+-- vs is ws with the tag x of a, the link c in cell i of p, the count n and a's group m
+pub record Rehung (ws vs : List ℕ) (p i a x c n m : ℕ) : Type 0 where
+  pub size : length vs ≡ length ws
+  pub tag : getD vs (arrayAt a) 0 ≡ x
+  pub page : Relinked (pageOf ws p) (pageOf vs p) i c
+  pub count : getD vs 0 0 ≡ n
+  pub group : getD vs (groupAt a) 0 ≡ m
+  pub other : (j : ℕ) → j ≢ arrayAt a → j ≢ 0 → j ≢ groupAt a → (j < arrayAt p) ⊎ (arrayAt (p + 1) ≤ j)
+      → getD vs j 0 ≡ getD ws j 0
+
+-- a, hung below cell i of p
+abbrev pub Gained : List ℕ → List ℕ → ℕ → ℕ → ℕ → Type 0
+Gained ws vs p i a =
+    Rehung ws vs p i a (tagOf p i (levelIn (getD ws (arrayAt p) 0) + 1)) a (getD ws 0 0 + 1) (getD ws (groupAt a) 0 + 1)
+
+-- a, taken from the cell that its tag names
+abbrev pub Released : List ℕ → List ℕ → ℕ → Type 0
+Released ws vs a =
+    Rehung ws vs (parentIn (getD ws (arrayAt a) 0)) (cellIn (getD ws (arrayAt a) 0)) a 0 0 (getD ws 0 0 - 1)
+    (getD ws (groupAt a) 0 - 1)

@@ -5,6 +5,7 @@ pub mod Table
 pub mod CheckReflects
 pub mod View
 pub mod Size
+pub mod Lent
 pub mod Rehung
 pub mod Gain
 pub mod Release
@@ -12,5 +13,4 @@ pub mod Stock
 pub mod Clear
 pub mod SlotSet
 pub mod Listed
-pub mod Lent
 pub mod Half

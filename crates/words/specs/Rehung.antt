@@ -1,94 +1,149 @@
--- The words after an array is gained or released, word by word, and what the header counts then. Assumes nothing.
+-- The words after an array is gained or released: how they come about, what is seen in them, and what the header counts then.
+-- Assumes nothing.
 use mathlib.Core.Path.{_≡_, sym, ap, _∙_}
 use mathlib.Core.Logic.{_⊎_, _≢_, inl, inr, ⊎-elim}
 use mathlib.Core.List.{List}
 use Prim.Native.Nat.{ℕ, _+_, _-_, _*_, _/_, _≤_, _<_}
 use native.Mathlib.Omega.{arith}
 use lib.ListN.{length, getD, set, length-set}
-use lib.Seq.{getD-set-same, getD-set-other}
+use lib.Seq.{getD-set-same, getD-set-other, ext-getD}
 use Rattle.logic.specs.Cases.{same, less}
 use Rattle.sizes.specs.Sizes.{arrayWords, mostWords, slotEnd, cellCount, cellsAt}
 use Rattle.sizes.specs.Sizes.{arrayAt, wordAt, cellAt, perGroup, groupCount}
+use Rattle.array.specs.Cell.{bestIn, linkIn}
+use Rattle.array.specs.Link.{Relinked}
+use Rattle.array.specs.Frame.{pageOf, withPage, page-word, page-length, with-length, with-in, with-other}
 use Rattle.tree.specs.Arrays.{Arrays, usedIn, usedOf}
 use Rattle.tree.specs.HungBelow.{HungBelow, used-out, used-inside}
-use Rattle.words.specs.Words.{arraysOf, arrayCount}
+use Rattle.words.specs.Words.{arraysOf, arrayCount, slotsOf, bestsOf}
+use Rattle.words.specs.Lent.{lent-best, lent-link}
 use Rattle.words.specs.TableBut.{Header}
-use Rattle.words.specs.Gained.{group, rehung}
+use Rattle.words.specs.Gained.{groupAt, retagged, Ends, Rehung}
 
--- ---- where words lie
+-- ---- the words with another page of p, then the tag of a and the counts stored
 
-pub apart : (c a k m : ℕ) → k < arrayWords → m < arrayWords → wordAt c k ≡ wordAt a m → (c ≡ a) × (k ≡ m)
-apart c a k m h w e = let q : c ≡ a = omega arith in (q, omega arith)
+-- word k of another array, or one past the tag of a, is not the tag of a
+no-tag : (c a k : ℕ) → k < arrayWords → (c ≢ a) ⊎ (k ≢ 0) → wordAt c k ≢ arrayAt a
+no-tag c a k h n e = ⊎-elim (λ (z : c ≢ a). z (omega arith)) (λ (z : k ≢ 0). z (omega arith)) n
 
-pub cell-tag : (c j a : ℕ) → j < cellCount → cellAt c j ≢ arrayAt a
-cell-tag c j a h e = let q = apart c a (cellsAt + j) 0 (omega arith) (omega arith) (omega arith) .1 in omega arith
+-- the header's words lie before all arrays
+no-group : (c a k : ℕ) → 1 ≤ c → arrayAt a ≤ mostWords → wordAt c k ≢ groupAt a
+no-group c a k h w e = omega arith
 
-pub slot-tag : (c s a : ℕ) → 1 ≤ s → s < slotEnd → wordAt c s ≢ arrayAt a
-slot-tag c s a l h e = let q = apart c a s 0 (omega arith) (omega arith) (omega arith) .1 in omega arith
-
-pub slot-cell : (c s p i : ℕ) → s < slotEnd → i < cellCount → wordAt c s ≢ cellAt p i
-slot-cell c s p i h w e = let q = apart c p s (cellsAt + i) (omega arith) (omega arith) (omega arith) .1 in omega arith
-
-pub cell-cell : (c j p i : ℕ) → j < cellCount → i < cellCount → (c ≢ p) ⊎ (j ≢ i) → cellAt c j ≢ cellAt p i
-cell-cell c j p i h w n e =
-    let q = apart c p (cellsAt + j) (cellsAt + i) (omega arith) (omega arith) (omega arith) in
-    ⊎-elim (λ (z : c ≢ p). z (q .0)) (λ (z : j ≢ i). z (omega (arith, q .1))) n
-
--- ---- one word of rehung
-
-module _ (ws : List ℕ) (a x p i y n m : ℕ) (h : 1 ≤ a) (w : arrayAt (a + 1) ≤ length ws) (hp : 1 ≤ p)
-    (wp : arrayAt (p + 1) ≤ length ws) (hi : i < cellCount) (size : length ws ≤ mostWords) where
-  abbrev vs : List ℕ
-  vs = rehung ws a x (cellAt p i) y n m
+module _ (ws b : List ℕ) (p i a x c n m : ℕ) (g : Ends ws p i a) (k : Relinked (pageOf ws p) b i c) where
+  abbrev us : List ℕ
+  us = withPage ws p b
 
   abbrev s1 : List ℕ
-  s1 = set ws (arrayAt a) x
+  s1 = set us (arrayAt a) x
 
   abbrev s2 : List ℕ
-  s2 = set s1 (cellAt p i) y
+  s2 = set s1 0 n
 
-  abbrev s3 : List ℕ
-  s3 = set s2 0 n
+  abbrev vs : List ℕ
+  vs = retagged us a x n m
 
-  pub re-length : length vs ≡ length ws
-  unfolding rehung
-  re-length = simp length-set
+  whole : length b ≡ arrayWords
+  whole = k .size ∙ page-length ws p (g .inside)
 
-  pub re-other : (j : ℕ) → j ≢ arrayAt a → j ≢ cellAt p i → j ≢ 0 → j ≢ group a → getD vs j 0 ≡ getD ws j 0
-  unfolding rehung
-  re-other j e f g k =
-      getD-set-other s3 (group a) j m 0 k ∙ getD-set-other s2 0 j n 0 g ∙ getD-set-other s1 (cellAt p i) j y 0 f
-      ∙ getD-set-other ws (arrayAt a) j x 0 e
+  lent : length us ≡ length ws
+  lent = with-length ws p b (g .inside) whole
 
-  pub re-tag : getD vs (arrayAt a) 0 ≡ x
-  unfolding rehung
-  re-tag =
-      getD-set-other s3 (group a) (arrayAt a) m 0 (λ e. omega arith) ∙ getD-set-other s2 0 (arrayAt a) n 0 (λ e. omega arith)
-      ∙ getD-set-other s1 (cellAt p i) (arrayAt a) y 0 (λ e. omega arith) ∙ getD-set-same ws (arrayAt a) x 0 (omega arith)
+  long : length vs ≡ length ws
+  unfolding retagged
+  long = length-set s2 (groupAt a) m ∙ length-set s1 0 n ∙ length-set us (arrayAt a) x ∙ lent
 
-  pub re-cell : getD vs (cellAt p i) 0 ≡ y
-  unfolding rehung
-  re-cell =
-      getD-set-other s3 (group a) (cellAt p i) m 0 (λ e. omega arith) ∙ getD-set-other s2 0 (cellAt p i) n 0 (λ e. omega arith)
-      ∙ getD-set-same s1 (cellAt p i) y 0 (simp length-set (omega arith))
+  other : (j : ℕ) → j ≢ arrayAt a → j ≢ 0 → j ≢ groupAt a → getD vs j 0 ≡ getD us j 0
+  unfolding retagged
+  other j e f h =
+      getD-set-other s2 (groupAt a) j m 0 h ∙ getD-set-other s1 0 j n 0 f ∙ getD-set-other us (arrayAt a) j x 0 e
 
-  pub re-count : getD vs 0 0 ≡ n
-  unfolding rehung
-  re-count = getD-set-other s3 (group a) 0 m 0 (λ e. omega arith) ∙ getD-set-same s2 0 n 0 (simp length-set (omega arith))
+  tag : getD vs (arrayAt a) 0 ≡ x
+  unfolding retagged
+  tag =
+      getD-set-other s2 (groupAt a) (arrayAt a) m 0 (λ e. omega (arith, g .within, g .some, g .size))
+      ∙ getD-set-other s1 0 (arrayAt a) n 0 (λ e. omega (arith, g .some))
+      ∙ getD-set-same us (arrayAt a) x 0 (omega (arith, lent, g .within))
 
-  pub re-group : getD vs (group a) 0 ≡ m
-  unfolding rehung
-  re-group = getD-set-same s3 (group a) m 0 (simp length-set (omega arith))
+  count : getD vs 0 0 ≡ n
+  unfolding retagged
+  count =
+      getD-set-other s2 (groupAt a) 0 m 0 (λ e. omega arith)
+      ∙ getD-set-same s1 0 n 0 (omega (arith, length-set us (arrayAt a) x, lent, g .within))
 
-  -- a word of an array that is neither its tag nor the cell
-  pub re-word : (c k : ℕ) → 1 ≤ c → k < arrayWords → (c ≢ a) ⊎ (k ≢ 0) → (c ≢ p) ⊎ (k ≢ cellsAt + i)
-      → getD vs (wordAt c k) 0 ≡ getD ws (wordAt c k) 0
-  re-word c k hc hk e f =
-      re-other (wordAt c k)
-      (λ q. ⊎-elim (λ (z : c ≢ a). z (omega arith)) (λ (z : k ≢ 0). z (omega arith)) e)
-      (λ q. ⊎-elim (λ (z : c ≢ p). z (omega arith)) (λ (z : k ≢ cellsAt + i). z (omega arith)) f)
-      (λ q. omega arith)
-      (λ q. omega arith)
+  group : getD vs (groupAt a) 0 ≡ m
+  unfolding retagged
+  group =
+      getD-set-same s2 (groupAt a) m 0
+      (omega (arith, length-set s1 0 n, length-set us (arrayAt a) x, lent, g .within, g .some))
+
+  -- the page of p is the one put there
+  pub new-page : pageOf vs p ≡ b
+  new-page =
+      ext-getD 0 (pageOf vs p) b (page-length vs p (rw long (g .inside)) ∙ sym whole)
+      (λ r h. let l : r < arrayWords = omega (arith, h, page-length vs p (rw long (g .inside))) in
+      page-word vs p r l
+      ∙ other (wordAt p r) (no-tag p a r l (inl (g .apart))) (λ e. omega (arith, g .parent))
+      (no-group p a r (g .parent) (omega (arith, g .within, g .size)))
+      ∙ with-in ws p b (g .inside) whole r l)
+
+  pub rehangs : Rehung ws (retagged (withPage ws p b) a x n m) p i a x c n m
+  rehangs = record {
+    size = long;
+    tag = tag;
+    page = rw new-page k;
+    count = count;
+    group = group;
+    other = λ j e f h o. other j e f h ∙ with-other ws p b (g .inside) whole j o;
+  }
+
+-- ---- what is seen in them
+
+module _ {ws vs : List ℕ} {p i a x c n m : ℕ} (g : Ends ws p i a) (r : Rehung ws vs p i a x c n m) where
+  -- another array than p
+  pub re-word : (d k : ℕ) → 1 ≤ d → k < arrayWords → d ≢ p → (d ≢ a) ⊎ (k ≢ 0) → getD vs (wordAt d k) 0 ≡ getD ws (wordAt d k) 0
+  re-word d k h w e f =
+      r .other (wordAt d k) (no-tag d a k w f) (λ q. omega arith) (no-group d a k h (omega (arith, g .within, g .size)))
+      (less d p (λ l _. inl (omega arith)) (λ l _. inr (omega arith)))
+
+  -- a word of p that is no cell
+  pub re-low : (k : ℕ) → k < cellsAt → getD vs (wordAt p k) 0 ≡ getD ws (wordAt p k) 0
+  re-low k h = sym (page-word vs p k (omega arith)) ∙ r .page .low k h ∙ page-word ws p k (omega arith)
+
+  -- the header
+  pub re-header : (k : ℕ) → k < arrayWords → k ≢ 0 → k ≢ groupAt a → getD vs k 0 ≡ getD ws k 0
+  re-header k h e f = r .other k (λ q. omega (arith, g .some)) e f (inl (omega (arith, g .parent)))
+
+  pub re-tags : (d : ℕ) → 1 ≤ d → d ≢ a → arraysOf vs .tag d ≡ arraysOf ws .tag d
+  re-tags d h e =
+      let z : arrayAt d ≡ wordAt d 0 = omega arith in
+      rw z (same d p (λ q _. rw q (re-low 0 (omega arith))) (λ f _. re-word d 0 h (omega arith) f (inl e)))
+
+  pub re-slots : (d s : ℕ) → 1 ≤ d → 1 ≤ s → s < slotEnd → slotsOf vs d s ≡ slotsOf ws d s
+  re-slots d s h l b =
+      same d p (λ q _. rw q (re-low s (omega arith))) (λ f _. re-word d s h (omega arith) f (inr (λ q. omega arith)))
+
+  -- a cell of another array than p
+  pub re-cell : (d j : ℕ) → 1 ≤ d → j < cellCount → d ≢ p → getD vs (cellAt d j) 0 ≡ getD ws (cellAt d j) 0
+  re-cell d j h b f =
+      let z : cellAt d j ≡ wordAt d (cellsAt + j) = omega arith in
+      rw z (re-word d (cellsAt + j) h (omega arith) f (inr (λ q. omega arith)))
+
+  pub re-bests : (d j : ℕ) → 1 ≤ d → j < cellCount → bestsOf vs d j ≡ bestsOf ws d j
+  re-bests d j h b =
+      same d p
+      (λ q _. rw q (sym (lent-best vs p j b) ∙ r .page .same-bests j b ∙ lent-best ws p j b))
+      (λ f _. ap bestIn (re-cell d j h b f))
+
+  pub re-here : arraysOf vs .link p i ≡ c
+  re-here = sym (lent-link vs p i (g .cells)) ∙ r .page .here
+
+  pub re-links : (d j : ℕ) → 1 ≤ d → j < cellCount → (d ≢ p) ⊎ (j ≢ i) → arraysOf vs .link d j ≡ arraysOf ws .link d j
+  re-links d j h b o =
+      same d p
+      (λ q _. rw q (sym (lent-link vs p j b)
+      ∙ r .page .same-links j b (⊎-elim (λ (z : d ≢ p). absurd (z q)) (λ (z : j ≢ i). z) o) ∙ lent-link ws p j b))
+      (λ f _. ap linkIn (re-cell d j h b f))
 
 -- ---- the header
 

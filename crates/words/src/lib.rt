@@ -11,7 +11,6 @@ use part::page;
 use part::tag;
 use size::arrays_in;
 use sizes::ARRAY_WORDS;
-use sizes::CELLS_AT;
 use sizes::GROUP_STRIDE;
 use sizes::PER_GROUP;
 use sizes::STRIDE_ARRAYS;
@@ -23,7 +22,7 @@ ghost use Rattle.array.specs.Check.{emptyB};
 ghost use Rattle.words.specs.Words.{arraysOf, arrayCount, slotsOf};
 ghost use Rattle.words.specs.TableBut.{Header};
 ghost use Rattle.tree.specs.Free.{usedFrom, firstFree};
-ghost use Rattle.words.specs.Gained.{gained, released, Gains, Releases};
+ghost use Rattle.words.specs.Gained.{retagged, Gains, Releases, Gained, Released};
 
 // The first free array among from .. to - 1, 0 where there is none.
 fn first_free(words: &[u32], from: usize, to: usize) -> usize
@@ -108,41 +107,46 @@ pub fn empty(words: &[u32], a: usize) -> bool
     array::check::empty(page(words, a))
 }
 
+// Array a gets the tag x; n arrays are used then, m of them in its group.
+fn retag(words: &mut [u32], a: usize, x: u32, n: u32, m: u32)
+    requires { ⌜ (1 ≤ a) × (arrayAt (a + 1) ≤ length (now words)) × (length (now words) ≤ mostWords) ⌝ }
+    ensures { λ _. ⌜ now (words .exit) ≡ retagged (now (words .entry)) a x n m ⌝ }
+{
+    let to = ARRAY_WORDS * a;
+    let group = (a - 1) / PER_GROUP + 1;
+    words[to] = x;
+    words[0] = n;
+    words[group] = m;
+}
+
 // The free array a, hung below cell i of p.
 pub fn gain(words: &mut [u32], p: usize, i: usize, a: usize)
     requires { ⌜ Gains (now words) p i a ⌝ }
-    ensures { λ _. ⌜ now (words .exit) ≡ gained (now (words .entry)) p i a ⌝ }
+    ensures { λ _. ⌜ Gained (now (words .entry)) (now (words .exit)) p i a ⌝ }
 {
     let from = ARRAY_WORDS * p;
-    let to = ARRAY_WORDS * a;
-    let cell = from + CELLS_AT + i;
+    let to = from + ARRAY_WORDS;
     let group = (a - 1) / PER_GROUP + 1;
     let level = level_in(words[from]);
-    let word = words[cell];
     let n = words[0];
     let m = words[group];
-    words[to] = tag_of(p, i, level + 1);
-    words[cell] = array::cell::with_link(word, a as u32 - 1);
-    words[0] = n + 1;
-    words[group] = m + 1;
+    array::link::set_link(&mut words[from..to], i, a as u32);
+    retag(words, a, tag_of(p, i, level + 1), n + 1, m + 1);
 }
 
 // The array a, that is empty, taken from its parent.
 pub fn release(words: &mut [u32], a: usize)
     requires { ⌜ Releases (now words) a ⌝ }
-    ensures { λ _. ⌜ now (words .exit) ≡ released (now (words .entry)) a ⌝ }
+    ensures { λ _. ⌜ Released (now (words .entry)) (now (words .exit)) a ⌝ }
 {
-    let to = ARRAY_WORDS * a;
-    let group = (a - 1) / PER_GROUP + 1;
-    let tag = words[to];
+    let tag = tag(words, a);
     let p = parent_in(tag);
     let i = cell_in(tag);
-    let cell = ARRAY_WORDS * p + CELLS_AT + i;
-    let word = words[cell];
+    let from = ARRAY_WORDS * p;
+    let to = from + ARRAY_WORDS;
+    let group = (a - 1) / PER_GROUP + 1;
     let n = words[0];
     let m = words[group];
-    words[to] = 0;
-    words[cell] = array::cell::with_link(word, 0);
-    words[0] = n - 1;
-    words[group] = m - 1;
+    array::link::cut_link(&mut words[from..to], i);
+    retag(words, a, 0, n - 1, m - 1);
 }

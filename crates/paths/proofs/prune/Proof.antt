@@ -50,16 +50,18 @@ loop-less c =
     let r = c .before .before in
     let p = r .before .before in
     let b = p .before .before .before in
-    rw (r .release .ensures, p .parent-in .ensures, p .before .tag .ensures)
-    (falls (b .before .before .before .before .loop .inv) (λ z. omega arith) (sym (b .before .empty .ensures) ∙ not-false _ (b .if1 .left)))
+    rw (p .parent-in .ensures, p .before .tag .ensures)
+    (falls (b .before .before .before .before .loop .inv) (λ z. omega arith) (sym (b .before .empty .ensures) ∙ not-false _ (b .if1 .left))
+    (r .release .last .0) (r .release .ensures))
 
 loop-again : tie.Need-loop-again Inv-loop μ-loop
 loop-again c =
     let r = c .before .before in
     let p = r .before .before in
     let b = p .before .before .before in
-    rw (r .release .ensures, p .parent-in .ensures, p .before .tag .ensures)
-    (shrink (b .before .before .before .before .loop .inv) (λ z. omega arith) (sym (b .before .empty .ensures) ∙ not-false _ (b .if1 .left)))
+    rw (p .parent-in .ensures, p .before .tag .ensures)
+    (shrink (b .before .before .before .before .loop .inv) (λ z. omega arith) (sym (b .before .empty .ensures) ∙ not-false _ (b .if1 .left))
+    (r .release .last .0) (r .release .ensures))
 
 same-length-2 : tie.Need-same-length-2 Inv-loop μ-loop
 same-length-2 c = c .before .loop .inv .freed .size

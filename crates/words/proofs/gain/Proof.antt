@@ -1,7 +1,11 @@
--- `words::gain` stores the tag, the link and the two counts: all words are read first, so the stores are those of `gained`. Assumes nothing.
+-- `words::gain` lends the page of p for the link, and stores the tag and the two counts. Assumes nothing.
+use mathlib.Core.Path.{_≡_, _∙_}
+use Prim.Native.Nat.{_+_, _-_}
 use native.Mathlib.Omega.{arith}
-use lib.ListN.{length-set}
-use Rattle.words.specs.Gained.{gained, rehung}
+use Rattle.sizes.specs.Sizes.{arrayWords, arrayAt}
+use Rattle.array.specs.Frame.{page-length}
+use Rattle.words.specs.Lent.{lent-link}
+use Rattle.words.specs.Rehung.{rehangs}
 use borrow.Author.Needs.{needs}
 use Rattle.words.proofs.gain.Statement.{statement}
 use Rattle.words.proofs.gain.Tie as tie
@@ -9,14 +13,8 @@ use Rattle.words.proofs.gain.Tie as tie
 mul-from : tie.Need-mul-from
 mul-from c = search needs
 
-mul-to : tie.Need-mul-to
-mul-to c = search needs
-
-add-cell : tie.Need-add-cell
-add-cell c = search needs
-
-add-cell-2 : tie.Need-add-cell-2
-add-cell-2 c = search needs
+add-to : tie.Need-add-to
+add-to c = search needs
 
 sub-group : tie.Need-sub-group
 sub-group c = search needs
@@ -33,12 +31,6 @@ slice-read-level-in c = search needs
 level-in-requires : tie.Need-level-in-requires
 level-in-requires c κs = search needs
 
-mul-word : tie.Need-mul-word
-mul-word c = search needs
-
-slice-read-word : tie.Need-slice-read-word
-slice-read-word c = search needs
-
 slice-read-n : tie.Need-slice-read-n
 slice-read-n c = search needs
 
@@ -48,89 +40,89 @@ mul-m c = search needs
 slice-read-m : tie.Need-slice-read-m
 slice-read-m c = search needs
 
+mul-set-link : tie.Need-mul-set-link
+mul-set-link c = search needs
+
+sub-set-link : tie.Need-sub-set-link
+sub-set-link c = search needs
+
+part-set-link-start : tie.Need-part-set-link-start
+part-set-link-start c = search needs
+
+part-set-link-end : tie.Need-part-set-link-end
+part-set-link-end c = search needs
+
+cast-set-link : tie.Need-cast-set-link
+cast-set-link c = search needs
+
+set-link-requires : tie.Need-set-link-requires
+set-link-requires c κs =
+    let s = c .before .before .before .before .before .before in
+    let p = s .args .p in
+    let g = s .pre in
+    let e : arrayAt p + arrayWords - arrayAt p ≡ arrayWords = omega arith in
+    rw e (
+      (page-length (s .args .words .now) p (g .ends .inside), g .ends .cells),
+      (
+        g .ends .some,
+        omega (arith, g .ends .within, g .ends .size),
+        lent-link (s .args .words .now) p (s .args .i) (g .ends .cells) ∙ g .off,
+      ),
+    )
+
 add-tag-of : tie.Need-add-tag-of
 add-tag-of c = search needs
 
 tag-of-requires : tie.Need-tag-of-requires
 tag-of-requires c κs = search needs
 
-mul-words : tie.Need-mul-words
-mul-words c = search needs
+add-retag : tie.Need-add-retag
+add-retag c = search needs
 
-slice-write-words : tie.Need-slice-write-words
-slice-write-words c = search needs
+add-retag-2 : tie.Need-add-retag-2
+add-retag-2 c = search needs
 
-cast-with-link : tie.Need-cast-with-link
-cast-with-link c = search needs
-
-sub-with-link : tie.Need-sub-with-link
-sub-with-link c = search needs
-
-with-link-requires : tie.Need-with-link-requires
-with-link-requires c κs = search needs
-
-mul-words-2 : tie.Need-mul-words-2
-mul-words-2 c = search needs
-
-slice-write-words-2 : tie.Need-slice-write-words-2
-slice-write-words-2 c = simp length-set (omega arith)
-
-add-words : tie.Need-add-words
-add-words c = search needs
-
-slice-write-words-3 : tie.Need-slice-write-words-3
-slice-write-words-3 c = simp length-set (omega arith)
-
-add-words-2 : tie.Need-add-words-2
-add-words-2 c = search needs
-
-mul-words-3 : tie.Need-mul-words-3
-mul-words-3 c = search needs
-
-slice-write-words-4 : tie.Need-slice-write-words-4
-slice-write-words-4 c = simp length-set (omega arith)
+retag-requires : tie.Need-retag-requires
+retag-requires c κs = search needs
 
 same-length : tie.Need-same-length
 same-length c = search needs
 
 returns : tie.Need-returns
-unfolding gained rehung
 returns c =
-    let tag = c .before in
-    let level = tag .before .before .before .before in
-    rw (c .with-link .ensures, tag .tag-of .ensures, level .level-in .ensures .0)
+    let tag = c .before .before .before in
+    let link = tag .before .before .before .before .set-link in
+    let level = tag .before .before .before .before .before .before .before .before .level-in in
+    let s = tag .before .before .before .before .before .before .before .before .before .before .before in
+    let p = s .args .p in
+    let e : arrayAt p + arrayWords - arrayAt p ≡ arrayWords = omega arith in
+    rw (c .before .before .retag .ensures, tag .tag-of .ensures, level .ensures .0, e)
+    (rehangs (s .args .words .now) (link .last .0) p (s .args .i) (s .args .a) _ (s .args .a) _ _ (s .pre .ends) (rw e at (link .ensures)))
 
 pub gain-spec : {M : Type 1} → statement M
 gain-spec =
     tie.close
     (tie.spec
     mul-from
-    mul-to
-    add-cell
-    add-cell-2
+    add-to
     sub-group
     add-group
     mul-level-in
     slice-read-level-in
     level-in-requires
-    mul-word
-    slice-read-word
     slice-read-n
     mul-m
     slice-read-m
+    mul-set-link
+    sub-set-link
+    part-set-link-start
+    part-set-link-end
+    cast-set-link
+    set-link-requires
     add-tag-of
     tag-of-requires
-    mul-words
-    slice-write-words
-    cast-with-link
-    sub-with-link
-    with-link-requires
-    mul-words-2
-    slice-write-words-2
-    add-words
-    slice-write-words-3
-    add-words-2
-    mul-words-3
-    slice-write-words-4
+    add-retag
+    add-retag-2
+    retag-requires
     same-length
     returns)
