@@ -1,4 +1,5 @@
 pub mod Walk
 pub mod Ended
+pub mod Path
 pub mod Level
 pub mod Longest

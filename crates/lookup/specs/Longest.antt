@@ -9,43 +9,23 @@ use mathlib.Core.Bool.{false}
 use mathlib.Core.List.{List}
 use Prim.Native.Nat.{ℕ, zero, suc, _+_, _-_, _*_, _/_, _%_, _^_, _≤_, _<_}
 use native.Mathlib.Omega.{arith}
-use lib.Pow.{shr-shr, shr-lt}
 use borrow.Author.Tests.{eq-eqb, ne-eqb, le-ltb}
 use Rattle.sizes.specs.Sizes.{cellSlots, levelBound}
 use Rattle.routes.specs.Match.{longest, last}
 use Rattle.routes.specs.Answers.{matched}
-use Rattle.logic.specs.Cases.{same}
 use Rattle.laws.specs.Longest.{longest-walk, last-past}
-use Rattle.numbers.specs.Powers.{cut}
-use Rattle.numbers.specs.Front.{front, byteOf, front-more}
+use Rattle.numbers.specs.Front.{front, byteOf}
 use Rattle.array.specs.Right.{Right}
 use Rattle.tree.specs.Arrays.{Arrays, at, node, held}
 use Rattle.tree.specs.Shape.{Child}
 use Rattle.tree.specs.Tree.{Level, node-level}
-use Rattle.tree.specs.Need.{held-at, at-some, node-child, above}
 use Rattle.words.specs.Words.{arraysOf, arrayCount, slotsOf, bestsOf}
 use Rattle.words.specs.Table.{listOf, seen}
 use Rattle.words.specs.TableBut.{Table}
 use Rattle.words.specs.View.{seen-cases}
 use Rattle.lookup.specs.Walk.{outside, deeper, walkFrom, walk, walked, lookedUp}
+use Rattle.lookup.specs.Path.{along-slot, below-cell, nothing-longer}
 use Rattle.lookup.specs.Level.{best-inside, level-last, level-first, upTo}
-
--- ---- bytes of an address
-
--- the slot of those bits in the array of v
-slot-cut : (i e j : ℕ) → e + j ≡ 8 → (cellSlots + i) / 2 ^ e ≡ 2 ^ j + i / 2 ^ e
-slot-cut i e j p = cut 1 i j e (omega arith) ∙ omega arith
-
-byte-cut : (i e j : ℕ) → e + j ≡ 8 → i < 256 → i / 2 ^ e < 2 ^ j
-byte-cut i e j p b = let q : j + e ≡ 8 = omega arith in shr-lt j e (rw q b)
-
--- the first 8 * k + j bits of an address of L bytes
-bits : (L x k e j : ℕ) → k < L → e + j ≡ 8 → x / 2 ^ (8 * L - (8 * k + j)) ≡ front L x k * 2 ^ j + byteOf L x k / 2 ^ e
-bits L x k e j p q =
-    let s = 8 * L - 8 * suc k in
-    let r : 8 * L - (8 * k + j) ≡ s + e = omega arith in
-    rw r (sym (shr-shr x s e) ∙ ap (λ (y : ℕ). y / 2 ^ e) (front-more L x k p)
-    ∙ cut (front L x k) (byteOf L x k) j e (omega arith))
 
 -- length 0 is held in the array of level 0
 held-root : (t : Arrays) (v w k : ℕ) → k ≡ 0 → held t v 0 ≡ t .slot (node t w k) 1
@@ -75,14 +55,6 @@ module _ (L : ℕ) (ws : List ℕ) (o : Table L ws) (x : ℕ) (small : x < 2 ^ (
       right : Right (k + 1) (slotsOf ws a) (bestsOf ws a)
       right = rw (level .level) at (o .right a there (level .within) (omega (arith, level .level)))
 
-      -- a length of this level
-      along-slot : (j e : ℕ) → e + j ≡ 8 → 1 ≤ j → along (8 * k + j) ≡ slotsOf ws a ((cellSlots + i) / 2 ^ e)
-      along-slot j e q h =
-          ap (λ (v : ℕ). held t v (8 * k + j)) (bits L x k e j (omega arith) q)
-          ∙ held-at t (front L x k) k j (i / 2 ^ e) h (omega arith) (byte-cut i e j q (omega arith))
-          ∙ at-some t a (2 ^ j + i / 2 ^ e) there
-          ∙ ap (slotsOf ws a) (sym (slot-cut i e j q))
-
       -- the best of the cell is in its range, and is the longest match down to this level
       inside : outside (8 * L) (8 * k) (bestsOf ws a i) ≡ false
       inside =
@@ -99,37 +71,19 @@ module _ (L : ℕ) (ws : List ℕ) (o : Table L ws) (x : ℕ) (small : x < 2 ^ (
           let begins = level-first along (slotsOf ws a) k hop root (λ h. right .first (omega arith)) in
           rw (right .sound .best i (omega arith), f)
           (sym (level-last along (slotsOf ws a) (right .sound .hops) (8 * k) (upTo along k) 8 (cellSlots + i) (omega arith)
-          (omega arith) (rw q begins) along-slot))
+          (omega arith) (rw q begins) (along-slot L t x k (omega arith) there)))
 
       -- the array below the cell
       abbrev next : ℕ
       next = node t (front L x (suc k)) (suc k)
 
       below : next ≡ t .link a i
-      below =
-          ap (λ (v : ℕ). node t v (suc k)) (front-more L x k (omega arith))
-          ∙ node-child t (front L x k) k i (omega arith) there
-
-      -- where the path ends, nothing longer is held
-      nothing : t .link a i ≡ 0 → (l : ℕ) → 8 * suc k < l → l ≤ 8 * L → along l ≡ 0
-      nothing z l h w = same (along l) 0 (λ q _. q) (λ q _. absurd (omega (
-        arith,
-        below,
-        above (arrayCount ws) L t (o .shape) (8 * L) (suc k) (front L x (suc k)) (omega arith) (record {
-          v = x / 2 ^ (8 * L - l);
-          l = l;
-          long = h;
-          fits = w;
-          small = let e : l + (8 * L - l) ≡ 8 * L = omega arith in shr-lt l (8 * L - l) (rw e small);
-          head =
-              let e : 8 * L - l + (l - 8 * suc k) ≡ 8 * L - 8 * suc k = omega arith in
-              shr-shr x (8 * L - l) (l - 8 * suc k) ∙ rw e;
-          held = omega arith;
-        }),
-      )))
+      below = below-cell L t x k (omega arith) there
 
       ends : t .link a i ≡ 0 → last along (8 * suc k) ≡ last along (8 * L)
-      ends z = sym (last-past along (8 * suc k) (8 * L) (omega arith) (nothing z))
+      ends z =
+          sym (last-past along (8 * suc k) (8 * L) (omega arith)
+          (nothing-longer L t x k (omega arith) there (arrayCount ws) (o .shape) small z))
 
       -- one turn of the walk: it ends here, or goes on at the array below
       turns : (suc k < L → 1 ≤ next → walkFrom L ws x n next (last along (8 * suc k)) ≡ matched (last along (8 * L)))
