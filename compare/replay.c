@@ -59,7 +59,12 @@ static void say_update(const char *what, toggleash_update u) {
 }
 
 static void say_answer(const char *what, toggleash_answer a) {
-    printf("%s %" PRIu32 " %" PRIu32 " %" PRIu32 " %" PRIu32 "\n", what, a.refusal, a.found, a.hop, a.length);
+    printf("%s %" PRIu32 " %" PRIu32 " %" PRIu32 " %" PRIu32 " %" PRIu32 "\n", what, a.refusal, a.found, a.hop, a.length,
+           a.block);
+}
+
+static void say_match(const char *what, toggleash_match m) {
+    printf("%s %" PRIu32 " %" PRIu32 " %" PRIu32 " %" PRIu32 "\n", what, m.refusal, m.found, m.hop, m.length);
 }
 
 static void say_counts(const char *what, toggleash_counts c) {
@@ -146,7 +151,7 @@ static void lookups(words table, words copy, size_t count) {
     for (size_t i = 0; i < count; i++) {
         uint32_t a = address();
         say_answer("in the table", toggleash_lookup(table.at, table.n, a));
-        say_answer("in the copy", toggleash_copy_lookup(copy.at, copy.n, a));
+        say_match("in the copy", toggleash_copy_lookup(copy.at, copy.n, a));
     }
 }
 
@@ -160,7 +165,7 @@ static void damage(words table, words copy) {
     *word ^= bit;
     word = &copy.at[any() % copy.n];
     *word ^= bit;
-    say_answer("copy lookup, damaged", toggleash_copy_lookup(copy.at, copy.n, a));
+    say_match("copy lookup, damaged", toggleash_copy_lookup(copy.at, copy.n, a));
     *word ^= bit;
 }
 

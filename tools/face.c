@@ -23,7 +23,8 @@ _Static_assert(sizeof(uint64_t) == 8 && _Alignof(uint64_t) == 8, "a count is not
                        offsetof(toggleash_##answer, last) + sizeof(type) == (bytes),                 \
                    "toggleash_" #answer " is not laid out as in the module")
 LAID_OUT(counts, 12, arrays, uint32_t);
-LAID_OUT(answer, 16, length, uint32_t);
+LAID_OUT(answer, 20, block, uint32_t);
+LAID_OUT(match, 16, length, uint32_t);
 LAID_OUT(update, 12, cells, uint32_t);
 LAID_OUT(written, 16, bytes, uint64_t);
 LAID_OUT(ran, 40, refused, uint64_t);
@@ -40,7 +41,7 @@ void proved_write_out(toggleash_written *r, slice *words, slice *buffer);
 void proved_run(toggleash_ran *r, slice *words, slice *feed, slice *reply);
 void proved_copy_need(toggleash_needed *r, slice *bytes);
 void proved_copy_build(toggleash_built *r, slice *bytes, slice *words);
-void proved_copy_lookup(toggleash_answer *r, slice *words, uint32_t address);
+void proved_copy_lookup(toggleash_match *r, slice *words, uint32_t address);
 
 /* The version is in the name. */
 #define JOINED_(start, end) start##end
@@ -121,8 +122,8 @@ toggleash_built toggleash_copy_build(const uint8_t *bytes, size_t bytes_len, uin
     return r;
 }
 
-toggleash_answer toggleash_copy_lookup(const uint32_t *words, size_t n, uint32_t address) {
-    toggleash_answer r;
+toggleash_match toggleash_copy_lookup(const uint32_t *words, size_t n, uint32_t address) {
+    toggleash_match r;
     slice w = of(words, n);
     proved_copy_lookup(&r, &w, address);
     return r;

@@ -15,7 +15,7 @@ use compare::random::Random;
 use lists::Load;
 use lpm::Lpm;
 use reference::{layout, Route, RouteList};
-use toggleash::ffi::{self, Answer};
+use toggleash::ffi::{self, Answer, Match};
 use trie::Trie;
 
 const ARRAYS: usize = 4_096;
@@ -28,7 +28,7 @@ extern "C" {
     fn plain_checking(words: *const u32, n: usize, address: u32) -> Answer;
 }
 
-type Lookup = unsafe extern "C" fn(*const u32, usize, u32) -> Answer;
+type Lookup<A> = unsafe extern "C" fn(*const u32, usize, u32) -> A;
 
 struct Scale {
     addresses: usize,
@@ -78,9 +78,20 @@ fn table(list: &RouteList, arrays: usize) -> Vec<u32> {
     words
 }
 
-fn sum(lookup: Lookup, words: &[u32], addresses: &[u32]) -> u64 {
+/// The sum of the hops found, which the closure takes from an answer.
+fn sum<A>(lookup: Lookup<A>, hop: impl Fn(A) -> u32, words: &[u32], addresses: &[u32]) -> u64 {
     // SAFETY: the words are a table or a copy, and the pointer and length are the slice's.
-    addresses.iter().map(|&address| u64::from(unsafe { lookup(words.as_ptr(), words.len(), address) }.hop)).sum()
+    addresses.iter().map(|&address| u64::from(hop(unsafe { lookup(words.as_ptr(), words.len(), address) }))).sum()
+}
+
+/// The sum over a table.
+fn sum_of_table(lookup: Lookup<Answer>, words: &[u32], addresses: &[u32]) -> u64 {
+    sum(lookup, |answer| answer.hop, words, addresses)
+}
+
+/// The sum over a copy.
+fn sum_of_copy(lookup: Lookup<Match>, words: &[u32], addresses: &[u32]) -> u64 {
+    sum(lookup, |answer| answer.hop, words, addresses)
 }
 
 fn lookups(random: &mut Random, scale: &Scale, load: &Load, lpm: Option<&Lpm>) {
@@ -93,10 +104,10 @@ fn lookups(random: &mut Random, scale: &Scale, load: &Load, lpm: Option<&Lpm>) {
     let copy = &copies::words(&load.list);
     for (name, addresses) in &sets {
         let mut ways = vec![
-            Way::new("toggleash_lookup", || sum(ffi::toggleash_lookup, words, addresses)),
-            Way::new("toggleash_copy_lookup", || sum(ffi::toggleash_copy_lookup, copy, addresses)),
-            Way::new("C loop with the same refusals", || sum(plain_checking, words, addresses)),
-            Way::new("C loop that trusts the words", || sum(plain_trusting, words, addresses)),
+            Way::new("toggleash_lookup", || sum_of_table(ffi::toggleash_lookup, words, addresses)),
+            Way::new("toggleash_copy_lookup", || sum_of_copy(ffi::toggleash_copy_lookup, copy, addresses)),
+            Way::new("C loop with the same refusals", || sum_of_table(plain_checking, words, addresses)),
+            Way::new("C loop that trusts the words", || sum_of_table(plain_trusting, words, addresses)),
             Way::new("Rust trie of one bit a step, one vector", || trie.sum(addresses)),
             Way::new("Rust trie of one bit a step, boxes", || boxed.sum(addresses)),
         ];

@@ -15,7 +15,8 @@ int main(void) {
     }
     if (!refusal) {
         toggleash_answer found = toggleash_table_find(table, 0x0A010509);
-        printf("10.1.5.9 goes via %u, length %u\n", found.hop, found.length);
+        printf("10.1.5.9 goes via %u, length %u, as all that share its first %u bits\n", found.hop, found.length,
+               found.block);
         refusal = found.refusal;
     }
     if (refusal)

@@ -25,11 +25,19 @@ static void update(const char *what, toggleash_update u, uint32_t refusal, uint3
 }
 
 static void answer(const char *what, toggleash_answer a, uint32_t refusal, uint32_t found, uint32_t hop,
-                   uint32_t length) {
+                   uint32_t length, uint32_t block) {
     same(what, refusal, a.refusal);
     same(what, found, a.found);
     same(what, hop, a.hop);
     same(what, length, a.length);
+    same(what, block, a.block);
+}
+
+static void match(const char *what, toggleash_match m, uint32_t refusal, uint32_t found, uint32_t hop, uint32_t length) {
+    same(what, refusal, m.refusal);
+    same(what, found, m.found);
+    same(what, hop, m.hop);
+    same(what, length, m.length);
 }
 
 static void counts(const char *what, toggleash_counts c, uint32_t refusal, uint32_t routes, uint32_t arrays) {
@@ -78,10 +86,54 @@ static void updates(void) {
     update("withdraw, not held", toggleash_withdraw(words, ROOM, 0, 1), 7, 0, 0);
     update("withdraw, length", toggleash_withdraw(words, ROOM, 0, 4000000000u), 3, 0, 0);
     counts("check", toggleash_check(words, ROOM), 0, 2, 4);
-    answer("lookup", toggleash_lookup(words, ROOM, 0x0A0101FF), 0, 1, 65535, 25);
-    answer("lookup default", toggleash_lookup(words, ROOM, 0xFFFFFFFF), 0, 1, 7, 0);
+    answer("lookup", toggleash_lookup(words, ROOM, 0x0A0101FF), 0, 1, 65535, 25, 25);
+    answer("lookup default", toggleash_lookup(words, ROOM, 0xFFFFFFFF), 0, 1, 7, 0, 1);
     update("withdraw", toggleash_withdraw(words, ROOM, 0, 0), 0, 7, 256);
-    answer("lookup none", toggleash_lookup(words, ROOM, 0xFFFFFFFF), 0, 0, 0, 0);
+    answer("lookup none", toggleash_lookup(words, ROOM, 0xFFFFFFFF), 0, 0, 0, 0, 1);
+}
+
+/* Blocks: one announcement after another, and what is found then. */
+static void blocks(void) {
+    toggleash_table table = TOGGLEASH_TABLE(words);
+    same("clear", 0, toggleash_table_clear(table));
+    answer("block, no route", toggleash_table_find(table, 0xFFFFFFFF), 0, 0, 0, 0, 0);
+    update("block, /8", toggleash_table_announce(table, 0x0A000000, 8, 1), 0, 1, 1);
+    update("block, /22", toggleash_table_announce(table, 0x0A010400, 22, 2), 0, 2, 4);
+    answer("block, 10.1.5.9", toggleash_table_find(table, 0x0A010509), 0, 1, 2, 22, 22);
+    answer("block, 10.1.0.1", toggleash_table_find(table, 0x0A010001), 0, 1, 1, 8, 22);
+    answer("block, 10.1.8.0", toggleash_table_find(table, 0x0A010800), 0, 1, 1, 8, 21);
+    answer("block, 10.2.0.0", toggleash_table_find(table, 0x0A020000), 0, 1, 1, 8, 15);
+    answer("block, 10.128.0.0", toggleash_table_find(table, 0x0A800000), 0, 1, 1, 8, 9);
+    answer("block, 11.0.0.0", toggleash_table_find(table, 0x0B000000), 0, 0, 0, 0, 8);
+    same("clear again", 0, toggleash_table_clear(table));
+    update("block, /32", toggleash_table_announce(table, 0x0A000000, 32, 1), 0, 1, 1);
+    answer("block, 10.0.0.0", toggleash_table_find(table, 0x0A000000), 0, 1, 1, 32, 32);
+    answer("block, 10.0.0.1", toggleash_table_find(table, 0x0A000001), 0, 0, 0, 0, 32);
+    answer("block, 10.0.0.2", toggleash_table_find(table, 0x0A000002), 0, 0, 0, 0, 31);
+    answer("block, 10.0.0.128", toggleash_table_find(table, 0x0A000080), 0, 0, 0, 0, 25);
+    answer("block, 10.0.1.0", toggleash_table_find(table, 0x0A000100), 0, 0, 0, 0, 24);
+    update("block, default", toggleash_table_announce(table, 0, 0, 2), 0, 2, 256);
+    answer("block, 10.0.0.1 now", toggleash_table_find(table, 0x0A000001), 0, 1, 2, 0, 32);
+    answer("block, 255.0.0.0", toggleash_table_find(table, 0xFF000000), 0, 1, 2, 0, 1);
+    update("block, default alone", toggleash_table_withdraw(table, 0x0A000000, 32), 0, 1, 1);
+    answer("block, 1.2.3.4", toggleash_table_find(table, 0x01020304), 0, 1, 2, 0, 0);
+}
+
+/* The replies of lookups, of 5 and of 2 bytes. Fewer than 5 free bytes stop the run, though 2 would do. */
+static void replies(void) {
+    static const uint8_t found[19] = {1, 10, 0, 0, 0, 8, 0, 1, 3, 10, 1, 5, 9, 3, 11, 0, 0, 1, 0};
+    static const uint8_t none[10] = {3, 1, 1, 1, 1, 3, 2, 2, 2, 2};
+    static const uint8_t after_found[12] = {16, 0, 1, 0, 1, TOGGLEASH_KIND_FOUND, 0, 1, 8, 8, TOGGLEASH_KIND_NONE, 8};
+    static const uint8_t after_none[8] = {TOGGLEASH_KIND_NONE, 0, 0xEE, 0xEE, 0xEE, 0xEE, 0xEE, 0xEE};
+    static const uint64_t three[4] = {19, 12, 1, 0}, one[4] = {5, 2, 0, 0};
+    toggleash_table table = TOGGLEASH_TABLE(words);
+    uint8_t reply[15];
+    same("clear", 0, toggleash_table_clear(table));
+    memset(reply, 0xEE, sizeof reply);
+    ran("none", toggleash_table_run(table, none, sizeof none, reply, 6), 0, TOGGLEASH_STOP_REPLY, one);
+    same("reply of none", 0, (uint64_t)memcmp(reply, after_none, sizeof after_none));
+    ran("found", toggleash_table_run(table, found, sizeof found, reply, sizeof reply), 0, TOGGLEASH_STOP_END, three);
+    same("reply of found", 0, (uint64_t)memcmp(reply, after_found, sizeof after_found));
 }
 
 static void bytes(void) {
@@ -108,7 +160,7 @@ static void nothing(void) {
     written("write out, null", toggleash_write_out(words, ROOM, NULL, 0), 9, 0);
     same("clear, null", 1, toggleash_clear(NULL, 0));
     counts("check, null", toggleash_check(NULL, 0), 1, 0, 0);
-    answer("lookup, null", toggleash_lookup(NULL, 0, 1), 1, 0, 0, 0);
+    answer("lookup, null", toggleash_lookup(NULL, 0, 1), 1, 0, 0, 0, 0);
     update("announce, null", toggleash_announce(NULL, 0, 0, 33, 0), 1, 0, 0);
     update("withdraw, null", toggleash_withdraw(NULL, 0, 0, 33), 1, 0, 0);
     written("write out, null words", toggleash_write_out(NULL, 0, NULL, 0), 1, 0);
@@ -148,14 +200,14 @@ static void copies(void) {
     spoil();
     built("build", toggleash_copy_build(sample, sizeof sample, copy, NEED + 2), 0, 3, 1);
     kept("words past the need", NEED);
-    answer("copy lookup", toggleash_copy_lookup(copy, NEED + 2, 0x0A010509), 0, 1, 65535, 22);
-    answer("copy lookup, next box out", toggleash_copy_lookup(copy, NEED + 2, 0x0A010809), 0, 1, 3, 20);
-    answer("copy lookup, by the marker", toggleash_copy_lookup(copy, NEED, 0x0A011000), 0, 1, 1, 8);
-    answer("copy lookup, none", toggleash_copy_lookup(copy, NEED, 0x0B000000), 0, 0, 0, 0);
+    match("copy lookup", toggleash_copy_lookup(copy, NEED + 2, 0x0A010509), 0, 1, 65535, 22);
+    match("copy lookup, next box out", toggleash_copy_lookup(copy, NEED + 2, 0x0A010809), 0, 1, 3, 20);
+    match("copy lookup, by the marker", toggleash_copy_lookup(copy, NEED, 0x0A011000), 0, 1, 1, 8);
+    match("copy lookup, none", toggleash_copy_lookup(copy, NEED, 0x0B000000), 0, 0, 0, 0);
     built("build, default", toggleash_copy_build(alone, sizeof alone, copy, 1032), 0, 1, 0);
-    answer("copy lookup, default", toggleash_copy_lookup(copy, 1032, 0xFFFFFFFF), 0, 1, 7, 0);
+    match("copy lookup, default", toggleash_copy_lookup(copy, 1032, 0xFFFFFFFF), 0, 1, 7, 0);
     built("build, empty list", toggleash_copy_build(sample + 24, 1, copy, 1024), 0, 0, 0);
-    answer("copy lookup, empty list", toggleash_copy_lookup(copy, 1024, 0x0A010509), 0, 0, 0, 0);
+    match("copy lookup, empty list", toggleash_copy_lookup(copy, 1024, 0x0A010509), 0, 0, 0, 0);
 }
 
 static void no_copies(void) {
@@ -169,15 +221,15 @@ static void no_copies(void) {
     built("build, null words", toggleash_copy_build(sample, sizeof sample, NULL, 0), 9, 0, 0);
     built("build, a word short", toggleash_copy_build(sample, sizeof sample, copy, NEED - 1), 9, 0, 0);
     kept("words of a refused build", 0);
-    answer("copy lookup, null", toggleash_copy_lookup(NULL, 0, 1), 2, 0, 0, 0);
-    answer("copy lookup, foreign words", toggleash_copy_lookup(copy, NEED, 0x0A010509), 2, 0, 0, 0);
+    match("copy lookup, null", toggleash_copy_lookup(NULL, 0, 1), 2, 0, 0, 0);
+    match("copy lookup, foreign words", toggleash_copy_lookup(copy, NEED, 0x0A010509), 2, 0, 0, 0);
     memset(copy, 0, sizeof copy);
-    answer("copy lookup, too few words", toggleash_copy_lookup(copy, 1023, 1), 2, 0, 0, 0);
-    answer("copy lookup, zeros", toggleash_copy_lookup(copy, 1024, 1), 0, 0, 0, 0);
+    match("copy lookup, too few words", toggleash_copy_lookup(copy, 1023, 1), 2, 0, 0, 0);
+    match("copy lookup, zeros", toggleash_copy_lookup(copy, 1024, 1), 0, 0, 0, 0);
     copy[0] = 256;
-    answer("copy lookup, a default alone", toggleash_copy_lookup(copy, 1024, 1), 0, 1, 1, 0);
+    match("copy lookup, a default alone", toggleash_copy_lookup(copy, 1024, 1), 0, 1, 1, 0);
     copy[0] = 257;
-    answer("copy lookup, default with a length", toggleash_copy_lookup(copy, 1024, 1), 2, 0, 0, 0);
+    match("copy lookup, default with a length", toggleash_copy_lookup(copy, 1024, 1), 2, 0, 0, 0);
 }
 
 /* Each call on a table does what the archive's does on its words. */
@@ -191,7 +243,8 @@ static void tables(void) {
     update("announce table", toggleash_table_announce(table, 0x0A000000, 8, TOGGLEASH_MOST_HOP), 0, 65535, 1);
     update("announce table, stray bit", toggleash_table_announce(table, 0x0A000001, 8, 1), TOGGLEASH_STRAY_BIT, 0, 0);
     counts("check table", toggleash_table_check(table), 0, 2, 1);
-    answer("find in table", toggleash_table_find(table, 0x0A010509), 0, 1, 65535, 8);
+    answer("find in table", toggleash_table_find(table, 0x0A010509), 0, 1, 65535, 8, 8);
+    answer("find in table, default", toggleash_table_find(table, 0x0C000000), 0, 1, 7, 0, 6);
     written("write table", toggleash_table_write(table, list, sizeof list), 0, sizeof list);
     written("write table, short", toggleash_table_write(table, list, sizeof list - 1), TOGGLEASH_BUFFER_SHORT, 0);
     update("withdraw table", toggleash_table_withdraw(table, 0x0A000000, 8), 0, 65535, 1);
@@ -199,12 +252,44 @@ static void tables(void) {
     toggleash_needed need = toggleash_copy_need(list, sizeof list);
     needed("need of two", need, 0, TOGGLEASH_COPY_LEAST_WORDS + 16);
     built("make copy", toggleash_copy_make(TOGGLEASH_COPY(copy), list, sizeof list), 0, 2, 0);
-    answer("find in copy", toggleash_copy_find(TOGGLEASH_COPY(copy), 0x0A010509), 0, 1, 65535, 8);
+    match("find in copy", toggleash_copy_find(TOGGLEASH_COPY(copy), 0x0A010509), 0, 1, 65535, 8);
     toggleash_copy in_part = toggleash_copy_at(copy, need);
     same("words of a copy", need.words, in_part.n);
-    answer("find in copy of the need", toggleash_copy_find(in_part, 0xFFFFFFFF), 0, 1, 7, 0);
+    match("find in copy of the need", toggleash_copy_find(in_part, 0xFFFFFFFF), 0, 1, 7, 0);
     in_part.n--;
     built("make copy, a word short", toggleash_copy_make(in_part, list, sizeof list), TOGGLEASH_BUFFER_SHORT, 0, 0);
+}
+
+/* The word of a cell (docs/LAYOUT.md), without a link and with one. */
+static uint32_t ends(uint32_t length, uint32_t hop, uint32_t block) {
+    return hop << 12 | length << 4 | block;
+}
+
+static uint32_t leads(uint32_t length, uint32_t hop, uint32_t array) {
+    return (length + 1) << 28 | hop << 12 | (array - 1);
+}
+
+/* Words that are no table: what a cell on the walk must be for an answer. There are 4 arrays. */
+static void foreign(void) {
+    uint32_t *cell = words + 1024 + 512;
+    const uint32_t refused[] = {
+        ends(9, 0, 0),  ends(9, 1, 0),   ends(255, 1, 8), /* a length over 8, with a hop or without */
+        leads(9, 1, 4), leads(14, 0, 4),                  /* beside a link too */
+        ends(0, 0, 9),  ends(8, 1, 15),                   /* a block over 8 */
+        leads(0, 0, 5), leads(8, 1, 4096),                /* a link past the last array */
+        leads(0, 0, 1),                                   /* back to this very cell, level after level */
+    };
+    memset(words, 0, sizeof words);
+    answer("zeros", toggleash_lookup(words, ROOM, 0), 0, 0, 0, 0, 0);
+    for (size_t i = 0; i < sizeof refused / sizeof *refused; i++) {
+        *cell = refused[i];
+        answer("foreign cell", toggleash_lookup(words, ROOM, 0), TOGGLEASH_NOT_A_TABLE, 0, 0, 0, 0);
+        answer("foreign cell not met", toggleash_lookup(words, ROOM, 0x01000000), 0, 0, 0, 0, 0);
+    }
+    *cell = ends(8, 65535, 8);
+    answer("the largest cell", toggleash_lookup(words, ROOM, 0), 0, 1, 65535, 8, 8);
+    *cell = leads(8, 7, 4);
+    answer("a link to the last array", toggleash_lookup(words, ROOM, 0), 0, 1, 7, 8, 8);
 }
 
 /* Lent memory whose size is not in a type: by arrays, or by the need. */
@@ -227,7 +312,7 @@ static void sizes(void) {
 }
 
 static void texts(void) {
-    same("version", TOGGLEASH_VERSION, toggleash_version_1());
+    same("version", TOGGLEASH_VERSION, toggleash_version_2());
     for (uint32_t i = 0; i <= 10; i++) {
         int none = strcmp(toggleash_refusal_text(i), toggleash_refusal_text(6)) == 0;
         same("text of a refusal", i == 6 || i == 10, (uint64_t)none);
@@ -241,6 +326,9 @@ int main(void) {
     updates();
     bytes();
     nothing();
+    blocks();
+    replies();
+    foreign();
     copies();
     no_copies();
     tables();

@@ -50,9 +50,9 @@ extern "C" {
  * Where several apply, the first in this order is given: 1, 3, 4, 5, 2, 7, 8 or 9. There is no 6. */
 enum {
     TOGGLEASH_WORD_COUNT = 1,   /* the number of words is not a multiple of 1,024 from 2,048 to 4,195,328 */
-    TOGGLEASH_NOT_A_TABLE = 2,  /* the words are not a table. A lookup does not test that; it gives 2 where its walk
-                                   meets a hop whose length is over 32, a link to an array that the words do not have,
-                                   or a link at the last of the four levels (docs/LAYOUT.md).
+    TOGGLEASH_NOT_A_TABLE = 2,  /* the words are not a table. A lookup does not test that; it gives 2 where a cell on its
+                                   walk has a length over 8, no link and a block over 8, or a link to an array that the
+                                   words do not have, as any link has at the last of the four levels (docs/LAYOUT.md).
                                    From toggleash_copy_need and making a copy: the bytes are not one whole written-out
                                    list of a table, of any room. From a lookup in a copy: the words are fewer than
                                    1,024, or its walk meets a best match, the place of a hash table or the mark of an
@@ -82,8 +82,8 @@ enum {
     TOGGLEASH_KIND_WITHDRAW = 2, /* address 4, length 1 */
     TOGGLEASH_KIND_LOOKUP = 3,   /* address 4 */
     TOGGLEASH_KIND_DONE = 16,    /* hop 2, cells 2 */
-    TOGGLEASH_KIND_FOUND = 17,   /* hop 2, length 1 */
-    TOGGLEASH_KIND_NONE = 18,
+    TOGGLEASH_KIND_FOUND = 17,   /* hop 2, length 1, block 1 */
+    TOGGLEASH_KIND_NONE = 18,    /* block 1 */
     TOGGLEASH_KIND_REFUSED = 19  /* refusal 1 */
 };
 
@@ -111,8 +111,8 @@ enum {
  * It rises with any change that a caller would not notice else, and the archive has it as the name of a function. Each
  * file that includes this header keeps a pointer to that function, four or eight bytes: so a program whose header and
  * archive are of two versions does not link, `undefined reference to toggleash_version_..`. */
-#define TOGGLEASH_VERSION 1
-uint32_t toggleash_version_1(void); /* returns 1 */
+#define TOGGLEASH_VERSION 2
+uint32_t toggleash_version_2(void); /* returns 2 */
 
 #if defined(__GNUC__) && !defined(TOGGLEASH_ARCHIVE) /* which the archive's own files define */
 #if defined(__has_attribute)
@@ -125,7 +125,7 @@ uint32_t toggleash_version_1(void); /* returns 1 */
 #endif
 #pragma GCC diagnostic push
 #pragma GCC diagnostic ignored "-Wattributes" /* a compiler may know the word and not its assembler */
-static uint32_t (*const toggleash_version_linked_)(void) TOGGLEASH_KEPT_ = toggleash_version_1;
+static uint32_t (*const toggleash_version_linked_)(void) TOGGLEASH_KEPT_ = toggleash_version_2;
 #pragma GCC diagnostic pop
 #endif
 
@@ -147,13 +147,23 @@ typedef struct {
     uint32_t arrays;  /* arrays that they need, the first one included */
 } toggleash_counts;
 
-/* What a lookup finds. */
+/* What a lookup finds. The block is how many of the address's first bits the answer may be remembered for: while the table
+ * stays as it is, all addresses that share them get the same route, or all get none. It is the smallest such number. */
 typedef struct {
-    uint32_t refusal; /* 0, 1 or 2; in a copy 0 or 2 */
+    uint32_t refusal; /* 0, 1 or 2 */
     uint32_t found;   /* 1: a route matches; 0: none does, and hop and length are 0 */
     uint32_t hop;     /* hop of the longest match */
     uint32_t length;  /* its length, 0 to 32 */
+    uint32_t block;   /* 0 to 32, where none is found too; in a table never below the length */
 } toggleash_answer;
+
+/* What a lookup in a copy finds, which tells no block. */
+typedef struct {
+    uint32_t refusal; /* 0 or 2 */
+    uint32_t found;   /* 1: a route matches; 0: none does, and hop and length are 0 */
+    uint32_t hop;     /* hop of the longest match */
+    uint32_t length;  /* its length, 0 to 32 */
+} toggleash_match;
 
 /* What an update did. */
 typedef struct {
@@ -203,8 +213,8 @@ TOGGLEASH_ANSWER uint32_t toggleash_clear(uint32_t *words, size_t n);
 /* Tests whether the words are a table and counts. Refuses with 1 or 2. */
 TOGGLEASH_ANSWER toggleash_counts toggleash_check(const uint32_t *words, size_t n);
 
-/* Finds the longest match. Refuses with 1. Does not test the table: on words that are none it reads inside them and gives
- * what its walk gives, or 2. */
+/* Finds the longest match and the block. Refuses with 1. Does not test the table: on words that are none it reads inside
+ * them and gives what its walk gives, or 2. */
 TOGGLEASH_ANSWER toggleash_answer toggleash_lookup(const uint32_t *words, size_t n, uint32_t address);
 
 /* Adds a route, or gives a held prefix this hop, for which there is always room. Refuses with 1, 3, 4, 5, 2 or 8. Any length
@@ -237,7 +247,7 @@ TOGGLEASH_ANSWER toggleash_built toggleash_copy_build(const uint8_t *bytes, size
 /* Finds the longest match in a copy. n may be any number from the need on, whatever stands in the words past it. Does
  * not test the copy: on words that are none it reads inside them and gives what its walk gives (docs/COPY.md), or 2.
  * With fewer than 1,024 words, null and 0 too, it always gives 2. */
-TOGGLEASH_ANSWER toggleash_answer toggleash_copy_lookup(const uint32_t *words, size_t n, uint32_t address);
+TOGGLEASH_ANSWER toggleash_match toggleash_copy_lookup(const uint32_t *words, size_t n, uint32_t address);
 
 /* ---- Tables and copies */
 
@@ -338,7 +348,7 @@ TOGGLEASH_ANSWER static inline toggleash_built toggleash_copy_make(toggleash_cop
     return toggleash_copy_build(bytes, bytes_len, copy.words, copy.n);
 }
 
-TOGGLEASH_ANSWER static inline toggleash_answer toggleash_copy_find(toggleash_copy copy, uint32_t address) {
+TOGGLEASH_ANSWER static inline toggleash_match toggleash_copy_find(toggleash_copy copy, uint32_t address) {
     return toggleash_copy_lookup(copy.words, copy.n, address);
 }
 

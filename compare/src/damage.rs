@@ -2,7 +2,7 @@
 
 use std::collections::VecDeque;
 
-use reference::layout::{best_of_slots, tag_below, with_best, with_link, Arrays, CELLS, HOPS, LINKS, UNUSED};
+use reference::layout::{cells, tag_below, Arrays, Cell, End, CELLS, HOPS, LINKS, UNUSED};
 use reference::memory::ARRAY_WORDS;
 use reference::{Address, RouteList};
 
@@ -25,6 +25,8 @@ const ADDRESSES: usize = 2_500;
 /// Values at the borders of what a word may hold.
 const BORDERS: [u32; 16] =
     [0, 1, 2, 31, 32, 33, 4_095, 4_096, 8_191, 8_192, 65_535, 65_536, (1 << 28) - 1, 1 << 28, 1 << 31, u32::MAX];
+/// The same in a cell: blocks, a length with a block, a length, and lengths beside a link.
+const CELL_BORDERS: [u32; 6] = [8, 9, 8 * 16 + 8, 9 * 16, 9 << 28, 10 << 28];
 
 /// A table of so many arrays with some damage, and every call on it.
 pub fn memory(random: &mut Random, arrays: usize, tally: &mut Tally) -> Same {
@@ -41,10 +43,17 @@ pub fn memory(random: &mut Random, arrays: usize, tally: &mut Tally) -> Same {
 /// Words of any number, all alike or all random, and every call on them.
 pub fn size(random: &mut Random, count: usize, tally: &mut Tally) -> Same {
     let terrain = Terrain::new(random, 7);
-    let alike = random.pick(&BORDERS);
+    let alike = border(random);
     let any = random.chance(50);
     let words: Vec<u32> = (0..count).map(|_| if any { random.word() } else { alike }).collect();
     every_call(random, &terrain, &RouteList::default(), &words, tally)
+}
+
+fn border(random: &mut Random) -> u32 {
+    match random.chance(70) {
+        true => random.pick(&BORDERS),
+        false => random.pick(&CELL_BORDERS),
+    }
 }
 
 /// The calls that change no word first, on words that cannot be written, then updates in a row, a run and clearing.
@@ -86,7 +95,8 @@ fn every_cell(random: &mut Random, words: &[u32]) -> Vec<u32> {
             let place = 24 - 8 * level;
             let inside = head | (cell as u32) << place;
             addresses.push(inside | random.word() & !u32::mask(8 * level + 8));
-            if let (Some(below), 0..=2) = (arrays.held(arrays.below(a, cell)), level) {
+            let below = arrays.below(a, cell).and_then(|number| arrays.held(number));
+            if let (Some(below), 0..=2) = (below, level) {
                 ahead.push_back((below, level + 1, inside));
             }
         }
@@ -95,13 +105,14 @@ fn every_cell(random: &mut Random, words: &[u32]) -> Vec<u32> {
 }
 
 fn damage(random: &mut Random, words: &mut [u32]) {
-    match random.below(12) {
+    match random.below(14) {
         0..=3 => one_word(random, words),
-        4 => whole_blocks(random, words),
+        4 => whole_pages(random, words),
         5 | 6 => hang_another(random, words),
         7 => change_a_route(random, words),
         8 | 9 => border_best(random, words),
         10 => other_link(random, words),
+        11 | 12 => other_block(random, words),
         _ => unused_words(random, words),
     }
 }
@@ -119,7 +130,7 @@ fn some_array(random: &mut Random, words: &[u32]) -> usize {
 /// The word of a cell, as often as not of one with a link if its array has any.
 fn some_cell(random: &mut Random, words: &[u32]) -> usize {
     let first = ARRAY_WORDS * some_array(random, words) + CELLS;
-    let linked: Vec<usize> = (first..first + 256).filter(|&at| words[at] % LINKS != 0).collect();
+    let linked: Vec<usize> = (first..first + 256).filter(|&at| Cell::of(words[at]).link().is_some()).collect();
     match linked.is_empty() || random.chance(50) {
         true => first + random.below(256),
         false => random.pick(&linked),
@@ -129,43 +140,62 @@ fn some_cell(random: &mut Random, words: &[u32]) -> usize {
 /// A word of one of the kinds that a table has, near to what it was, at a border, or anything.
 fn one_word(random: &mut Random, words: &mut [u32]) {
     let arrays = (words.len() / ARRAY_WORDS - 1) as u32;
-    let block = ARRAY_WORDS * some_array(random, words);
+    let page = ARRAY_WORDS * some_array(random, words);
     let at = match random.below(9) {
         0 => random.below(words.len()),
         1 => random.within(0..=2),
         2 => random.within(500..=1_023),
-        3 => block,
-        4 => block + random.within(1..=511),
-        5 => block + random.pick(&[1, 2, 3, 256, 511]),
-        6 => block + random.within(UNUSED..=1_023),
+        3 => page,
+        4 => page + random.within(1..=511),
+        5 => page + random.pick(&[1, 2, 3, 256, 511]),
+        6 => page + random.within(UNUSED..=1_023),
         _ => some_cell(random, words),
     };
     words[at] = match random.below(6) {
         0 => random.word(),
-        1 => random.pick(&BORDERS),
+        1 => border(random),
         2 => words[at] ^ 1 << random.below(32),
         // One more or less, or one more of what stands higher in a tag or a cell.
-        3 => words[at].wrapping_add(random.pick(&[1, u32::MAX, 32, 8192, LINKS, LINKS * HOPS])),
+        3 => words[at].wrapping_add(random.pick(&[1, u32::MAX, 16, 32, 8192, LINKS, LINKS * HOPS])),
         4 => random.below(arrays as usize + 3) as u32,
         _ => arrays + 1,
     };
 }
 
-/// Length and hop of a best each come to a border or stay; the link stays.
+/// Length and hop of a best each come to a border or stay; the link or the block stays.
 fn border_best(random: &mut Random, words: &mut [u32]) {
     let at = some_cell(random, words);
-    let best = words[at] / LINKS;
-    let length = random.pick(&[best / HOPS, 0, 1, 8, 9, 15]);
-    let hop = random.pick(&[best % HOPS, 0, 1, HOPS - 1]);
-    words[at] = with_best(words[at], length * HOPS + hop);
+    let cell = Cell::of(words[at]);
+    // Beside a link there is no length over 14.
+    let most = if cell.link().is_some() { 14 } else { 255 };
+    let length = random.pick(&[cell.length, 0, 1, 8, 9, most]);
+    let hop = random.pick(&[cell.hop, 0, 1, HOPS - 1]);
+    words[at] = Cell { hop, length, ..cell }.word();
 }
 
-/// A link leads nowhere, elsewhere or, unless there are as many arrays as links, past the last; the best stays.
+/// A link goes, and any block stands in its place; or one leads elsewhere, to the first array too, or, unless there are as
+/// many arrays as links, past the last. The best stays.
 fn other_link(random: &mut Random, words: &mut [u32]) {
     let arrays = (words.len() / ARRAY_WORDS - 1) as u32;
     let at = some_cell(random, words);
-    let any = random.below(arrays as usize) as u32;
-    words[at] = with_link(words[at], random.pick(&[0, 0, 1, any, arrays - 1, arrays % LINKS, LINKS - 1]));
+    let cell = Cell::of(words[at]);
+    let (any, block) = (1 + random.below(arrays as usize) as u32, random.below(9) as u32);
+    let number = random.pick(&[1, 2, any, arrays, arrays % LINKS + 1, LINKS]);
+    let end = random.pick(&[End::Block(block), End::Link(number), End::Link(number)]);
+    words[at] = Cell { length: cell.length.min(14), end, ..cell }.word();
+}
+
+/// The block of a cell without a link, mostly one that is met, comes to a border, or is one more or less; the best stays.
+fn other_block(random: &mut Random, words: &mut [u32]) {
+    for _ in 0..8 {
+        let at = some_cell(random, words);
+        let cell = Cell::of(words[at]);
+        if let End::Block(block) = cell.end {
+            let block = random.pick(&[0, 1, 8, 9, 15, block.saturating_sub(1), (block + 1).min(15)]);
+            words[at] = Cell { end: End::Block(block), ..cell }.word();
+            return;
+        }
+    }
 }
 
 /// Anything in the words without a use, of one array or of all: what was a table stays the same one.
@@ -178,14 +208,14 @@ fn unused_words(random: &mut Random, words: &mut [u32]) {
     }
 }
 
-fn whole_blocks(random: &mut Random, words: &mut [u32]) {
+fn whole_pages(random: &mut Random, words: &mut [u32]) {
     let (one, other) = (some_array(random, words), some_array(random, words));
-    let block = |a: usize| ARRAY_WORDS * a..ARRAY_WORDS * (a + 1);
+    let page = |a: usize| ARRAY_WORDS * a..ARRAY_WORDS * (a + 1);
     match random.below(5) {
-        0 => words[block(one)].fill(0),
-        1 => words.copy_within(block(one), ARRAY_WORDS * other),
+        0 => words[page(one)].fill(0),
+        1 => words.copy_within(page(one), ARRAY_WORDS * other),
         2 => (0..ARRAY_WORDS).for_each(|i| words.swap(ARRAY_WORDS * one + i, ARRAY_WORDS * other + i)),
-        3 => words[block(one)].iter_mut().for_each(|word| *word = random.word()),
+        3 => words[page(one)].iter_mut().for_each(|word| *word = random.word()),
         _ => words[..ARRAY_WORDS].fill(0),
     }
 }
@@ -198,27 +228,35 @@ fn hang_another(random: &mut Random, words: &mut [u32]) {
     let Some(free) = (2..=arrays).find(|a| words[ARRAY_WORDS * a] == 0) else { return };
     let (parent, cell) = (some_array(random, words), random.below(256));
     let at = ARRAY_WORDS * parent + CELLS + cell;
-    words[at] = with_link(words[at], free as u32 - 1);
+    words[at] = Cell { hop: 0, length: 0, end: End::Link(free as u32) }.word();
     words[ARRAY_WORDS * free] = tag_below(parent, cell, words[ARRAY_WORDS * parent]);
     words[0] = words[0].wrapping_add(1);
     words[1 + (free - 1) / 8] = words[1 + (free - 1) / 8].wrapping_add(1);
     if random.chance(50) {
         words[ARRAY_WORDS * free + 256 + cell] = 9;
-        let at = ARRAY_WORDS * free + CELLS + cell;
-        words[at] = with_best(words[at], 8 * HOPS + 9);
+    }
+    follow(words, free);
+    // As often as not the blocks beside the new link are left as they were.
+    if random.chance(50) {
+        follow(words, parent);
     }
 }
 
-/// A slot gets another hop, or none, and all bests follow: another table, an array left empty, a route of length 0
+/// A slot gets another hop, or none, and all cells follow: another table, an array left empty, a route of length 0
 /// below the root, a hop that is none, or a route in a free array.
 fn change_a_route(random: &mut Random, words: &mut [u32]) {
-    let block = ARRAY_WORDS * some_array(random, words);
-    let block = &mut words[block..block + ARRAY_WORDS];
+    let a = some_array(random, words);
     let any = random.within(1..=511);
-    block[random.pick(&[1, any, any, any])] = random.pick(&[0, 1, 65_535, 65_536]);
-    for cell in 0..256 {
+    words[ARRAY_WORDS * a + random.pick(&[1, any, any, any])] = random.pick(&[0, 1, 65_535, 65_536]);
+    follow(words, a);
+}
+
+/// Bests and blocks of an array become those that its slots and links make.
+fn follow(words: &mut [u32], a: usize) {
+    let page = &mut words[ARRAY_WORDS * a..ARRAY_WORDS * (a + 1)];
+    let links: Vec<_> = page[CELLS..UNUSED].iter().map(|&word| Cell::of(word).link()).collect();
+    for (at, cell) in cells(&page[..CELLS], &links).into_iter().enumerate() {
         // A slot damaged before need not fit into a best.
-        let best = best_of_slots(|slot| block[slot] % 65_537, cell);
-        block[CELLS + cell] = with_best(block[CELLS + cell], best);
+        page[CELLS + at] = Cell { hop: cell.hop % HOPS, ..cell }.word();
     }
 }

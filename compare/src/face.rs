@@ -3,7 +3,7 @@
 
 use std::ptr::{null, null_mut};
 
-use toggleash::ffi::{self, Answer, Built, Counts, Needed, Ran, Update, Written};
+use toggleash::ffi::{self, Answer, Built, Counts, Match, Needed, Ran, Update, Written};
 
 use crate::guard::{begin_call, Lent, Side};
 use crate::pair::{same, Same};
@@ -79,6 +79,15 @@ fn refused_fields() -> Same {
         same(|| "announce again".into(), ffi::toggleash_announce(first, n, 0, 0, 5), again)?;
         let found = Answer { found: 1, hop: 5, ..Answer::default() };
         same(|| "lookup".into(), ffi::toggleash_lookup(first, n, 7), found)?;
+        same(
+            || "announce".into(),
+            ffi::toggleash_announce(first, n, 1 << 31, 8, 6),
+            Update { hop: 6, cells: 1, ..held },
+        )?;
+        let beside = Answer { block: 1, ..found };
+        same(|| "lookup beside a route".into(), ffi::toggleash_lookup(first, n, 7), beside)?;
+        let inside = Answer { hop: 6, length: 8, block: 8, ..found };
+        same(|| "lookup in a route".into(), ffi::toggleash_lookup(first, n, 1 << 31), inside)?;
         for (refusal, address, length, hop) in [(3, 1, 33, 0), (4, 1, 0, 0), (5, 0, 0, 0), (8, 0, 9, 1)] {
             let got = ffi::toggleash_announce(first, n, address, length, hop);
             same(|| format!("announce refused {refusal}"), got, update(refusal))?;
@@ -95,8 +104,8 @@ fn copy_fields() -> Same {
     let (first, n, bytes) = (words.as_mut_ptr(), words.len(), default.as_ptr());
     let needed = |refusal, words| Needed { refusal, words };
     let built = |refusal, routes| Built { refusal, routes, markers: 0 };
-    let refused = Answer { refusal: 2, ..Answer::default() };
-    let found = Answer { found: 1, hop: 5, ..Answer::default() };
+    let refused = Match { refusal: 2, ..Match::default() };
+    let found = Match { found: 1, hop: 5, ..Match::default() };
     unsafe {
         same(|| "copy need of null".into(), ffi::toggleash_copy_need(null(), 0), needed(2, 0))?;
         same(|| "copy build from null".into(), ffi::toggleash_copy_build(null(), 0, first, n), built(2, 0))?;
@@ -106,7 +115,7 @@ fn copy_fields() -> Same {
         same(|| "copy build".into(), ffi::toggleash_copy_build(bytes, 9, first, n), built(0, 1))?;
         same(|| "copy lookup".into(), ffi::toggleash_copy_lookup(first, n, u32::MAX), found)?;
         same(|| "copy build of none".into(), ffi::toggleash_copy_build(bytes.add(8), 1, first, 1_024), built(0, 0))?;
-        same(|| "copy lookup of none".into(), ffi::toggleash_copy_lookup(first, 1_024, 0), Answer::default())?;
+        same(|| "copy lookup of none".into(), ffi::toggleash_copy_lookup(first, 1_024, 0), Match::default())?;
         same(|| "copy lookup in too few".into(), ffi::toggleash_copy_lookup(first, 1_023, 0), refused)
     }
 }

@@ -4,11 +4,11 @@
 use std::net::Ipv4Addr;
 
 use reference::feed::Answer;
-use reference::layout::{self, Arrays, UNUSED};
-use reference::{Memory, Prefix, Refusal};
+use reference::layout::{self, Arrays, Walked, UNUSED};
+use reference::{Lookup, Memory, Prefix, Refusal};
 
 use crate::guard::{begin_call, Lent, Side};
-use crate::tally::{saw_refusal, saw_stop};
+use crate::tally::{saw_odd, saw_refusal, saw_stop};
 
 /// Nothing differs, or the text of what does.
 pub type Same = Result<(), String>;
@@ -82,18 +82,21 @@ impl Pair {
         same(|| "check".into(), told, list(self.memory.check()).map(|counts| (counts.routes, counts.arrays)))
     }
 
-    /// Lookups by the layout's walk on any words, and by longest match where they are a table.
+    /// Lookups by the layout's walk on any words, and by longest match and block where they are a table.
     pub fn lookup(&self, addresses: &[u32]) -> Same {
         begin_call("lookup");
         self.words.sealed(|words| {
             addresses.iter().try_for_each(|&address| {
                 let what = || format!("lookup {}", Ipv4Addr::from(address));
                 let told = library(toggleash::lookup(words, address.into()));
-                let told = told.map(|found| found.map(|found| (found.hop, found.length)));
-                same(what, told, list(layout::walk(words, address)))?;
+                let told = told.map(|answer| (answer.found.map(|found| (found.hop, found.length)), answer.block));
+                let walked = list(layout::walk(words, address)).map(|Walked { found, block }| (found, block));
+                same(what, told, walked)?;
                 match self.memory.lookup(address) {
-                    Ok(found) => same(what, told, Ok(found.map(|route| (route.hop, route.prefix.length)))),
-                    Err(_) => Ok(()),
+                    Ok(Lookup { route, block }) => {
+                        same(what, told, Ok((route.map(|route| (route.hop, route.prefix.length)), block)))
+                    }
+                    Err(_) => Ok(count_odd(words, address)),
                 }
             })
         })
@@ -176,14 +179,21 @@ impl Pair {
     }
 }
 
+/// Counts what a walk over words that are no table meets, if that ends it.
+fn count_odd(words: &[u32], address: u32) {
+    if let Some(Err((odd, level))) = Arrays::new(words).map(|arrays| layout::trace(&arrays, address)) {
+        saw_odd(odd, level);
+    }
+}
+
 fn same_update(what: impl Fn() -> String, told: Told<toggleash::Update>, expected: Told<reference::Update>) -> Same {
     same(what, told.map(|update| (update.hop, update.cells)), expected.map(|update| (update.hop, update.cells)))
 }
 
 /// The words without a use, which only clearing writes, are as they were.
 fn unused_left(what: impl Fn() -> String, before: &[u32], after: &[u32]) -> Same {
-    let blocks = before.chunks(1024).zip(after.chunks(1024)).enumerate();
-    for (a, (before, after)) in blocks.skip(1) {
+    let pages = before.chunks(1024).zip(after.chunks(1024)).enumerate();
+    for (a, (before, after)) in pages.skip(1) {
         left(|| format!("{}, array {a} from word {UNUSED} on", what()), &before[UNUSED..], &after[UNUSED..])?;
     }
     Ok(())
@@ -197,14 +207,14 @@ fn confined(what: impl Fn() -> String, prefix: Prefix, before: &[u32], after: &[
     let mut path = vec![1];
     for level in 0..prefix.level() {
         let cell = (prefix.address >> (24 - 8 * level) & 255) as usize;
-        let number = arrays.below(path[level as usize], cell);
-        path.push(arrays.held(number).ok_or_else(|| format!("{}: no array for it", what()))?);
+        let below = arrays.below(path[level as usize], cell).and_then(|number| arrays.held(number));
+        path.push(below.ok_or_else(|| format!("{}: no array for it", what()))?);
     }
     let comes_or_goes = |a: &usize| lean[1024 * a] == 0;
     let from = path.iter().position(comes_or_goes).unwrap_or(path.len()).saturating_sub(1);
     let allowed = &path[from..];
-    let blocks = full.chunks(1024).zip(lean.chunks(1024)).enumerate();
-    for (a, (one, other)) in blocks.skip(1) {
+    let pages = full.chunks(1024).zip(lean.chunks(1024)).enumerate();
+    for (a, (one, other)) in pages.skip(1) {
         if one != other && !allowed.contains(&a) {
             return Err(format!("{}: array {a} changed, which has no part in it", what()));
         }

@@ -3,6 +3,8 @@
 use std::fmt;
 use std::sync::atomic::{AtomicU64, Ordering::Relaxed};
 
+use reference::layout::{Odd, LEVELS};
+
 /// Differences after which no more are looked for.
 const ENOUGH: u64 = 10;
 
@@ -37,6 +39,8 @@ pub struct Copies {
 /// How often each refusal, by its number, and each stop was the right answer.
 static REFUSALS: [AtomicU64; 10] = [const { AtomicU64::new(0) }; 10];
 static STOPS: [AtomicU64; 5] = [const { AtomicU64::new(0) }; 5];
+/// How often a lookup's walk ended at what no table has: lengths, then blocks, then links, by level.
+static ODD: [AtomicU64; 3 * LEVELS as usize] = [const { AtomicU64::new(0) }; 3 * LEVELS as usize];
 
 pub fn saw_refusal(number: u8) {
     REFUSALS[usize::from(number)].fetch_add(1, Relaxed);
@@ -44,6 +48,15 @@ pub fn saw_refusal(number: u8) {
 
 pub fn saw_stop(number: u8) {
     STOPS[usize::from(number)].fetch_add(1, Relaxed);
+}
+
+pub fn saw_odd(odd: Odd, level: u32) {
+    let first = match odd {
+        Odd::Length => 0,
+        Odd::Block => LEVELS,
+        Odd::Array => 2 * LEVELS,
+    };
+    ODD[(first + level) as usize].fetch_add(1, Relaxed);
 }
 
 impl Tally {
@@ -55,9 +68,12 @@ impl Tally {
         refusals.remove(6);
         refusals.remove(0);
         println!("refusals 1, 2, 3, 4, 5, 7, 8, 9 met {refusals:?} times, stops 0 to 4 {stops:?} times");
+        let odd = counts(&ODD);
+        let by_level: Vec<_> = odd.chunks(LEVELS as usize).collect();
+        println!("lookups refused with 2 for a length, a block and a link, on each level {by_level:?} times");
         let copies = [self.copies.bytes_refused, self.copies.words_refused, self.copies.lookups_refused];
         println!("for copies, bytes refused with 2, words by 9 and lookups by 2 {copies:?} times");
-        if !self.enough() && [&refusals[..], &stops, &copies].concat().contains(&0) {
+        if !self.enough() && [&refusals[..], &stops, &odd, &copies].concat().contains(&0) {
             println!("difference: one of them was never met");
             self.differences += 1;
         }

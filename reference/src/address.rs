@@ -16,6 +16,9 @@ pub trait Address:
 
     /// The byte that names the cell on this level, the first on level 0.
     fn byte(self, level: u32) -> usize;
+
+    /// The address after this one, if it is not the last.
+    fn next(self) -> Option<Self>;
 }
 
 macro_rules! address {
@@ -33,6 +36,10 @@ macro_rules! address {
 
             fn byte(self, level: u32) -> usize {
                 self.to_be_bytes()[level as usize].into()
+            }
+
+            fn next(self) -> Option<Self> {
+                self.checked_add(1)
             }
         }
     };

@@ -1,7 +1,6 @@
 //! Feeds, replies and the run.
 
-use crate::list::Route;
-use crate::memory::{Memory, Update};
+use crate::memory::{Lookup, Memory, Update};
 use crate::refusal::Refusal;
 
 /// The free reply bytes that every record but end asks for, whatever its reply takes.
@@ -20,8 +19,7 @@ pub enum Record {
 #[derive(Clone, Copy, Debug, PartialEq, Eq)]
 pub enum Answer {
     Done(Update),
-    Found(Route),
-    None,
+    Looked(Lookup),
     Refused(Refusal),
 }
 
@@ -78,8 +76,10 @@ impl Answer {
         let two = |number: u32| (number as u16).to_be_bytes();
         match self {
             Answer::Done(update) => [&[16][..], &two(update.hop), &two(update.cells)].concat(),
-            Answer::Found(route) => [&[17][..], &two(route.hop), &[route.prefix.length as u8]].concat(),
-            Answer::None => vec![18],
+            Answer::Looked(Lookup { route: Some(route), block }) => {
+                [&[17][..], &two(route.hop), &[route.prefix.length as u8, block as u8]].concat()
+            }
+            Answer::Looked(Lookup { route: None, block }) => vec![18, block as u8],
             Answer::Refused(refusal) => vec![19, refusal.number()],
         }
     }
@@ -93,11 +93,7 @@ impl Memory {
             Record::End => None,
             Record::Announce { address, length, hop } => Some(done(self.announce(address, length, hop))),
             Record::Withdraw { address, length } => Some(done(self.withdraw(address, length))),
-            Record::Lookup { address } => Some(match self.lookup(address) {
-                Ok(Some(route)) => Answer::Found(route),
-                Ok(None) => Answer::None,
-                Err(refusal) => Answer::Refused(refusal),
-            }),
+            Record::Lookup { address } => Some(self.lookup(address).map_or_else(Answer::Refused, Answer::Looked)),
         }
     }
 

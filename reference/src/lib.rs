@@ -16,5 +16,5 @@ pub mod refusal;
 pub use address::Address;
 pub use feed::Ran;
 pub use list::{Prefix, Route, RouteList};
-pub use memory::{Counts, Memory, Update};
+pub use memory::{Counts, Lookup, Memory, Update};
 pub use refusal::Refusal;

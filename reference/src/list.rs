@@ -105,6 +105,25 @@ impl<A: Address> RouteList<A> {
         })
     }
 
+    /// The fewest first bits of the address such that all addresses with these bits get the same route, or all get none.
+    pub fn block(&self, address: A) -> u32 {
+        let asked = self.longest_match(address);
+        // All in a box get the same where all in a box around it do, so the fewest bits are found by halving.
+        let lengths: Vec<u32> = (0..=A::BITS).collect();
+        lengths.partition_point(|&length| !self.all_get(Prefix::around(address, length), asked)) as u32
+    }
+
+    /// Whether every address inside the box gets this route, or none. From one address to the next that can change only where
+    /// a route begins or has ended.
+    fn all_get(&self, inside: Prefix<A>, route: Option<Route<A>>) -> bool {
+        let first = self.routes.partition_point(|route| route.prefix.address < inside.address);
+        let inner = self.routes[first..].iter().map(|route| route.prefix);
+        let inner = inner.take_while(|prefix| prefix.address <= inside.last());
+        let turns = inner.flat_map(|prefix| [Some(prefix.address), prefix.last().next()]).flatten();
+        let turns = turns.filter(|&address| inside.matches(address));
+        [inside.address].into_iter().chain(turns).all(|address| self.longest_match(address) == route)
+    }
+
     /// The number of arrays that the list needs.
     pub fn need(&self) -> usize {
         arrays_needed(self.routes.iter().map(|route| route.prefix))

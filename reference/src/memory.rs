@@ -22,6 +22,15 @@ pub struct Update {
     pub cells: u32,
 }
 
+/// What a lookup answers.
+#[derive(Clone, Copy, Debug, PartialEq, Eq)]
+pub struct Lookup<A = u32> {
+    /// The longest match.
+    pub route: Option<Route<A>>,
+    /// How many of the address's first bits the answer may be remembered for.
+    pub block: u32,
+}
+
 /// What the check answers.
 #[derive(Clone, Copy, Debug, PartialEq, Eq)]
 pub struct Counts {
@@ -69,10 +78,11 @@ impl<A: Address> Memory<A> {
         Ok(Counts { routes: list.routes().len() as u32, arrays: list.need() as u32 })
     }
 
-    /// Longest match. Refused by 2 on words that are no table; what the calls answer there is for the layout's walk
-    /// to say.
-    pub fn lookup(&self, address: A) -> Result<Option<Route<A>>, Refusal> {
-        Ok(self.list()?.longest_match(address))
+    /// Longest match and block. Refused by 2 on words that are no table; what the calls answer there is for the layout's
+    /// walk to say.
+    pub fn lookup(&self, address: A) -> Result<Lookup<A>, Refusal> {
+        let list = self.list()?;
+        Ok(Lookup { route: list.longest_match(address), block: list.block(address) })
     }
 
     pub fn announce(&mut self, address: A, length: u32, hop: u32) -> Result<Update, Refusal> {

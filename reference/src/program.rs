@@ -4,7 +4,7 @@ use std::fmt::Write;
 use std::net::Ipv4Addr;
 
 use crate::feed::{Answer, Record};
-use crate::memory::{Memory, ARRAY_WORDS};
+use crate::memory::{Lookup, Memory, ARRAY_WORDS};
 
 /// The longest feed that the program takes.
 pub const MOST_INPUT: usize = 4_096;
@@ -46,8 +46,10 @@ fn sent(record: Record) -> String {
 fn answered(answer: Answer) -> String {
     match answer {
         Answer::Done(update) => format!("via {} cells {}", update.hop, update.cells),
-        Answer::Found(route) => format!("via {} length {}", route.hop, route.prefix.length),
-        Answer::None => "none".to_string(),
+        Answer::Looked(Lookup { route: Some(route), block }) => {
+            format!("via {} length {} block {block}", route.hop, route.prefix.length)
+        }
+        Answer::Looked(Lookup { route: None, block }) => format!("none block {block}"),
         Answer::Refused(refusal) => format!("refused {}", refusal.number()),
     }
 }

@@ -1,6 +1,6 @@
 //! Lists, room and cells over addresses of sixteen bytes: levels 0 to 15, lengths 0 to 128.
 
-use reference::{Memory, Prefix, Refusal, Route};
+use reference::{Lookup, Memory, Prefix, Refusal, Route};
 
 const NET: u128 = 0x2001_0db8 << 96;
 
@@ -36,9 +36,11 @@ fn the_longest_match_is_found_at_every_length() {
         // The address leaves the routes at the bit after this length.
         let address = NET ^ 1 << (127 - length);
         let prefix = Prefix::around(NET, length);
-        assert_eq!(memory.lookup(address), Ok(Some(Route { prefix, hop: length + 1 })));
+        let route = Some(Route { prefix, hop: length + 1 });
+        assert_eq!(memory.lookup(address), Ok(Lookup { route, block: length + 1 }));
     }
-    assert_eq!(memory.lookup(NET).unwrap().unwrap().prefix.length, 128);
+    let Lookup { route, block } = memory.lookup(NET).unwrap();
+    assert_eq!((route.unwrap().prefix.length, block), (128, 128));
 }
 
 #[test]

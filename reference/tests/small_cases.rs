@@ -1,7 +1,7 @@
 //! The small cases of the rules, the worked feed of docs/FEED.md, and the stops and refusals of the run.
 
 use reference::feed::Stop;
-use reference::{program, Counts, Memory, Refusal, Update};
+use reference::{program, Counts, Lookup, Memory, Refusal, Update};
 
 fn table(arrays: usize) -> Memory {
     let mut memory = Memory::new(1024 * (arrays + 1), None);
@@ -23,7 +23,7 @@ fn arrays(memory: &Memory) -> u32 {
 
 #[test]
 fn p1_empty_finds_none() {
-    assert_eq!(table(7).lookup(0), Ok(None));
+    assert_eq!(table(7).lookup(0), Ok(Lookup { route: None, block: 0 }));
 }
 
 #[test]
@@ -31,8 +31,9 @@ fn p2_default_route() {
     let mut memory = table(7);
     assert_eq!(cells(memory.announce(0, 0, 9)), 256);
     assert_eq!(arrays(&memory), 1);
-    let found = memory.lookup(u32::MAX).unwrap().unwrap();
-    assert_eq!((found.hop, found.prefix.length), (9, 0));
+    let Lookup { route, block } = memory.lookup(u32::MAX).unwrap();
+    let route = route.unwrap();
+    assert_eq!((route.hop, route.prefix.length, block), (9, 0, 0));
 }
 
 #[test]
@@ -111,7 +112,7 @@ fn a_second_announcement_replaces() {
     assert_eq!(memory.announce(ip(10, 1, 0, 0), 20, 3), Ok(Update { hop: 3, cells: 12 }));
     assert_eq!(memory.announce(ip(10, 1, 0, 0), 20, 3), Ok(Update { hop: 3, cells: 0 }));
     assert_eq!(memory.announce(ip(10, 1, 0, 0), 20, 0), Err(Refusal::HopOutOfRange));
-    let hop = |address| memory.lookup(address).unwrap().unwrap().hop;
+    let hop = |address| memory.lookup(address).unwrap().route.unwrap().hop;
     assert_eq!((hop(ip(10, 1, 5, 9)), hop(ip(10, 1, 8, 1))), (2, 3));
     assert_eq!(memory.check(), Ok(Counts { routes: 2, arrays: 3 }));
     assert_eq!(memory.withdraw(ip(10, 1, 0, 0), 20), Ok(Update { hop: 3, cells: 12 }));
@@ -143,9 +144,9 @@ fn stops_in_their_order() {
     assert_eq!(stop(&[16, 0, 1, 0, 1], 9), (Stop::UnknownKind, 0, 0));
     assert_eq!(stop(&[3, 0, 0, 0], 0), (Stop::BodyShort, 0, 0));
     assert_eq!(stop(&[3, 0, 0, 0, 0], 4), (Stop::ReplyFull, 0, 0));
-    assert_eq!(stop(&[3, 0, 0, 0, 0, 0, 9], 5), (Stop::End, 6, 1));
+    assert_eq!(stop(&[3, 0, 0, 0, 0, 0, 9], 5), (Stop::End, 6, 2));
     assert_eq!(stop(&[0, 0], 0), (Stop::End, 1, 0));
-    assert_eq!(stop(&[3, 0, 0, 0, 0, 3, 0, 0, 0, 0], 5), (Stop::ReplyFull, 5, 1));
+    assert_eq!(stop(&[3, 0, 0, 0, 0, 3, 0, 0, 0, 0], 5), (Stop::ReplyFull, 5, 2));
     assert_eq!(Memory::new(2048, None).run(&[0], &mut []), Err(Refusal::NotATable));
     assert_eq!(Memory::new(0, None).run(&[0], &mut []), Err(Refusal::WordCount));
 }
@@ -157,11 +158,11 @@ const EXAMPLE_OUTPUT: &str = "\
 announce 10.0.0.0/8 via 1 cells 1
 announce 10.1.4.0/22 via 2 cells 4
 announce 10.1.0.0/20 via 3 cells 12
-lookup 10.1.5.9 via 2 length 22
+lookup 10.1.5.9 via 2 length 22 block 22
 withdraw 10.1.4.0/22 via 2 cells 4
-lookup 10.1.5.9 via 3 length 20
+lookup 10.1.5.9 via 3 length 20 block 20
 withdraw 10.1.4.0/23 refused 7
-lookup 11.0.0.1 none
+lookup 11.0.0.1 none block 8
 routes 2 arrays 3 accepted 4 refused 1
 stopped 0 at 52
 ";
@@ -177,7 +178,7 @@ fn the_example_feed() {
     assert_eq!(feed.len(), 52);
     assert_eq!(program::output(&feed), EXAMPLE_OUTPUT);
     let ran = table(7).run(&feed, &mut [0; 4096]).unwrap();
-    assert_eq!((ran.written, ran.accepted, ran.refused), (31, 4, 1));
+    assert_eq!((ran.written, ran.accepted, ran.refused), (34, 4, 1));
 }
 
 #[test]

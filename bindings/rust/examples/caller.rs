@@ -9,6 +9,6 @@ fn main() -> Result<(), Box<dyn Error>> {
     let prefix: Prefix = "10.0.0.0/8".parse()?;
     let done = table.announce(prefix, 1)?;
     let found = table.lookup([10, 1, 5, 9].into())?;
-    println!("{prefix} takes {} cell; 10.1.5.9 finds {found:?}", done.cells);
+    println!("{prefix} takes {} cell; 10.1.5.9 gets {found:?}", done.cells);
     Ok(())
 }

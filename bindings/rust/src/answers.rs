@@ -11,8 +11,9 @@ use core::fmt;
 pub enum Refusal {
     /// 1: the number of words is not a multiple of 1,024 from 2,048 to 4,195,328.
     WordCount = 1,
-    /// 2: the words are not a table. [`lookup`](crate::lookup) does not test that; it gives 2 where its walk meets a hop
-    /// whose length is over 32, a link to an array that the words do not have, or a link at the last of the four levels.
+    /// 2: the words are not a table. [`lookup`](crate::lookup) does not test that; it gives 2 where a cell on its walk has a
+    /// length over 8, no link and a block over 8, or a link to an array that the words do not have, as any link has at the
+    /// last of the four levels.
     ///
     /// From [`copy::need`](crate::copy::need) and [`copy::build`](crate::copy::build): the bytes are not one whole
     /// written-out list of a table, of any room. From [`copy::lookup`](crate::copy::lookup): the words are fewer than
@@ -88,6 +89,16 @@ pub struct Counts {
     pub routes: u32,
     /// Arrays that they need, the first one included.
     pub arrays: u32,
+}
+
+/// What [`lookup`](crate::lookup) answers.
+#[derive(Clone, Copy, Debug, PartialEq, Eq, Hash)]
+pub struct Lookup {
+    /// The longest match, if any route matches.
+    pub found: Option<Match>,
+    /// How many of the address's first bits the answer may be remembered for, from 0 to 32: while the table stays as it
+    /// is, all addresses that share them get the same route, or all get none. It is the smallest such number.
+    pub block: u32,
 }
 
 /// The longest match that [`lookup`](crate::lookup) or [`copy::lookup`](crate::copy::lookup) finds.

@@ -2,7 +2,7 @@
 //!
 //! A copy is built from the bytes of a list that [`write_out`](crate::write_out) wrote, in words of its own. They are
 //! no table: their number is at least what [`need`] tells, and what stands in words past these does not matter. A copy
-//! answers every address as the table does that the list came from.
+//! answers every address as the table does that the list came from, but tells no block.
 //!
 //! ```
 //! use toggleash::{copy, words_for, ListCopy, Match, Table};
@@ -18,7 +18,7 @@
 //!
 //! let address = [10, 1, 5, 9].into();
 //! assert_eq!(card.lookup(address), Ok(Some(Match { hop: 2, length: 22 })));
-//! assert_eq!(card.lookup(address), table.lookup(address));
+//! assert_eq!(card.lookup(address)?, table.lookup(address)?.found);
 //! # Ok(())
 //! # }
 //! ```
@@ -88,7 +88,9 @@ pub fn build(bytes: &[u8], words: &mut [u32]) -> Result<Built, Refusal> {
 /// [`Refusal::NotATable`] where the words are fewer than 1,024, or the walk meets a best match, the place of a hash table
 /// or the mark of an entry that no copy has.
 pub fn lookup(words: &[u32], address: Ipv4Addr) -> Result<Option<Match>, Refusal> {
-    matched(unsafe { ffi::toggleash_copy_lookup(words.as_ptr(), words.len(), address.into()) })
+    let answer = unsafe { ffi::toggleash_copy_lookup(words.as_ptr(), words.len(), address.into()) };
+    accepted(answer.refusal)?;
+    Ok(matched(answer.found, answer.hop, answer.length))
 }
 
 /// Words that are a copy of a route list.

@@ -149,11 +149,11 @@ impl Iterator for Records<'_> {
 /// ```
 /// use toggleash::{Refusal, Reply};
 ///
-/// let bytes = [17, 0, 2, 22, 19, 7];
+/// let bytes = [17, 0, 2, 22, 24, 19, 7];
 /// let (reply, rest) = Reply::decode(&bytes).unwrap();
-/// assert_eq!(reply, Reply::Found { hop: 2, length: 22 });
+/// assert_eq!(reply, Reply::Found { hop: 2, length: 22, block: 24 });
 /// assert_eq!(Reply::decode(rest), Some((Reply::Refused(Refusal::NotHeld), &[][..])));
-/// assert!(reply.bytes().eq([17, 0, 2, 22]));
+/// assert!(reply.bytes().eq([17, 0, 2, 22, 24]));
 /// ```
 #[derive(Clone, Copy, Debug, PartialEq, Eq, Hash)]
 pub enum Reply {
@@ -171,9 +171,14 @@ pub enum Reply {
         hop: u16,
         /// Its length.
         length: u8,
+        /// How many of the address's first bits the answer may be remembered for, see [`Lookup`](crate::Lookup).
+        block: u8,
     },
     /// Kind 18: no route matches.
-    None,
+    None {
+        /// How many of the address's first bits the answer may be remembered for, see [`Lookup`](crate::Lookup).
+        block: u8,
+    },
     /// Kind 19: the record was refused.
     Refused(Refusal),
 }
@@ -189,11 +194,11 @@ impl Reply {
                 let ([high, low], [more, less]) = (hop.to_be_bytes(), cells.to_be_bytes());
                 front([16, high, low, more, less], 5)
             }
-            Reply::Found { hop, length } => {
+            Reply::Found { hop, length, block } => {
                 let [high, low] = hop.to_be_bytes();
-                front([17, high, low, length, 0], 4)
+                front([17, high, low, length, block], 5)
             }
-            Reply::None => front([18, 0, 0, 0, 0], 1),
+            Reply::None { block } => front([18, block, 0, 0, 0], 2),
             Reply::Refused(refusal) => front([19, refusal.number(), 0, 0, 0], 2),
         }
     }
@@ -206,10 +211,10 @@ impl Reply {
                 let (hop, cells) = (u16::from_be_bytes([high, low]), u16::from_be_bytes([more, less]));
                 (Reply::Done { hop, cells }, rest)
             }),
-            17 => take(rest).ok().map(|([high, low, length], rest)| {
-                (Reply::Found { hop: u16::from_be_bytes([high, low]), length }, rest)
+            17 => take(rest).ok().map(|([high, low, length, block], rest)| {
+                (Reply::Found { hop: u16::from_be_bytes([high, low]), length, block }, rest)
             }),
-            18 => Some((Reply::None, rest)),
+            18 => take(rest).ok().map(|([block], rest)| (Reply::None { block }, rest)),
             19 => {
                 let ([number], rest) = take(rest).ok()?;
                 Some((Reply::Refused(Refusal::from_number(number.into())?), rest))
@@ -224,7 +229,7 @@ impl Reply {
 /// ```
 /// use toggleash::{replies, Reply};
 ///
-/// assert!(replies(&[18, 16, 0, 1, 0, 4]).eq([Reply::None, Reply::Done { hop: 1, cells: 4 }]));
+/// assert!(replies(&[18, 8, 16, 0, 1, 0, 4]).eq([Reply::None { block: 8 }, Reply::Done { hop: 1, cells: 4 }]));
 /// ```
 pub fn replies(bytes: &[u8]) -> Replies<'_> {
     Replies { rest: bytes }

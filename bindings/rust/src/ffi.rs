@@ -17,6 +17,16 @@ pub struct Answer {
     pub found: u32,
     pub hop: u32,
     pub length: u32,
+    pub block: u32,
+}
+
+#[repr(C)]
+#[derive(Clone, Copy, Debug, Default, PartialEq, Eq)]
+pub struct Match {
+    pub refusal: u32,
+    pub found: u32,
+    pub hop: u32,
+    pub length: u32,
 }
 
 #[repr(C)]
@@ -62,10 +72,10 @@ pub struct Built {
 
 /// Kept in each program, so that an archive of another version does not link.
 #[used]
-static VERSION: unsafe extern "C" fn() -> u32 = toggleash_version_1;
+static VERSION: unsafe extern "C" fn() -> u32 = toggleash_version_2;
 
 extern "C" {
-    pub fn toggleash_version_1() -> u32;
+    pub fn toggleash_version_2() -> u32;
     pub fn toggleash_clear(words: *mut u32, n: usize) -> u32;
     pub fn toggleash_check(words: *const u32, n: usize) -> Counts;
     pub fn toggleash_lookup(words: *const u32, n: usize, address: u32) -> Answer;
@@ -82,5 +92,5 @@ extern "C" {
     ) -> Ran;
     pub fn toggleash_copy_need(bytes: *const u8, bytes_len: usize) -> Needed;
     pub fn toggleash_copy_build(bytes: *const u8, bytes_len: usize, words: *mut u32, n: usize) -> Built;
-    pub fn toggleash_copy_lookup(words: *const u32, n: usize, address: u32) -> Answer;
+    pub fn toggleash_copy_lookup(words: *const u32, n: usize, address: u32) -> Match;
 }

@@ -5,13 +5,19 @@
 //! or gives a [`Refusal`]; a refused call has changed nothing.
 //!
 //! ```
-//! use toggleash::{words_for, Match, Table};
+//! use toggleash::{words_for, Lookup, Match, Table};
 //!
 //! # fn main() -> Result<(), Box<dyn std::error::Error>> {
 //! let mut table = Table::new(vec![0; words_for(7).unwrap()])?;
 //! table.announce("10.0.0.0/8".parse()?, 1)?;
 //! table.announce("10.1.4.0/22".parse()?, 2)?;
-//! assert_eq!(table.lookup([10, 1, 5, 9].into())?, Some(Match { hop: 2, length: 22 }));
+//! let found = Some(Match { hop: 2, length: 22 });
+//! assert_eq!(table.lookup([10, 1, 5, 9].into())?, Lookup { found, block: 22 });
+//!
+//! // What holds for 10.1.8.0 holds for all that share its first 21 bits; what holds for 11.0.0.0, for its first 8.
+//! let found = Some(Match { hop: 1, length: 8 });
+//! assert_eq!(table.lookup([10, 1, 8, 0].into())?, Lookup { found, block: 21 });
+//! assert_eq!(table.lookup([11, 0, 0, 0].into())?, Lookup { found: None, block: 8 });
 //! # Ok(())
 //! # }
 //! ```
@@ -35,7 +41,7 @@ pub mod ffi;
 mod prefix;
 mod table;
 
-pub use answers::{Counts, Match, Ran, Refusal, Stop, Update};
+pub use answers::{Counts, Lookup, Match, Ran, Refusal, Stop, Update};
 pub use copy::ListCopy;
 pub use feed::{records, replies, Record, Records, Replies, Reply};
 pub use prefix::{Prefix, PrefixError};
@@ -97,15 +103,17 @@ pub fn check(words: &[u32]) -> Result<Counts, Refusal> {
     Ok(Counts { routes: counts.routes, arrays: counts.arrays })
 }
 
-/// Finds the longest match of an address.
+/// Finds the longest match of an address, and how many of its first bits that may be remembered for.
 ///
 /// The table is not tested: on words that are none the call reads inside them and gives what its walk gives.
 ///
 /// # Errors
-/// [`Refusal::WordCount`]; [`Refusal::NotATable`] where the walk meets a hop whose length is over 32, a link to an array
-/// that the words do not have, or a link at the last of the four levels.
-pub fn lookup(words: &[u32], address: Ipv4Addr) -> Result<Option<Match>, Refusal> {
-    matched(unsafe { ffi::toggleash_lookup(words.as_ptr(), words.len(), address.into()) })
+/// [`Refusal::WordCount`]; [`Refusal::NotATable`] where a cell on the walk has a length over 8, no link and a block over 8,
+/// or a link to an array that the words do not have, as any link has at the last of the four levels.
+pub fn lookup(words: &[u32], address: Ipv4Addr) -> Result<Lookup, Refusal> {
+    let answer = unsafe { ffi::toggleash_lookup(words.as_ptr(), words.len(), address.into()) };
+    accepted(answer.refusal)?;
+    Ok(Lookup { found: matched(answer.found, answer.hop, answer.length), block: answer.block })
 }
 
 /// Adds a route, or gives a held prefix this hop, for which there is always room. Any length and hop may be given; those
@@ -187,7 +195,7 @@ pub fn write_out<'a>(words: &[u32], buffer: &'a mut [u8]) -> Result<&'a mut [u8]
 /// let mut reply = [0; 64];
 /// let ran = run(&mut words, &feed, &mut reply)?;
 /// assert_eq!((ran.stop, ran.consumed, ran.accepted, ran.refused), (Stop::End, 14, 1, 0));
-/// assert_eq!(reply[..ran.written], [16, 0, 1, 0, 1, 17, 0, 1, 8]);
+/// assert_eq!(reply[..ran.written], [16, 0, 1, 0, 1, 17, 0, 1, 8, 8]);
 /// # Ok(())
 /// # }
 /// ```
@@ -214,9 +222,8 @@ fn accepted(refusal: u32) -> Result<(), Refusal> {
     }
 }
 
-fn matched(answer: ffi::Answer) -> Result<Option<Match>, Refusal> {
-    accepted(answer.refusal)?;
-    Ok((answer.found != 0).then_some(Match { hop: answer.hop, length: answer.length }))
+fn matched(found: u32, hop: u32, length: u32) -> Option<Match> {
+    (found != 0).then_some(Match { hop, length })
 }
 
 fn updated(update: ffi::Update) -> Result<Update, Refusal> {

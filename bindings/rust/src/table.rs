@@ -3,7 +3,7 @@
 use core::fmt;
 use core::net::Ipv4Addr;
 
-use crate::{announce, check, clear, lookup, run, withdraw, write_out, Counts, Match, Prefix, Ran, Refusal, Update};
+use crate::{announce, check, clear, lookup, run, withdraw, write_out, Counts, Lookup, Prefix, Ran, Refusal, Update};
 
 /// Words that are a table.
 ///
@@ -30,11 +30,11 @@ use crate::{announce, check, clear, lookup, run, withdraw, write_out, Counts, Ma
 /// let mut table = Table::new(vec![0; words_for(7).unwrap()])?;
 /// table.announce("10.0.0.0/8".parse()?, 1)?;
 /// table.announce("10.1.4.0/22".parse()?, 2)?;
-/// assert_eq!(table.lookup([10, 1, 5, 9].into())?, Some(Match { hop: 2, length: 22 }));
+/// assert_eq!(table.lookup([10, 1, 5, 9].into())?.found, Some(Match { hop: 2, length: 22 }));
 ///
 /// // Withdraw one box and its addresses belong to the next box out.
 /// table.withdraw("10.1.4.0/22".parse()?)?;
-/// assert_eq!(table.lookup([10, 1, 5, 9].into())?, Some(Match { hop: 1, length: 8 }));
+/// assert_eq!(table.lookup([10, 1, 5, 9].into())?.found, Some(Match { hop: 1, length: 8 }));
 /// # Ok(())
 /// # }
 /// ```
@@ -71,11 +71,11 @@ impl<W: AsRef<[u32]>> Table<W> {
         check(self.words())
     }
 
-    /// The longest match of an address, or none.
+    /// The longest match of an address, or none, and how many of its first bits that may be remembered for.
     ///
     /// # Errors
     /// [`Refusal::NotATable`] only where something else has changed the words, see [`lookup`].
-    pub fn lookup(&self, address: Ipv4Addr) -> Result<Option<Match>, Refusal> {
+    pub fn lookup(&self, address: Ipv4Addr) -> Result<Lookup, Refusal> {
         lookup(self.words(), address)
     }
 
@@ -128,7 +128,7 @@ impl<W: AsRef<[u32]> + AsMut<[u32]>> Table<W> {
     ///
     /// let mut reply = [0; 2 * Reply::MOST];
     /// let ran = table.run(&feed, &mut reply)?;
-    /// let expected = [Reply::Done { hop: 1, cells: 1 }, Reply::Found { hop: 1, length: 8 }];
+    /// let expected = [Reply::Done { hop: 1, cells: 1 }, Reply::Found { hop: 1, length: 8, block: 8 }];
     /// assert!(replies(&reply[..ran.written]).eq(expected));
     /// # Ok(())
     /// # }

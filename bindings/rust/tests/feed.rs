@@ -28,8 +28,8 @@ fn line(record: Record, reply: Reply) -> String {
     };
     match reply {
         Reply::Done { hop, cells } => format!("{sent} via {hop} cells {cells}"),
-        Reply::Found { hop, length } => format!("{sent} via {hop} length {length}"),
-        Reply::None => format!("{sent} none"),
+        Reply::Found { hop, length, block } => format!("{sent} via {hop} length {length} block {block}"),
+        Reply::None { block } => format!("{sent} none block {block}"),
         Reply::Refused(refusal) => format!("{sent} refused {}", refusal.number()),
     }
 }
@@ -40,14 +40,14 @@ fn the_worked_feed() {
     let feed: Vec<u8> = rows.iter().flat_map(|row| bytes(row[0])).collect();
     let expected: Vec<u8> = rows.iter().flat_map(|row| bytes(row[1])).collect();
     assert_eq!(feed, include_bytes!("../../../crates/router/stdin"));
-    assert_eq!((feed.len(), expected.len()), (52, 31));
+    assert_eq!((feed.len(), expected.len()), (52, 34));
 
     let mut table = Table::new(vec![0; words_for(7).unwrap()]).unwrap();
     let mut reply = [0xEE; 64];
     let ran = table.run(&feed, &mut reply).unwrap();
-    assert_eq!(ran, Ran { stop: Stop::End, consumed: 52, written: 31, accepted: 4, refused: 1 });
-    assert_eq!(reply[..31], expected);
-    assert_eq!(reply[31..], [0xEE; 33]);
+    assert_eq!(ran, Ran { stop: Stop::End, consumed: 52, written: 34, accepted: 4, refused: 1 });
+    assert_eq!(reply[..34], expected);
+    assert_eq!(reply[34..], [0xEE; 30]);
 
     let lines: Vec<_> = records(&feed).zip(replies(&expected)).map(|(record, reply)| line(record, reply)).collect();
     let shown: Vec<_> = rows.iter().map(|row| row[2].trim_matches('`')).filter(|line| !line.is_empty()).collect();
@@ -87,8 +87,8 @@ fn every_record_is_read_as_it_was_written() {
 fn every_reply_is_read_as_it_was_written() {
     let all = [
         Reply::Done { hop: 65_535, cells: 256 },
-        Reply::Found { hop: 258, length: 32 },
-        Reply::None,
+        Reply::Found { hop: 258, length: 31, block: 32 },
+        Reply::None { block: 8 },
         Reply::Refused(Refusal::NoRoom),
     ];
     for reply in all {

@@ -3,7 +3,7 @@
 use std::net::Ipv4Addr;
 
 use toggleash::{
-    copy, replies, words_for, Counts, ListCopy, Match, Prefix, PrefixError, Record, Refusal, Reply, Table,
+    copy, replies, words_for, Counts, ListCopy, Lookup, Match, Prefix, PrefixError, Record, Refusal, Reply, Table,
 };
 
 fn prefix(text: &str) -> Prefix {
@@ -61,7 +61,8 @@ fn tables_own_or_borrow_their_words() {
     assert_eq!(table.write_out(&mut [0; 8]), Err(Refusal::BufferShort));
 
     let reader = Table::from_words(&words[..]).unwrap();
-    assert_eq!(reader.lookup(Ipv4Addr::BROADCAST), Ok(Some(Match { hop: 7, length: 0 })));
+    let found = Some(Match { hop: 7, length: 0 });
+    assert_eq!(reader.lookup(Ipv4Addr::BROADCAST), Ok(Lookup { found, block: 0 }));
     assert_eq!(reader.check().unwrap().routes, 1);
     let mut owner = Table::from_words(words.to_vec()).unwrap();
     assert_eq!(owner.withdraw(Prefix::DEFAULT).unwrap().hop, 7);
@@ -84,7 +85,7 @@ fn copies_of_a_list() {
     let need = copy::need(list).unwrap();
     let card = ListCopy::build(list, vec![0; need]).unwrap();
     for address in [[10, 1, 5, 9], [10, 1, 8, 0], [11, 0, 0, 1]] {
-        assert_eq!(card.lookup(address.into()), table.lookup(address.into()));
+        assert_eq!(card.lookup(address.into()), table.lookup(address.into()).map(|answer| answer.found));
     }
     let sent = ListCopy::from_words(card.words());
     assert_eq!(sent.lookup([10, 1, 5, 9].into()), Ok(Some(Match { hop: 2, length: 22 })));

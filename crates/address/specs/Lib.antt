@@ -1,4 +1,3 @@
 pub mod Address
 pub mod Four
-pub mod Bit
 pub mod Parts

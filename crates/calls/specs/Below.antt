@@ -108,8 +108,8 @@ update-below ws vs u r p =
   where
     kept : (y : Reply) → answerOn 32 (seen 4 ws) u ≡ y → isRefused y ≡ true → vs ≡ ws
     kept (done h c) e q = absurd (false≢true q)
-    kept (found h l) e q = absurd (false≢true q)
-    kept none e q = absurd (false≢true q)
+    kept (found h l k) e q = absurd (false≢true q)
+    kept (none k) e q = absurd (false≢true q)
     kept (refused n) e q = p .kept n e
 
 -- ---- toggleash_write_out

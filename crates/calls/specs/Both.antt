@@ -13,6 +13,7 @@ use borrow.Author.Tests.{le-ltb}
 use Rattle.routes.specs.Route.{Route}
 use Rattle.routes.specs.Room.{need}
 use Rattle.routes.specs.Match.{longest}
+use Rattle.routes.specs.Block.{block}
 use Rattle.routes.specs.Answers.{Update, records, Reply, matched}
 use Rattle.routes.specs.Bytes.{written, AllFit}
 use Rattle.routes.specs.Runs.{Ran as Outcome, run}
@@ -41,7 +42,7 @@ use Rattle.feed.specs.Series.{Series, all-answered}
 pub record Holds (A : ℕ) (rs : List Route) (ws : List ℕ) : Type 0 where
   pub list : seen 4 ws ≡ table A rs
   pub lookups : (a : ℕ) (r : code.Reply) → saidReply r ≡ lookupOn 32 (seen 4 ws) (walk 4 ws a) a
-      → saidReply r ≡ matched (longest 32 a rs)
+      → saidReply r ≡ matched (longest 32 a rs) (block 32 rs a)
   pub checks : (r : Checked) → checkAnswer r ≡ checkOn 32 (seen 4 ws)
       → checkAnswer r ≡ gives (record { routes = length rs; arrays = need 32 rs })
   pub fronts : (b front : List ℕ) → 8 * length rs + 1 ≤ length b → front ≡ frontOn (seen 4 ws) (length b) → front ≡ written rs

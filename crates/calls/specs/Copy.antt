@@ -1,9 +1,9 @@
 -- The copy over the calls of the C face: a table written out, and a copy built from the bytes in as many words as they need,
--- which answers every address as the table does. Assumes nothing.
+-- which answers every address as the table does, but for the block. Assumes nothing.
 --
 --     words ── write_out ──▶ bytes ── copy_need ──▶ how many words to lend
---       │                      └───── copy_build ─▶ copy, its words on the card ── copy_lookup ──▶ found
---       └──────────────────── lookup ──────────────────────────────────────────────────────────▶ the same
+--       │                      └───── copy_build ─▶ copy, its words on the card ── copy_lookup ──▶ match
+--       └──────────────────── lookup ──────────────────────────────────────────────────────────▶ the same, and the block
 use mathlib.Core.Path.{_≡_, refl, sym, ap, _∙_}
 use mathlib.Core.List.{List, _++_}
 use Prim.Native.Nat.{ℕ, _+_, _*_, _≤_, _<_}
@@ -12,6 +12,8 @@ use lib.ListN.{length, getD, take, drop}
 use lib.Seq.{take-append-seam}
 use borrow.Author.Tests.{le-ltb}
 use Rattle.routes.specs.Route.{Route}
+use Rattle.routes.specs.Match.{Match, none, found, longest}
+use Rattle.routes.specs.Answers as answers
 use Rattle.routes.specs.Bytes.{written}
 use Rattle.routes.specs.Seen.{Seen, misfit, foreign, table, gives, refuses, lookupOn, checkOn}
 use Rattle.logic.specs.Cases.{less}
@@ -27,12 +29,13 @@ use Rattle.lengths.specs.Layout as layout
 use Rattle.lengths.specs.Laid.{Laid, laid-walk, laid-front}
 use Rattle.lengths_build.specs.Build.{Leaves}
 use Rattle.toggleash.specs.Face.{HasWritten, counted, looked, wrote}
-use Rattle.toggleash.specs.Copies.{HasBuilt, needed}
+use Rattle.toggleash.specs.Copies.{HasBuilt, needed, matched}
 use Rattle.toggleash.specs.declared.Counted.{Counted}
 use Rattle.toggleash.specs.declared.Found.{Found}
 use Rattle.toggleash.specs.declared.Written.{Written}
 use Rattle.toggleash.specs.declared.copies.Needed.{Needed}
 use Rattle.toggleash.specs.declared.copies.Built.{Built}
+use Rattle.toggleash.specs.declared.copies.Matched.{Matched}
 use Rattle.calls.specs.Held.{held}
 
 -- the calls, each as its contract allows
@@ -61,13 +64,18 @@ pub record Carried : Type 0 where
   pub long : need .words ≤ length card
   pub sent : (i : ℕ) → i < need .words → getD card i 0 ≡ getD copy i 0
 
+-- the answer of a table without its block
+abbrev pub matchOf : Found → Matched
+matchOf f = record { refusal = f .refusal; found = f .found; hop = f .hop; length = f .length }
+
 -- nothing is refused, the routes are as many as the check counts, and the card answers each address as the table
 pub record AsTable (t : Carried) : Type 0 where
   pub needs : t .need .refusal ≡ 0
   pub builds : t .built .refusal ≡ 0
   pub routes : (c : Counted) → c ≡ counted (checkOn 32 (seen 4 (t .words))) → t .built .routes ≡ c .routes
-  pub lookups : (a : ℕ) → a < 4294967296 → (f g : Found)
-      → f ≡ looked (lookupOn 32 (seen 4 (t .words)) (walk 4 (t .words) a) a) → g ≡ looked (layout.walk (t .card) a) → g ≡ f
+  pub lookups : (a : ℕ) → a < 4294967296 → (f : Found) (g : Matched)
+      → f ≡ looked (lookupOn 32 (seen 4 (t .words)) (walk 4 (t .words) a) a) → g ≡ matched (layout.walk (t .card) a)
+      → g ≡ matchOf f
 
 -- ---- what was written out is the list of a table
 
@@ -101,6 +109,10 @@ out ws b c r w z = go (seen 4 ws) refl
         })
 
 -- ---- so it is built, and answers
+
+without-block : (m : Match) (q : ℕ) → matched (gives m) ≡ matchOf (looked (answers.matched m q))
+without-block none q = refl
+without-block (found h l) q = refl
 
 module _ (t : Carried) where
   abbrev o : Out (t .words) (take (t .wrote .bytes) (t .buffer′))
@@ -143,5 +155,9 @@ module _ (t : Carried) where
         needs = ap (λ (x : Needed). x .refusal) is-needed;
         builds = ap (λ (x : Built). x .refusal) is-built;
         routes = λ c p. ap (λ (x : Built). x .routes) is-built ∙ sym (ap (λ (x : Counted). x .routes) (rw (o .table) at p));
-        lookups = λ a k f g p q. q ∙ ap looked (laid-walk rs (t .card) (h .list) is-laid a k) ∙ sym (rw (o .table) at p);
+        lookups = λ a k f g p q.
+            q
+            ∙ ap matched (laid-walk rs (t .card) (h .list) is-laid a k)
+            ∙ without-block (longest 32 a rs) _
+            ∙ sym (ap matchOf (rw (o .table) at p));
       }

@@ -39,19 +39,22 @@ saidUpdate r = cond (eqb (r .refusal) 0) (done (r .hop) (r .cells)) (refused (r 
 
 -- those of a lookup
 abbrev pub saidLookup : Found → Reply
-saidLookup r = cond (eqb (r .refusal) 0) (cond (eqb (r .found) 0) none (found (r .hop) (r .length))) (refused (r .refusal))
+saidLookup r =
+    cond (eqb (r .refusal) 0)
+    (cond (eqb (r .found) 0) (none (r .block)) (found (r .hop) (r .length) (r .block)))
+    (refused (r .refusal))
 
 -- they are read as they were meant
 update-read : (y : Reply) → OfUpdate y → saidUpdate (face.updated y) ≡ y
 update-read (done h c) p = refl
-update-read (found h l) p = absurd p
-update-read none p = absurd p
+update-read (found h l q) p = absurd p
+update-read (none q) p = absurd p
 update-read (refused n) p = rw (ne-eqb n 0 (λ e. omega arith))
 
 lookup-read : (y : Reply) → OfLookup y → saidLookup (face.looked y) ≡ y
 lookup-read (done h c) p = absurd p
-lookup-read (found h l) p = refl
-lookup-read none p = refl
+lookup-read (found h l q) p = refl
+lookup-read (none q) p = refl
 lookup-read (refused n) p = rw (ne-eqb n 0 (λ e. omega arith))
 
 -- ---- calls

@@ -13,6 +13,7 @@ use borrow.Author.Tests.{le-ltb}
 use Rattle.routes.specs.Route.{Route}
 use Rattle.routes.specs.Room.{need}
 use Rattle.routes.specs.Match.{longest}
+use Rattle.routes.specs.Block.{block}
 use Rattle.routes.specs.Answers.{Update, records, Reply, matched}
 use Rattle.routes.specs.Bytes.{written, AllFit}
 use Rattle.routes.specs.Runs.{run}
@@ -41,7 +42,7 @@ use Rattle.calls.specs.Exported.{Cleared, Series, cleared, series-below}
 pub record Holds (A : ℕ) (rs : List Route) (ws : List ℕ) : Type 0 where
   pub list : seen 4 ws ≡ table A rs
   pub lookups : (a : ℕ) (r : Found) → r ≡ looked (lookupOn 32 (seen 4 ws) (walk 4 ws a) a)
-      → r ≡ looked (matched (longest 32 a rs))
+      → r ≡ looked (matched (longest 32 a rs) (block 32 rs a))
   pub checks : (r : Counted) → r ≡ counted (checkOn 32 (seen 4 ws))
       → r ≡ record { refusal = 0; routes = length rs; arrays = need 32 rs }
   pub fronts : (b c : List ℕ) (r : Written) → 8 * length rs + 1 ≤ length b → HasWritten ws b c r → take (r .bytes) c ≡ written rs

@@ -16,7 +16,7 @@ use Rattle.listing.specs.Records.{Bytes}
 use Rattle.lengths.specs.Layout as copy
 use Rattle.lengths_build.specs.Sharp.{Alike, words-sharp}
 use Rattle.toggleash.specs.Face.{HasCleared, HasUpdated, HasWritten, HasRun, counted, looked}
-use Rattle.toggleash.specs.Copies.{HasBuilt, needed}
+use Rattle.toggleash.specs.Copies.{HasBuilt, needed, matched}
 use Rattle.toggleash.specs.declared.Counted.{Counted}
 use Rattle.toggleash.specs.declared.Found.{Found}
 use Rattle.toggleash.specs.declared.Updated.{Updated}
@@ -24,6 +24,7 @@ use Rattle.toggleash.specs.declared.Written.{Written}
 use Rattle.toggleash.specs.declared.Ran.{Ran as Fields}
 use Rattle.toggleash.specs.declared.copies.Needed.{Needed}
 use Rattle.toggleash.specs.declared.copies.Built.{Built}
+use Rattle.toggleash.specs.declared.copies.Matched.{Matched}
 
 -- one answer, one view of the words left, and one content of them where the call refused
 pub record Agree {T : Type 0} (Refused : Type 0) (vs vs′ : List ℕ) (r r′ : T) : Type 0 where
@@ -31,7 +32,7 @@ pub record Agree {T : Type 0} (Refused : Type 0) (vs vs′ : List ℕ) (r r′ :
   pub seen : seen 4 vs ≡ seen 4 vs′
   pub words : Refused → vs ≡ vs′
 
--- refused by some number
+-- refused with some number
 pub record By {T : Type 0} (a : Answer T) : Type 0 where
   pub number : ℕ
   pub is : a ≡ refuses number
@@ -84,7 +85,7 @@ pub copy-need-agrees : (bytes : List ℕ) (r r′ : Needed) → r ≡ needed (ne
     → r′ ≡ needed (needOn (listedIn bytes)) → r ≡ r′
 copy-need-agrees bytes r r′ p q = p ∙ sym q
 
-pub copy-lookup-agrees : (ws : List ℕ) (a : ℕ) (r r′ : Found) → r ≡ looked (copy.walk ws a) → r′ ≡ looked (copy.walk ws a)
+pub copy-lookup-agrees : (ws : List ℕ) (a : ℕ) (r r′ : Matched) → r ≡ matched (copy.walk ws a) → r′ ≡ matched (copy.walk ws a)
     → r ≡ r′
 copy-lookup-agrees ws a r r′ p q = p ∙ sym q
 

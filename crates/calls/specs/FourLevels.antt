@@ -9,7 +9,7 @@ use Prim.Native.Nat.{ℕ, zero, suc, _+_, _-_, _*_, _/_, _^_, _≤_, _<_}
 use native.Mathlib.Nat.{div-le-self}
 use native.Mathlib.Omega.{arith}
 use lib.ListN.{length, getD, set, length-set}
-use lib.Seq.{getD-set-same, getD-set-other}
+use lib.Seq.{getD-set-same, getD-set-other, ext-getD}
 use lib.Pow.{shr-shr, shr-lt}
 use Rattle.sizes.specs.Sizes.{arrayWords, slotEnd, cellCount, cellSlots, arrayAt, wordAt, cellAt, hopBound}
 use Rattle.routes.specs.Route.{Route, route, insert}
@@ -17,20 +17,23 @@ use Rattle.routes.specs.Seen.{table}
 use Rattle.routes.specs.Small.{ip}
 use Rattle.logic.specs.Cases.{same}
 use Rattle.routes.specs.Collect.{routes, routeOf}
+use Rattle.calm.specs.Calm.{Settled}
 use Rattle.array.specs.Tag.{tagOf, levelIn}
 use Rattle.array.specs.Cell.{bestIn, linkIn, link-blank}
 use Rattle.array.specs.With.{withBest, best-set, link-kept}
 use Rattle.array.specs.Page.{bestOf}
-use Rattle.array.specs.Frame.{pageOf, withPage, page-length}
-use Rattle.array.specs.Link.{relink, relinked-set}
-use Rattle.array.specs.Right.{Right}
+use Rattle.array.specs.Frame.{pageOf, withPage, page-word, page-length, with-length, with-in, with-other}
+use Rattle.array.specs.Right.{Right, right-ext}
 use Rattle.array.specs.Best.{best-some, best-ext}
 use Rattle.array.specs.Change.{best-apart}
+use Rattle.settle.specs.Settled.{Resettled}
+use Rattle.settle.specs.Exists.{resettled, resettled-right, relinked, relinked-right}
 use Rattle.tree.specs.Arrays.{Arrays, lev, node}
 use Rattle.tree.specs.Tree.{node-level}
 use Rattle.tree.specs.Need.{node-child}
-use Rattle.words.specs.Words.{arraysOf, arrayCount, slotsOf, bestsOf}
+use Rattle.words.specs.Words.{arraysOf, arrayCount, slotsOf, bestsOf, blocksOf}
 use Rattle.words.specs.TableBut.{TableBut}
+use Rattle.words.specs.Lent.{lent-best, lent-link, settled-page}
 use Rattle.words.specs.Gained.{groupAt, retagged, Ends, Gained}
 use Rattle.words.specs.Rehung.{rehangs}
 use Rattle.tree.specs.HungBelow.{HungBelow, node-cases, hang-held}
@@ -67,14 +70,15 @@ row-first = record {
 -- ws with array a hung below cell i of p
 unfoldable pub hung : List ℕ → ℕ → ℕ → ℕ → List ℕ
 hung ws p i a =
-    retagged (withPage ws p (relink (pageOf ws p) i (a - 1))) a (tagOf p i (levelIn (getD ws (arrayAt p) 0) + 1))
+    retagged (withPage ws p (relinked (pageOf ws p) i a)) a (tagOf p i (levelIn (getD ws (arrayAt p) 0) + 1))
     (getD ws 0 0 + 1) (getD ws (groupAt a) 0 + 1)
 
 hung-gained : (ws : List ℕ) (p i a : ℕ) → Ends ws p i a → Gained ws (hung ws p i a) p i a
 unfolding hung
 hung-gained ws p i a g =
-    rehangs ws (relink (pageOf ws p) i (a - 1)) p i a _ a _ _ g
-    (relinked-set (pageOf ws p) i (page-length ws p (g .inside)) (g .cells) a (g .some) (omega (arith, g .within, g .size)))
+    rehangs ws (relinked (pageOf ws p) i a) p i a _ a _ _ g
+    (relinked-right (pageOf ws p) i a (page-length ws p (g .inside)) (g .cells) (rw (lent-best ws p i (g .cells)) (g .small))
+    (omega (arith, g .some)) (omega (arith, g .within, g .size)))
 
 module _ (k q i : ℕ) (ws : List ℕ) (row : Row k q ws) (more : k < 3) (cell : i < cellCount) where
   abbrev t : Arrays
@@ -142,11 +146,61 @@ module _ (k q i : ℕ) (ws : List ℕ) (row : Row k q ws) (more : k < 3) (cell :
     list = ap (routes 32) (λ x v l. hang-held (arrayCount ws) 4 t u (k + 1) i (k + 2) hang (row .ok .shape) v l x) ∙ row .list;
   }
 
--- ---- a route of 8 bits in an array: its slot and its cell
+-- ---- the blocks of an array, all written
 
--- ws with the hop h for the last 8 bits x in array a
+unfoldable pub anew : List ℕ → ℕ → List ℕ
+anew ws a = withPage ws a (resettled (pageOf ws a))
+
+module _ (ws : List ℕ) (a : ℕ) (inside : arrayAt (a + 1) ≤ length ws) where
+  abbrev b₁ : List ℕ
+  b₁ = resettled (pageOf ws a)
+
+  put : Resettled (pageOf ws a) b₁
+  put = resettled-right (pageOf ws a) (page-length ws a inside)
+
+  whole : length b₁ ≡ arrayWords
+  whole = put .size ∙ page-length ws a inside
+
+  anew-size : length (anew ws a) ≡ length ws
+  unfolding anew
+  anew-size = with-length ws a b₁ inside whole
+
+  anew-outside : (k : ℕ) → (k < arrayAt a) ⊎ (arrayAt (a + 1) ≤ k) → getD (anew ws a) k 0 ≡ getD ws k 0
+  unfolding anew
+  anew-outside = with-other ws a b₁ inside whole
+
+  page : pageOf (anew ws a) a ≡ b₁
+  unfolding anew
+  page =
+      let l = page-length (anew ws a) a (rw anew-size inside) in
+      ext-getD 0 (pageOf (anew ws a) a) b₁ (l ∙ sym whole)
+      (λ r h. let c : r < arrayWords = omega (arith, h, l) in
+      page-word (anew ws a) a r c ∙ with-in ws a b₁ inside whole r c)
+
+  again : Resettled (pageOf ws a) (pageOf (anew ws a) a)
+  again = rw page put
+
+  -- the tag and the slots
+  anew-low : (k : ℕ) → k < slotEnd → getD (anew ws a) (wordAt a k) 0 ≡ getD ws (wordAt a k) 0
+  anew-low k h = sym (page-word (anew ws a) a k (omega arith)) ∙ again .low k h ∙ page-word ws a k (omega arith)
+
+  anew-link : (i : ℕ) → i < cellCount → arraysOf (anew ws a) .link a i ≡ arraysOf ws .link a i
+  anew-link i h = sym (lent-link (anew ws a) a i h) ∙ again .same-links i h ∙ lent-link ws a i h
+
+  anew-best : (i : ℕ) → i < cellCount → bestsOf (anew ws a) a i ≡ bestsOf ws a i
+  anew-best i h = sym (lent-best (anew ws a) a i h) ∙ again .same-bests i h ∙ lent-best ws a i h
+
+  anew-settled : Settled (slotsOf (anew ws a) a) (arraysOf (anew ws a) .link a) (blocksOf (anew ws a) a)
+  anew-settled = settled-page (anew ws a) a (again .settled)
+
+-- ---- a route of 8 bits in an array: its slot and its cell, then the blocks
+
+-- ws with the hop h for the last 8 bits x in array a, the blocks as they were
+abbrev bested : List ℕ → ℕ → ℕ → ℕ → List ℕ
+bested ws a x h = set (set ws (wordAt a (cellSlots + x)) h) (cellAt a x) (withBest (getD ws (cellAt a x) 0) (8 * hopBound + h))
+
 abbrev posted : List ℕ → ℕ → ℕ → ℕ → List ℕ
-posted ws a x h = set (set ws (wordAt a (cellSlots + x)) h) (cellAt a x) (withBest (getD ws (cellAt a x) 0) (8 * hopBound + h))
+posted ws a x h = anew (bested ws a x h) a
 
 module _ (ws : List ℕ) (a x h : ℕ) (inside : arrayAt (a + 1) ≤ length ws) (small : x < cellCount) (hop : h < hopBound)
     (some : 1 ≤ h) (deep : 1 ≤ levelIn (getD ws (arrayAt a) 0))
@@ -158,7 +212,7 @@ module _ (ws : List ℕ) (a x h : ℕ) (inside : arrayAt (a + 1) ≤ length ws) 
   ms = set ws (wordAt a (cellSlots + x)) h
 
   abbrev ps : List ℕ
-  ps = posted ws a x h
+  ps = bested ws a x h
 
   first : (k : ℕ) → k ≢ cellAt a x → getD ps k 0 ≡ getD ms k 0
   first k n = getD-set-other ms (cellAt a x) k _ 0 n
@@ -195,7 +249,7 @@ module _ (ws : List ℕ) (a x h : ℕ) (inside : arrayAt (a + 1) ≤ length ws) 
   best-right i b =
       same i x
       (λ e _. rw (e, best-some (slotsOf ps a) (cellSlots + x) 8 (λ z. omega (arith, slot-here)), slot-here)
-      (ap bestIn cell-here ∙ best-set (getD ws (cellAt a x) 0) (8 * hopBound + h)))
+      (ap bestIn cell-here ∙ best-set (getD ws (cellAt a x) 0) (8 * hopBound + h) (omega arith)))
       (λ n _. ap bestIn (cell-same i b n)
       ∙ right .sound .best i b
       ∙ sym (best-apart (slotsOf ws a) (slotsOf ms a) (cellSlots + x) (λ r m. second (wordAt a r) (λ e. m (omega arith))) 8
@@ -203,26 +257,47 @@ module _ (ws : List ℕ) (a x h : ℕ) (inside : arrayAt (a + 1) ≤ length ws) 
       ∙ best-ext (slotsOf ms a) (slotsOf ps a) (λ s l w. sym (first (wordAt a s) (λ e. omega arith))) (cellSlots + i) 8
       (omega arith) (omega arith))
 
-  posted-reslot : SlotSet ws ps a (cellSlots + x) h
+  link-same : (i : ℕ) → i < cellCount → arraysOf ps .link a i ≡ arraysOf ws .link a i
+  link-same i b =
+      same i x
+      (λ e _. rw e (ap linkIn cell-here ∙ link-kept (getD ws (cellAt a x) 0) (8 * hopBound + h) (omega arith)))
+      (λ n _. ap linkIn (cell-same i b n))
+
+  right-now : Right lv (slotsOf ps a) (bestsOf ps a)
+  right-now = record {
+    sound = record {
+      hops = λ s l b. same s (cellSlots + x) (λ e _. rw (e, slot-here) hop)
+          (λ n _. rw (slot-same s b n) (right .sound .hops s l b));
+      best = best-right;
+    };
+    first = λ z. slot-same 1 (omega arith) (λ e. omega arith) ∙ right .first z;
+  }
+
+  -- the blocks are written besides
+  long : length ps ≡ length ws
+  long = simp length-set
+
+  room : arrayAt (a + 1) ≤ length ps
+  room = rw long inside
+
+  tag-kept : getD (posted ws a x h) (arrayAt a) 0 ≡ getD ws (arrayAt a) 0
+  tag-kept =
+      let e : arrayAt a ≡ wordAt a 0 = omega arith in
+      ap (λ (k : ℕ). getD (anew ps a) k 0) e ∙ anew-low ps a room 0 (omega arith) ∙ ap (λ (k : ℕ). getD ps k 0) (sym e) ∙ tag-same
+
+  posted-reslot : SlotSet ws (posted ws a x h) a (cellSlots + x) h
   posted-reslot = record {
-    size = simp length-set;
-    outside = λ k o. ⊎-elim
+    size = anew-size ps a room ∙ long;
+    outside = λ k o. anew-outside ps a room k o ∙ ⊎-elim
         (λ (z : k < arrayAt a). word k (λ e. omega arith) (λ e. omega arith))
         (λ (z : arrayAt (a + 1) ≤ k). word k (λ e. omega arith) (λ e. omega arith)) o;
-    tag = tag-same;
-    links = λ i b. same i x
-        (λ e _. rw e (ap linkIn cell-here ∙ link-kept (getD ws (cellAt a x) 0) (8 * hopBound + h)))
-        (λ n _. ap linkIn (cell-same i b n));
-    here = slot-here;
-    slots = λ r l b n. slot-same r b n;
-    right = rw tag-same (record {
-      sound = record {
-        hops = λ s l b. same s (cellSlots + x) (λ e _. rw (e, slot-here) hop)
-            (λ n _. rw (slot-same s b n) (right .sound .hops s l b));
-        best = best-right;
-      };
-      first = λ z. slot-same 1 (omega arith) (λ e. omega arith) ∙ right .first z;
-    });
+    tag = tag-kept;
+    links = λ i b. anew-link ps a room i b ∙ link-same i b;
+    here = anew-low ps a room (cellSlots + x) (omega arith) ∙ slot-here;
+    slots = λ r l b n. anew-low ps a room r b ∙ slot-same r b n;
+    right = rw tag-kept (right-ext lv (slotsOf ps a) (bestsOf ps a) (slotsOf (anew ps a) a) (bestsOf (anew ps a) a)
+        (λ s l b. anew-low ps a room s b) (λ i b. anew-best ps a room i b) right-now);
+    settled = anew-settled ps a room;
   }
 
 -- ---- a route in each array of the row 10.1.1

@@ -2,10 +2,11 @@
 -- So the numbers of the C face are read as the replies that they were. Assumes nothing.
 use mathlib.Core.Bool.{Bool, true, false}
 use mathlib.Core.List.{List}
-use Prim.Native.Nat.{ℕ, zero, suc, _-_, _*_, _≤_}
+use Prim.Native.Nat.{ℕ, zero, suc, _-_, _*_, _/_, _≤_}
 use native.Mathlib.Omega.{arith}
 use lib.Dec.{ltb, eqb}
 use Rattle.logic.specs.Cases.{bool}
+use Rattle.sizes.specs.Sizes.{hopBound}
 use Rattle.routes.specs.Route.{Route, route, tooLong, stray, badHop, held}
 use Rattle.routes.specs.Match.{Match, longest}
 use Rattle.routes.specs.Match as best
@@ -15,31 +16,31 @@ use Rattle.routes.specs.Answers.{refuse, faulty, lacking, reloaded, verdict, an
 use Rattle.routes.specs.Seen.{Seen, misfit, foreign, table, answerOn, lookupOn}
 use Rattle.numbers.specs.Front.{byteOf}
 use Rattle.words.specs.Table.{seen}
-use Rattle.words.specs.Words.{arraysOf, arrayCount, bestsOf}
-use Rattle.lookup.specs.Walk.{outside, deeper, turn, walkFrom, walk}
+use Rattle.words.specs.Words.{arraysOf, arrayCount, bestsOf, blocksOf}
+use Rattle.lookup.specs.Walk.{deeper, turn, walkFrom, walk}
 
 -- ---- a lookup
 
 abbrev pub OfLookup : Reply → Type 0
 OfLookup (done h c) = ⊥
-OfLookup (found h l) = Unit {0}
-OfLookup none = Unit {0}
+OfLookup (found h l q) = Unit {0}
+OfLookup (none q) = Unit {0}
 OfLookup (refused n) = 1 ≤ n
 
-best-looks : (m : Match) → OfLookup (matched m)
-best-looks best.none = tt
-best-looks (best.found h l) = tt
+best-looks : (m : Match) (q : ℕ) → OfLookup (matched m q)
+best-looks best.none q = tt
+best-looks (best.found h l) q = tt
 
 refuse-looks : (n : ℕ) (b : Bool) (y : Reply) → 1 ≤ n → OfLookup y → OfLookup (refuse n b y)
 refuse-looks n true y h p = h
 refuse-looks n false y h p = p
 
-turn-looks : (W A base b c : ℕ) (m : Match) (on : ℕ → Match → Reply) → ((c : ℕ) (m : Match) → OfLookup (on c m))
-    → OfLookup (turn W A base b c m on)
-turn-looks W A base b c m on f =
-    refuse-looks 2 (outside W base b) _ (omega arith)
+turn-looks : (A base b q c : ℕ) (m : Match) (on : ℕ → Match → Reply) → ((c : ℕ) (m : Match) → OfLookup (on c m))
+    → OfLookup (turn A base b q c m on)
+turn-looks A base b q c m on f =
+    refuse-looks 2 (ltb 8 (b / hopBound)) _ (omega arith)
     (bool (eqb c 0)
-    (λ e. rw e (best-looks (deeper base m b)))
+    (λ e. rw e (refuse-looks 2 (ltb 8 q) _ (omega arith) (best-looks (deeper base m b) _)))
     (λ e. rw e (refuse-looks 2 (ltb A c) _ (omega arith) (f c (deeper base m b)))))
 
 walk-looks : (L : ℕ) (ws : List ℕ) (x n a : ℕ) (m : Match) → OfLookup (walkFrom L ws x n a m)
@@ -48,7 +49,7 @@ walk-looks L ws x zero a m = omega arith
 walk-looks L ws x (suc n) a m =
     let k = L - suc n in
     let i = byteOf L x k in
-    turn-looks (8 * L) (arrayCount ws) (8 * k) (bestsOf ws a i) (arraysOf ws .link a i) m
+    turn-looks (arrayCount ws) (8 * k) (bestsOf ws a i) (blocksOf ws a i) (arraysOf ws .link a i) m
     (walkFrom L ws x n) (walk-looks L ws x n)
 
 pub lookup-looks : (ws : List ℕ) (a : ℕ) → OfLookup (lookupOn 32 (seen 4 ws) (walk 4 ws a) a)
@@ -57,14 +58,14 @@ lookup-looks ws a = go (seen 4 ws)
     go : (s : Seen) → OfLookup (lookupOn 32 s (walk 4 ws a) a)
     go misfit = omega arith
     go foreign = walk-looks 4 ws a 4 1 best.none
-    go (table A rs) = best-looks (longest 32 a rs)
+    go (table A rs) = best-looks (longest 32 a rs) _
 
 -- ---- an update
 
 abbrev pub OfUpdate : Reply → Type 0
 OfUpdate (done h c) = Unit {0}
-OfUpdate (found h l) = ⊥
-OfUpdate none = ⊥
+OfUpdate (found h l q) = ⊥
+OfUpdate (none q) = ⊥
 OfUpdate (refused n) = 1 ≤ n
 
 refuse-made : (n : ℕ) (b : Bool) (y : Reply) → 1 ≤ n → OfUpdate y → OfUpdate (refuse n b y)

@@ -12,6 +12,7 @@ use lib.ListN.{length, drop}
 use borrow.Author.Tests.{le-ltb}
 use Rattle.routes.specs.Route.{Route}
 use Rattle.routes.specs.Match.{longest}
+use Rattle.routes.specs.Block.{block}
 use Rattle.routes.specs.Answers.{Update, records, Reply, matched}
 use Rattle.routes.specs.Bytes.{repliesBytes, written, AllFit}
 use Rattle.routes.specs.Runs.{Ran, run}
@@ -101,7 +102,8 @@ pub record Called {A : ℕ} {xs ys zs : List Update} (w : Weave xs ys zs)
   -- the words stand for the join, and each call on them then answers by it
   pub list : seen 4 (j .words′) ≡ table A (keptBoth 32 A xs ys)
   pub lookups : (walked : Reply) (a : ℕ)
-      → lookupOn 32 (seen 4 (j .words′)) walked a ≡ matched (longest 32 a (keptBoth 32 A xs ys))
+      → lookupOn 32 (seen 4 (j .words′)) walked a
+      ≡ matched (longest 32 a (keptBoth 32 A xs ys)) (block 32 (keptBoth 32 A xs ys) a)
   pub check : checkOn 32 (seen 4 (j .words′)) ≡ checkOn 32 (table A (keptBoth 32 A xs ys))
   pub count : (room : ℕ) → countOn (seen 4 (j .words′)) room ≡ countOn (table A (keptBoth 32 A xs ys)) room
   pub front : (room : ℕ) → frontOn (seen 4 (j .words′)) room ≡ frontOn (table A (keptBoth 32 A xs ys)) room

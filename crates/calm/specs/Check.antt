@@ -80,6 +80,10 @@ blockB f g i d = leb d 8 && (calmAt f g i d && (eqb d 0 || not (calmAt f g i (d 
 unfoldable pub cellB : (ℕ → ℕ) → (ℕ → ℕ) → (ℕ → ℕ) → ℕ → Bool
 cellB f g b i = not (eqb (g i) 0) || blockB f g i (b i)
 
+-- every cell without a link has its block
+abbrev pub settledB : (ℕ → ℕ) → (ℕ → ℕ) → (ℕ → ℕ) → Bool
+settledB f g b = allB (cellB f g b) 256
+
 reflects-not : {b : Bool} {P : Type 0} → Reflects b P → Reflects (not b) (P → ⊥)
 reflects-not {b} {P} t = record { to = to b refl; from = λ n. from b refl n }
   where
@@ -107,7 +111,7 @@ module _ (f g : ℕ → ℕ) where
       (reflects-and (calm-reflects f g (8 - d) i (omega arith) b)
       (reflects-or (reflects-eq d 0) (reflects-not (calm-reflects f g (8 - (d - 1)) i (omega arith) b)))))
 
-  pub settled-reflects : (b : ℕ → ℕ) → Reflects (allB (cellB f g b) 256) (Settled f g b)
+  pub settled-reflects : (b : ℕ → ℕ) → Reflects (settledB f g b) (Settled f g b)
   unfolding cellB
   settled-reflects b = reflects-all (cellB f g b) (λ i. g i ≡ 0 → Block f g i (b i)) 256 (λ i h.
       reflects-as

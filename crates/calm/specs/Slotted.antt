@@ -50,7 +50,7 @@ slot-range j c jb h = (omega (arith, slot-of j c h, pow-pos (8 - c)), omega (ari
 
 -- ---- slot s of depth d over cell i is taken
 
-module _ (f₀ g₀ f g : ℕ → ℕ) (i d : ℕ) (ib : i < 256) (low : 1 ≤ d) (high : d ≤ 8)
+module _ (f₀ g₀ f g : ℕ → ℕ) (i d : ℕ) (ib : i < 256) (high : d ≤ 8)
     (others : (r : ℕ) → 1 ≤ r → r < 512 → r ≢ (256 + i) / 2 ^ (8 - d) → f r ≡ f₀ r)
     (none : f₀ ((256 + i) / 2 ^ (8 - d)) ≡ 0) (some : 1 ≤ f ((256 + i) / 2 ^ (8 - d)))
     (links : (j : ℕ) → j < 256 → g j ≡ g₀ j) where

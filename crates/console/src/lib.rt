@@ -15,7 +15,7 @@ pub fn show(fd: i32, words: &mut [u32], reply: &mut [u8]) {
         io::write_all(STDOUT_FILENO, b"too long\n");
         return;
     }
-    // No record has a longer line for its length than a lookup, 43 bytes for 5: all lines are under 36,000 bytes.
+    // No record has a longer line for its length than a lookup, 52 bytes for 5: all lines are under 43,000 bytes.
     let mut out = io::large_buffer();
     let k = output(words, &input[..n], reply, &mut out);
     io::write_all(STDOUT_FILENO, &out[..k]);

@@ -58,10 +58,8 @@ fn reply_size(kind: u8) -> usize
     ensures { λ r. ⌜ 0 < r ⌝ }
 {
     match kind {
-        16 => 5,
-        17 => 4,
-        19 => 2,
-        _ => 1,
+        16 | 17 => 5,
+        _ => 2,
     }
 }
 
@@ -110,11 +108,13 @@ fn answer(reply: &[u8], out: &mut [u8], at: usize) -> usize
         return text::field(out, at, b" refused ", byte_at(reply, 1));
     }
     if kind == 18 {
-        return text::word(out, at, b" none");
+        let p = text::word(out, at, b" none");
+        return text::field(out, p, b" block ", byte_at(reply, 1));
     }
     let p = text::field(out, at, b" via ", two_at(reply, 1));
     if kind == 17 {
-        return text::field(out, p, b" length ", byte_at(reply, 3));
+        let q = text::field(out, p, b" length ", byte_at(reply, 3));
+        return text::field(out, q, b" block ", byte_at(reply, 4));
     }
     text::field(out, p, b" cells ", two_at(reply, 3))
 }

@@ -1,5 +1,5 @@
 -- Reply bytes: the stores of each kind of reply are its bytes, and a buffer after bytes were written into it. Assumes nothing.
-use mathlib.Core.Path.{_≡_, refl, ap, _∙_}
+use mathlib.Core.Path.{_≡_, ap, _∙_}
 use mathlib.Core.List.{List, _++_}
 use Prim.Native.Nat.{ℕ, suc, _+_, _%_, _≤_}
 use native.Mathlib.Omega.{arith}
@@ -21,15 +21,19 @@ module _ (b : List ℕ) (at : ℕ) (r : Reply) where
       let j : at + 3 ≡ suc (suc (suc at)) = omega arith in
       rw e (record { place = omega arith; list = rw (q, p, i, j) })
 
-  pub put-found : (h l : ℕ) (b₂ : List ℕ) → r ≡ Found h l → b₂ ≡ sets (set b at 17) (at + 1) (two h)
-      → Wrote b at (replyBytes (saidReply r)) (at + 4) (set b₂ (at + 3) (l % 256))
-  put-found h l b₂ e p =
+  pub put-found : (h l q : ℕ) (b₂ : List ℕ) → r ≡ Found h l q → b₂ ≡ sets (set b at 17) (at + 1) (two h)
+      → Wrote b at (replyBytes (saidReply r)) (at + 5) (set (set b₂ (at + 3) (l % 256)) (at + 4) (q % 256))
+  put-found h l q b₂ e p =
       let i : at + 1 ≡ suc at = omega arith in
       let j : at + 3 ≡ suc (suc (suc at)) = omega arith in
-      rw e (record { place = omega arith; list = rw (p, i, j) })
+      let k : at + 4 ≡ suc (suc (suc (suc at))) = omega arith in
+      rw e (record { place = omega arith; list = rw (p, i, j, k) })
 
-  pub put-nothing : r ≡ Nothing → Wrote b at (replyBytes (saidReply r)) (at + 1) (set b at 18)
-  put-nothing e = rw e (record { place = omega arith; list = refl })
+  pub put-nothing : (q : ℕ) → r ≡ Nothing q
+      → Wrote b at (replyBytes (saidReply r)) (at + 2) (set (set b at 18) (at + 1) (q % 256))
+  put-nothing q e =
+      let i : at + 1 ≡ suc at = omega arith in
+      rw e (record { place = omega arith; list = rw i })
 
   pub put-refused : (n : ℕ) → r ≡ Refused n
       → Wrote b at (replyBytes (saidReply r)) (at + 2) (set (set b at 19) (at + 1) (n % 256))

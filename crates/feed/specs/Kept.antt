@@ -28,8 +28,8 @@ asked-kept (looked r p) e = refl
 
 counted : (y : Reply) (n : ℕ) → count isDone (y ∷ []) + n ≡ 0 → isDone y ≡ false
 counted (done h c) n e = absurd (omega arith)
-counted (found h l) n e = refl
-counted none n e = refl
+counted (found h l q) n e = refl
+counted (none q) n e = refl
 counted (refused m) n e = refl
 
 pub series-kept : {ws vs : List ℕ} {xs : List Record} {ys : List Reply} → Series ws xs ys vs → count isDone ys ≡ 0 → vs ≡ ws

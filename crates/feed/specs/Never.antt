@@ -1,7 +1,7 @@
 -- No run writes the reply "refused 2": a table's list answers no record with it, and the reply bytes of a run can be read as
 -- replies in one way only, as those answers. Assumes nothing.
 --
---     reply   16 h h c c   19 7   17 h h l   18     the kind of a reply says where the next begins
+--     reply   16 h h c c   19 7   17 h h l q   18 q     the kind of a reply says where the next begins
 use mathlib.Core.Path.{_≡_, refl, sym, ap, _∙_}
 use mathlib.Core.Logic.{_≢_}
 use mathlib.Core.Bool.{Bool, true, false}
@@ -33,8 +33,8 @@ use Rattle.feed.specs.declared.Ran.the-variants.{Stopped, Refused}
 -- not "refused 2", nor with another number that has the same byte
 abbrev pub Other : Reply → Type 0
 Other (done h c) = Unit {0}
-Other (found h l) = Unit {0}
-Other none = Unit {0}
+Other (found h l q) = Unit {0}
+Other (none q) = Unit {0}
 Other (refused n) = n % 256 ≢ 2
 
 other-refuse : (n : ℕ) (b : Bool) (r : Reply) → n % 256 ≢ 2 → Other r → Other (refuse n b r)
@@ -54,15 +54,15 @@ other-faulty W (announce a l h) r o =
 other-faulty W (withdraw a l) r o =
     other-refuse 3 (tooLong W l) _ (λ e. omega arith) (other-refuse 4 (stray W a l) r (λ e. omega arith) o)
 
-other-matched : (m : Match) → Other (matched m)
-other-matched match.none = tt
-other-matched (match.found h l) = tt
+other-matched : (m : Match) (q : ℕ) → Other (matched m q)
+other-matched match.none q = tt
+other-matched (match.found h l) q = tt
 
 -- whatever the table, the list and the record
 pub reply-other : (W A : ℕ) (rs : List Route) (x : Record) → Other (reply W A rs x)
 unfolding answer
 reply-other W A rs (update u) = other-faulty W u (verdict W A rs u) (other-verdict W A rs u)
-reply-other W A rs (lookup a) = other-matched (longest W a rs)
+reply-other W A rs (lookup a) = other-matched (longest W a rs) _
 
 pub reply-never : (W A : ℕ) (rs : List Route) (x : Record) → reply W A rs x ≢ refused 2
 reply-never W A rs x e = (rw e at (reply-other W A rs x)) refl
@@ -128,8 +128,8 @@ width bs = replySize (getD bs 0 0)
 
 rest : (y : Reply) (bs : List ℕ) → drop (width (replyBytes y ++ bs)) (replyBytes y ++ bs) ≡ bs
 rest (done h c) bs = refl
-rest (found h l) bs = refl
-rest none bs = refl
+rest (found h l q) bs = refl
+rest (none q) bs = refl
 rest (refused n) bs = refl
 
 -- the first two bytes are not those of "refused 2"
@@ -138,20 +138,20 @@ Begins bs = getD bs 0 0 ≡ 19 → getD bs 1 0 ≢ 2
 
 begins : (y : Reply) (bs : List ℕ) → Other y → Begins (replyBytes y ++ bs)
 begins (done h c) bs o = λ e. absurd (omega arith)
-begins (found h l) bs o = λ e. absurd (omega arith)
-begins none bs o = λ e. absurd (omega arith)
+begins (found h l q) bs o = λ e. absurd (omega arith)
+begins (none q) bs o = λ e. absurd (omega arith)
 begins (refused n) bs o = λ _. o
 
 begun : (y : Reply) (bs : List ℕ) → Begins (replyBytes y ++ bs) → Other y
 begun (done h c) bs b = tt
-begun (found h l) bs b = tt
-begun none bs b = tt
+begun (found h l q) bs b = tt
+begun (none q) bs b = tt
 begun (refused n) bs b = b refl
 
 some : (y : Reply) (bs : List ℕ) → replyBytes y ++ bs ≢ []
 some (done h c) bs e = let z : _≡_ {A = ℕ} 16 0 = ap (λ (xs : List ℕ). getD xs 0 0) e in omega arith
-some (found h l) bs e = let z : _≡_ {A = ℕ} 17 0 = ap (λ (xs : List ℕ). getD xs 0 0) e in omega arith
-some none bs e = let z : _≡_ {A = ℕ} 18 0 = ap (λ (xs : List ℕ). getD xs 0 0) e in omega arith
+some (found h l q) bs e = let z : _≡_ {A = ℕ} 17 0 = ap (λ (xs : List ℕ). getD xs 0 0) e in omega arith
+some (none q) bs e = let z : _≡_ {A = ℕ} 18 0 = ap (λ (xs : List ℕ). getD xs 0 0) e in omega arith
 some (refused n) bs e = let z : _≡_ {A = ℕ} 19 0 = ap (λ (xs : List ℕ). getD xs 0 0) e in omega arith
 
 others-read : (ys zs : List Reply) → Others ys → repliesBytes ys ≡ repliesBytes zs → Others zs

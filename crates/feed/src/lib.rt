@@ -198,8 +198,8 @@ fn accepts(r: Reply) -> usize
 {
     match r {
         Reply::Done(_, _) => 1,
-        Reply::Found(_, _) => 0,
-        Reply::Nothing => 0,
+        Reply::Found(_, _, _) => 0,
+        Reply::Nothing(_) => 0,
         Reply::Refused(_) => 0,
     }
 }
@@ -210,8 +210,8 @@ fn refuses(r: Reply) -> usize
 {
     match r {
         Reply::Done(_, _) => 0,
-        Reply::Found(_, _) => 0,
-        Reply::Nothing => 0,
+        Reply::Found(_, _, _) => 0,
+        Reply::Nothing(_) => 0,
         Reply::Refused(_) => 1,
     }
 }
@@ -228,15 +228,17 @@ fn put(reply: &mut [u8], at: usize, r: Reply) -> usize
             numbers::put_two(reply, at + 3, cells);
             at + 5
         }
-        Reply::Found(hop, length) => {
+        Reply::Found(hop, length, block) => {
             reply[at] = 17;
             numbers::put_two(reply, at + 1, hop);
             reply[at + 3] = (length % 256) as u8;
-            at + 4
+            reply[at + 4] = (block % 256) as u8;
+            at + 5
         }
-        Reply::Nothing => {
+        Reply::Nothing(block) => {
             reply[at] = 18;
-            at + 1
+            reply[at + 1] = (block % 256) as u8;
+            at + 2
         }
         Reply::Refused(n) => {
             reply[at] = 19;

@@ -2,9 +2,9 @@
 use mathlib.Core.Path.{_≡_, sym}
 use mathlib.Core.Logic.{inl, inr}
 use mathlib.Core.List.{List, [], _∷_}
-use Prim.Native.Nat.{ℕ, _-_, _^_, _≤_, _<_}
+use Prim.Native.Nat.{ℕ, _^_, _≤_, _<_}
 use native.Mathlib.Omega.{arith}
-use Rattle.routes.specs.Route.{Route, Wf, IsRoute, IsList}
+use Rattle.routes.specs.Route.{Route, All, Wf, IsRoute, IsList}
 use Rattle.logic.specs.Cases.{most}
 use Rattle.laws.specs.Sorted.{all-map}
 use Rattle.laws.specs.Longest.{Wfs}
@@ -32,9 +32,16 @@ module _ (W a q : ℕ) (small : a < 2 ^ W) (fits : q ≤ W) where
   clear-block [] f c = omega arith
   clear-block (r ∷ rs) f c = omega (arith, aside-reach r (f .0) (c .0), clear-block rs (f .1) (c .1))
 
+-- a route of at most W bits; no block over such a list has more
+abbrev pub Short : ℕ → Route → Type 0
+Short W r = r .len ≤ W
+
+pub short-block : (W a : ℕ) (rs : List Route) → All (Short W) rs → block W rs a ≤ W
+short-block W a [] f = omega arith
+short-block W a (r ∷ rs) f = omega (arith, f .0, short-block W a rs (f .1))
+
 pub block-fits : (W a : ℕ) (rs : List Route) → Wfs W rs → block W rs a ≤ W
-block-fits W a [] f = omega arith
-block-fits W a (r ∷ rs) f = omega (arith, f .0 .fits, block-fits W a rs (f .1))
+block-fits W a rs f = short-block W a rs (all-map (Wf W) (Short W) (λ r x. x .fits) rs f)
 
 pub list-wfs : (W : ℕ) (rs : List Route) → IsList W rs → Wfs W rs
 list-wfs W rs l = all-map (IsRoute W) (Wf W) (λ r x. x .wf) rs (l .routes)

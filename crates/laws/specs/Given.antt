@@ -1,4 +1,4 @@
--- A call gives something or refuses by a number, never both, and what it gives is one thing. Assumes nothing.
+-- A call gives something or refuses with a number, never both, and what it gives is one thing. Assumes nothing.
 use mathlib.Core.Path.{_≡_}
 use Prim.Native.Nat.{ℕ}
 use native.Mathlib.Omega.{arith}

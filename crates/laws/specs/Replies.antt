@@ -1,8 +1,8 @@
 -- Replies read back from their bytes: what a table's list answers fits its bytes, and replies that fit are read back as they
 -- were. Assumes nothing.
 --
---     replies   done 1 4   refused 7   found 2 22   none
---     bytes     16 0 1 0 4   19 7      17 0 2 22    18          the kind of each says where the next begins
+--     replies   done 1 4     refused 7   found 2 22 22   none 8
+--     bytes     16 0 1 0 4   19 7        17 0 2 22 22    18 8      the kind of each says where the next begins
 use mathlib.Core.Path.{_≡_, refl, sym, ap, ap₂, _∙_}
 use mathlib.Core.Bool.{Bool, true, false, true≢false, false≢true}
 use mathlib.Core.List.{List, [], _∷_, _++_, append-assoc}
@@ -16,12 +16,14 @@ use Rattle.routes.specs.Route.{Route, route, All, IsRoute, hopAt, held, tooLong
 use Rattle.routes.specs.Match.{Match, matches, orLonger, longest}
 use Rattle.routes.specs.Match as match
 use Rattle.routes.specs.Answers.{Update, announce, withdraw, Record, update, lookup, Reply, done, found, none, refused}
+use Rattle.routes.specs.Block.{block}
 use Rattle.routes.specs.Answers.{refuse, lacking, reloaded, answer, isDone, matched, reply, next, replies}
 use Rattle.routes.specs.Bytes.{replyBytes, repliesBytes, ReplyFits, RepliesFit, replySize, repliesAt}
 use Rattle.logic.specs.Cases.{bool}
 use Rattle.laws.specs.Sorted.{all-insert, all-remove, all-map}
 use Rattle.laws.specs.Cells.{cells-most}
 use Rattle.laws.specs.Encoded.{reply-back}
+use Rattle.laws.specs.Block.{Short, short-block}
 
 -- ---- replies that fit are read back
 
@@ -34,8 +36,8 @@ size-back pre y ys =
   where
     go : (y : Reply) → replySize (getD (replyBytes y ++ ys) 0 0) ≡ length (replyBytes y)
     go (done h c) = refl
-    go (found h l) = refl
-    go none = refl
+    go (found h l q) = refl
+    go (none q) = refl
     go (refused n) = refl
 
 -- wherever they stand, and whatever follows them
@@ -70,16 +72,18 @@ module _ (W : ℕ) (w : W < 256) where
   held-low [] k p = omega arith
   held-low (r ∷ rs) k p = bool (eqb (r .addr * 256 + r .len) k) (λ e. rw e (p .0 .hop)) (λ e. rw e (held-low rs k (p .1)))
 
-  longer-fits : (r : Route) (m : Match) → Low W r → ReplyFits (matched m) → ReplyFits (matched (orLonger r m))
-  longer-fits r match.none p f = (omega (arith, p .hop), omega (arith, p .len, w))
-  longer-fits r (match.found h l) p f =
-      bool (ltb (r .len) l) (λ e. rw e f) (λ e. rw e (omega (arith, p .hop), omega (arith, p .len, w)))
+  module _ (q : ℕ) (b : q ≤ W) where
+    longer-fits : (r : Route) (m : Match) → Low W r → ReplyFits (matched m q) → ReplyFits (matched (orLonger r m) q)
+    longer-fits r match.none p f = (omega (arith, p .hop), omega (arith, p .len, w), omega (arith, b, w))
+    longer-fits r (match.found h l) p f =
+        bool (ltb (r .len) l) (λ e. rw e f)
+        (λ e. rw e (omega (arith, p .hop), omega (arith, p .len, w), omega (arith, b, w)))
 
-  match-fits : (a : ℕ) (rs : List Route) → All (Low W) rs → ReplyFits (matched (longest W a rs))
-  match-fits a [] p = tt
-  match-fits a (r ∷ rs) p =
-      let f = match-fits a rs (p .1) in
-      bool (matches W a r) (λ e. rw e (longer-fits r (longest W a rs) (p .0) f)) (λ e. rw e f)
+    match-fits : (a : ℕ) (rs : List Route) → All (Low W) rs → ReplyFits (matched (longest W a rs) q)
+    match-fits a [] p = omega (arith, b, w)
+    match-fits a (r ∷ rs) p =
+        let f = match-fits a rs (p .1) in
+        bool (matches W a r) (λ e. rw e (longer-fits r (longest W a rs) (p .0) f)) (λ e. rw e f)
 
   refuse-fits : (n : ℕ) (b : Bool) (y : Reply) → n < 256 → (b ≡ false → ReplyFits y) → ReplyFits (refuse n b y)
   refuse-fits n true y h f = h
@@ -108,7 +112,8 @@ module _ (W : ℕ) (w : W < 256) where
 
   reply-fits : (A : ℕ) (rs : List Route) (x : Record) → All (Low W) rs → ReplyFits (reply W A rs x)
   reply-fits A rs (update u) p = answer-fits A rs u p
-  reply-fits A rs (lookup a) p = match-fits a rs p
+  reply-fits A rs (lookup a) p =
+      match-fits (block W rs a) (short-block W a rs (all-map (Low W) (Short W) (λ r i. i .len) rs p)) a rs p
 
   -- ---- whatever the record, such a list stays one
 

@@ -8,8 +8,8 @@ use native.Mathlib.Omega.{arith}
 use lib.ListN.{length, getD}
 use borrow.Author.Tests.{lt-ltb, le-ltb, eq-eqb, ne-eqb}
 use Rattle.routes.specs.Route.{Route, IsList}
-use Rattle.routes.specs.Match.{longest}
-use Rattle.routes.specs.Answers.{Reply, refused, matched}
+use Rattle.routes.specs.Match.{Match, longest}
+use Rattle.routes.specs.Seen.{Answer, gives, refuses}
 use Rattle.lengths.specs.Way.{Look, miss, hit, outside, after, search}
 use Rattle.lengths.specs.Layout.{headerWords, badBest, look, answered, walk}
 use Rattle.lengths.specs.Laid.{Laid, laid-walk}
@@ -53,21 +53,22 @@ module _ (f : ℕ → Look) (m best : ℕ) where
 
 -- ---- the answer
 
-pub walk-short : (ws : List ℕ) (a : ℕ) → length ws < headerWords → refused 2 ≡ walk ws a
+pub walk-short : (ws : List ℕ) (a : ℕ) → length ws < headerWords → refuses 2 ≡ walk ws a
 unfolding walk
 walk-short ws a h = rw (lt-ltb (length ws) headerWords h)
 
 pub walk-strange : (ws : List ℕ) (a : ℕ) (r : Bool) → headerWords ≤ length ws → r ≡ badBest 0 (getD ws 0 0) → r ≡ true
-    → refused 2 ≡ walk ws a
+    → refuses 2 ≡ walk ws a
 unfolding walk
 walk-strange ws a r h e q = rw (le-ltb (length ws) headerWords h, sym e ∙ q)
 
-pub walk-search : (ws : List ℕ) (a : ℕ) (r : Bool) (y : Reply) → headerWords ≤ length ws → r ≡ badBest 0 (getD ws 0 0) → r ≡ false
+pub walk-search : (ws : List ℕ) (a : ℕ) (r : Bool) (y : Answer Match) → headerWords ≤ length ws
+    → r ≡ badBest 0 (getD ws 0 0) → r ≡ false
     → y ≡ answered (search (looks ws a) 4 16 (getD ws 0 0)) → y ≡ walk ws a
 unfolding walk
 walk-search ws a r y h e q s = s ∙ rw (le-ltb (length ws) headerWords h, sym e ∙ q)
 
 -- on a list laid out the walk gives the longest match, so what the walk gives does
-pub of-list : (ws : List ℕ) (a : ℕ) (y : Reply) → a < 4294967296 → y ≡ walk ws a → (rs : List Route) → IsList 32 rs → Laid rs ws
-    → y ≡ matched (longest 32 a rs)
+pub of-list : (ws : List ℕ) (a : ℕ) (y : Answer Match) → a < 4294967296 → y ≡ walk ws a → (rs : List Route) → IsList 32 rs
+    → Laid rs ws → y ≡ gives (longest 32 a rs)
 of-list ws a y h e rs l c = e ∙ laid-walk rs ws l c a h

@@ -9,7 +9,7 @@ use borrow.Author.Tests.{le-ltb, le-leb, lt-leb, ne-eqb}
 use Rattle.routes.specs.Route.{Route, key, All, hopAt, IsRoute, IsList}
 use Rattle.routes.specs.Match.{Match, none, found, longest, orShorter, last}
 use Rattle.routes.specs.Room.{mem}
-use Rattle.routes.specs.Answers.{matched}
+use Rattle.routes.specs.Seen.{gives}
 use Rattle.logic.specs.Cases.{same}
 use Rattle.laws.specs.Longest.{along, longest-last, wfs}
 use Rattle.lengths.specs.Way.{miss, hit, search, code, best}
@@ -71,7 +71,7 @@ pub best-fine : (rs : List Route) (m v : ℕ) → m ≤ 32 → All (IsRoute 32) 
 best-fine rs m v h p = code-fine m (last (λ l. heldAt rs l (v / 2 ^ (m - l))) m) h
     (last-low (λ l. heldAt rs l (v / 2 ^ (m - l))) m (λ l. hop-low rs _ p))
 
-code-back : (x : Match) → Low 32 x → answered (hit (code x)) ≡ matched x
+code-back : (x : Match) → Low 32 x → answered (hit (code x)) ≡ gives x
 code-back none w = refl
 code-back (found h l) w =
     let a : (h * 256 + l) / 256 ≡ h = omega arith in
@@ -95,7 +95,7 @@ module _ (rs : List Route) (ws : List ℕ) (l : IsList 32 rs) (c : Laid rs ws) (
   longest-low = rw (longest-last 32 a (omega arith) rs (wfs 32 rs (l .routes)))
       (last-low (along 32 a (omega arith) rs) 32 (λ k. hop-low rs _ (l .routes)))
 
-  pub laid-walk : walk ws a ≡ matched (longest 32 a rs)
+  pub laid-walk : walk ws a ≡ gives (longest 32 a rs)
   unfolding walk
   laid-walk =
       let z : a / 4294967296 ≡ 0 = omega arith in

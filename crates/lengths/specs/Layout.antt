@@ -11,7 +11,8 @@ use mathlib.Core.List.{List}
 use Prim.Native.Nat.{ℕ, zero, suc, _+_, _-_, _*_, _/_, _%_, _^_}
 use lib.ListN.{length, getD}
 use lib.Dec.{ltb, leb, eqb}
-use Rattle.routes.specs.Answers.{Reply, found, none, refused}
+use Rattle.routes.specs.Match.{Match, none, found}
+use Rattle.routes.specs.Seen.{Answer, gives, refuses}
 use Rattle.lengths.specs.Way.{Look, miss, hit, outside, after, search}
 
 -- the words of the header
@@ -89,13 +90,13 @@ inside ws m = leb (beginOf ws m + 8 * sizeOf ws m) (length ws)
 unfoldable pub look : List ℕ → ℕ → ℕ → Look
 look ws m v = cond (inside ws m) (find (placesOf ws (beginOf ws m)) m (2 * sizeOf ws m) v) outside
 
-abbrev pub answered : Look → Reply
-answered miss = none
-answered (hit b) = cond (eqb b 0) none (found (b / 256) (b % 256))
-answered outside = refused 2
+abbrev pub answered : Look → Answer Match
+answered miss = gives none
+answered (hit b) = cond (eqb b 0) (gives none) (gives (found (b / 256) (b % 256)))
+answered outside = refuses 2
 
 -- the default's place first, then the search; words that have no room for the header are refused
-unfoldable pub walk : List ℕ → ℕ → Reply
+unfoldable pub walk : List ℕ → ℕ → Answer Match
 walk ws a =
-    cond (ltb (length ws) headerWords) (refused 2)
+    cond (ltb (length ws) headerWords) (refuses 2)
     (answered (after (ranged 0 (getD ws 0 0)) miss (λ d. search (λ m. look ws m (a / 2 ^ (32 - m))) 4 16 d)))

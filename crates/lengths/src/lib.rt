@@ -6,7 +6,7 @@ ghost use lib.ListN.{length};
 ghost use mathlib.Core.List.{List};
 ghost use Rattle.routes.specs.Route.{Route, IsList};
 ghost use Rattle.routes.specs.Match.{longest};
-ghost use Rattle.routes.specs.Answers.{matched};
+ghost use Rattle.routes.specs.Seen.{gives};
 ghost use Rattle.lengths.specs.Way.{after, hit, search};
 ghost use Rattle.lengths.specs.Layout.{headerWords, wide as wideAt, badBest, ranged as rangedBest, placesOf};
 ghost use Rattle.lengths.specs.Layout.{start as startOf, place as placeOf, find, look, answered, walk};
@@ -202,7 +202,7 @@ fn answer(found: Look) -> Match
 pub fn lookup(words: &[u32], address: u32) -> Match
     ensures { λ r. ⌜ saidMatch r ≡ walk (now (words .entry)) address ⌝ }
     ensures of_a_list { λ r. ⌜ ((rs : List Route) → IsList 32 rs → Laid rs (now (words .entry))
-        → saidMatch r ≡ matched (longest 32 address rs)) ⌝ }
+        → saidMatch r ≡ gives (longest 32 address rs)) ⌝ }
 {
     if words.len() < HEADER_WORDS {
         return Match::Refused(2);

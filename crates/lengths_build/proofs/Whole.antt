@@ -158,13 +158,13 @@ not-listed : (L : Listed) (k : ℕ) → refuses k ≡ needOn L → L ≡ unliste
 not-listed unlisted k e = refl
 not-listed (listed rs) k e = apart (sym e)
 
--- refused by 2
+-- refused with 2
 pub build-unlisted : (bs ws : List ℕ) (k : ℕ) → refuses k ≡ needOn (listedIn bs)
     → (refuses 2 ≡ buildOn (listedIn bs) (length ws)) × LeavesOn (listedIn bs) ws ws
 build-unlisted bs ws k e = rw (not-listed (listedIn bs) k e) (refl, refl)
 
 module _ (bs ws : List ℕ) (n : ℕ) (g : Given bs n) where
-  -- refused by 9
+  -- refused with 9
   pub build-short : length ws < n → (refuses 9 ≡ buildOn (listedIn bs) (length ws)) × LeavesOn (listedIn bs) ws ws
   build-short h =
       rw (g .is, lt-ltb (length ws) (wordsFor (listOf bs)) (omega (arith, g .words))) (

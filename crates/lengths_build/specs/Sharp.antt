@@ -5,9 +5,8 @@ use mathlib.Core.List.{List}
 use Prim.Native.Nat.{ℕ, _≤_, _<_}
 use lib.ListN.{length, getD}
 use Rattle.routes.specs.Route.{Route, IsList}
-use Rattle.routes.specs.Match.{longest}
-use Rattle.routes.specs.Answers.{Reply, matched}
-use Rattle.routes.specs.Seen.{Answer}
+use Rattle.routes.specs.Match.{Match, longest}
+use Rattle.routes.specs.Seen.{Answer, gives}
 use Rattle.logic.specs.Cases.{less}
 use Rattle.lengths.specs.Marks.{wordsFor}
 use Rattle.listing.specs.Listed.{listed, listedIn}
@@ -30,7 +29,7 @@ pub build-sharp : (bs ws : List ℕ) (x y : Answer Counts) → x ≡ buildOn (li
 build-sharp bs ws x y p q = p ∙ sym q
 
 -- lookup: one answer, on any words
-pub lookup-sharp : (ws : List ℕ) (a : ℕ) (x y : Reply) → x ≡ walk ws a → y ≡ walk ws a → x ≡ y
+pub lookup-sharp : (ws : List ℕ) (a : ℕ) (x y : Answer Match) → x ≡ walk ws a → y ≡ walk ws a → x ≡ y
 lookup-sharp ws a x y p q = p ∙ sym q
 
 -- ---- words
@@ -65,7 +64,7 @@ words-sharp bs ws us vs rs b e p q = leaves-alike rs ws us vs (listed-out bs b r
 pub built-answers : (bs ws us xs : List ℕ) (rs : List Route) → Bytes bs → listedIn bs ≡ listed rs → wordsFor rs ≤ length ws
     → LeavesOn (listedIn bs) ws us
     → wordsFor rs ≤ length xs → ((i : ℕ) → i < wordsFor rs → getD xs i 0 ≡ getD us i 0) → (a : ℕ) → a < 4294967296
-    → walk xs a ≡ matched (longest 32 a rs)
+    → walk xs a ≡ gives (longest 32 a rs)
 built-answers bs ws us xs rs b e h p k s a l =
     let c : Leaves rs ws us = rw e at p in
     laid-walk rs xs (listed-out bs b rs e .list) (laid-front rs us xs k s (c .laid h)) a l

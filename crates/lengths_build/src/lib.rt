@@ -19,7 +19,7 @@ ghost use Rattle.lengths_build.specs.Build.{LeavesOn, Bests, Cleared, He
 ghost use Rattle.lengths_build.specs.Answer.{needOn, buildOn, needAnswer, buildAnswer};
 ghost use Rattle.lengths_build.specs.Reach.{stride as strideOf, reach as reachOf};
 
-// The words that a list needs, or the number by which the bytes are refused.
+// The words that a list needs, or the number with which the bytes are refused.
 pub enum Needs {
     Words(usize),
     Refused(u32),

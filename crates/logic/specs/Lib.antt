@@ -2,3 +2,4 @@ pub mod Every
 pub mod Cases
 pub mod Bools
 pub mod Reflects
+pub mod Ors

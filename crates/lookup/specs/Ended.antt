@@ -1,17 +1,26 @@
--- The number that the walking loop ends with, and the reply that it stands for. Assumes nothing.
+-- What the walking loop ends with, and the reply that it stands for. Assumes nothing.
+--
+--     best     whole length * 65536 + hop of the last best, 0 for none
+--     block    of the address; a number over 128 stands for a refusal, with as much as it is over that
 use mathlib.Core.Path.{_≡_}
+use mathlib.Core.Bool.{cond}
 use mathlib.Core.List.{List}
-use Prim.Native.Nat.{ℕ, _*_}
-use Rattle.routes.specs.Route.{tooLong}
-use Rattle.routes.specs.Match.{none}
-use Rattle.routes.specs.Answers.{Reply, refuse, matched}
-use Rattle.lookup.specs.Walk.{lengthOf, deeper, walk}
+use Prim.Native.Nat.{ℕ, _+_, _-_, _/_}
+use lib.Dec.{ltb}
+use Rattle.sizes.specs.Sizes.{hopBound}
+use Rattle.routes.specs.Match.{Match, none}
+use Rattle.routes.specs.Answers.{Reply, refused, refuse, matched}
+use Rattle.lookup.specs.Walk.{deeper, walk}
+use Rattle.lookup.specs.declared.End.{End}
 
--- what the number stands for that a walk ends with, where a match has at most W bits: the last best, with its whole length; one
--- that is too long where it was refused
-abbrev pub ended : ℕ → ℕ → Reply
-ended W b = refuse 2 (tooLong W (lengthOf 0 b)) (matched (deeper 0 none b))
+-- no address has more than 128 bits
+abbrev pub ended : End → Reply
+ended e = cond (ltb 128 (e .block)) (refused (e .block - 128)) (matched (deeper 0 none (e .best)) (e .block))
+
+-- at a cell without a link in an array below `base` bits, with the best b and the block q
+abbrev pub endsIn : ℕ → ℕ → ℕ → Match → Reply
+endsIn base b q m = refuse 2 (ltb 8 (b / hopBound)) (refuse 2 (ltb 8 q) (matched (deeper base m b) (base + q)))
 
 -- it is what the walk of an address x of L bytes ends with
-abbrev pub Walks : ℕ → List ℕ → ℕ → ℕ → Type 0
-Walks L ws x b = ended (8 * L) b ≡ walk L ws x
+abbrev pub Walks : ℕ → List ℕ → ℕ → End → Type 0
+Walks L ws x e = ended e ≡ walk L ws x

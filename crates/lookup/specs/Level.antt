@@ -5,24 +5,22 @@ use mathlib.Core.Bool.{false, cond}
 use Prim.Native.Nat.{ℕ, zero, suc, _+_, _*_, _/_, _%_, _^_, _≤_, _<_}
 use native.Mathlib.Nat.{pow-succ'}
 use native.Mathlib.Omega.{arith}
-use lib.Dec.{eqb}
+use lib.Dec.{ltb, eqb}
 use lib.Pow.{pow-pos}
 use borrow.Author.Tests.{ne-eqb, le-ltb}
-use Rattle.sizes.specs.Sizes.{slotEnd, hopBound}
+use Rattle.sizes.specs.Sizes.{slotEnd, cellCount, cellSlots, hopBound}
 use Rattle.routes.specs.Match.{Match, none, orShorter, last}
-use Rattle.logic.specs.Cases.{same}
 use Rattle.array.specs.Page.{bestOf}
 use Rattle.array.specs.Best.{best-parts, halved}
-use Rattle.lookup.specs.Walk.{hopOf, lengthOf, outside, deeper}
+use Rattle.lookup.specs.Walk.{deeper}
 
--- ---- a best is in its range
+-- ---- the length of a cell's best is in its range
 
-pub best-inside : (W : ℕ) (f : ℕ → ℕ) (base d s : ℕ) → ((s : ℕ) → 1 ≤ s → s < slotEnd → f s < hopBound) → 2 ^ d ≤ s → s < slotEnd
-    → base + d ≤ W
-    → outside W base (bestOf f s d) ≡ false
-best-inside W f base d s hops h b w =
-    let l : lengthOf base (bestOf f s d) ≤ W = omega (arith, best-parts f hops s d h b) in
-    same (hopOf (bestOf f s d)) 0 (λ q e. rw e) (λ n e. rw (e, le-ltb W (lengthOf base (bestOf f s d)) l))
+pub best-inside : (f : ℕ → ℕ) → ((s : ℕ) → 1 ≤ s → s < slotEnd → f s < hopBound) → (i : ℕ) → i < cellCount
+    → ltb 8 (bestOf f (cellSlots + i) 8 / hopBound) ≡ false
+best-inside f hops i b =
+    let h = best-parts f hops (cellSlots + i) 8 (omega arith) (omega arith) in
+    le-ltb 8 (bestOf f (cellSlots + i) 8 / hopBound) (omega (arith, h))
 
 -- ---- the lengths of one array
 

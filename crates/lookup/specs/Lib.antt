@@ -4,3 +4,4 @@ pub mod Path
 pub mod Tied
 pub mod Level
 pub mod Longest
+pub mod Ranges

@@ -1,30 +1,34 @@
--- On a table the layout's walk gives the longest match over the list. Assumes nothing.
+-- On a table the layout's walk gives the longest match over the list, and the block of the address. Assumes nothing.
 --
 --     lengths    0 .. 8    9 .. 16    17 .. 24    25 .. 32     each run of lengths is one array of the path, and the best of
 --     arrays     root ──▶  array ──▶  array ──▶   array        its cell the last hop of the run; where the path ends, nothing
 --                                                              is held below
-use mathlib.Core.Path.{_≡_, sym, ap, _∙_}
+use mathlib.Core.Path.{_≡_, sym, ap, ap₂, _∙_}
 use mathlib.Core.Logic.{⊎-elim}
 use mathlib.Core.Bool.{false}
 use mathlib.Core.List.{List}
 use Prim.Native.Nat.{ℕ, zero, suc, _+_, _-_, _*_, _/_, _%_, _^_, _≤_, _<_}
 use native.Mathlib.Omega.{arith}
+use lib.Dec.{ltb}
 use borrow.Author.Tests.{eq-eqb, ne-eqb, le-ltb}
-use Rattle.sizes.specs.Sizes.{cellSlots, levelBound}
-use Rattle.routes.specs.Match.{longest, last}
-use Rattle.routes.specs.Answers.{matched}
+use Rattle.sizes.specs.Sizes.{cellSlots, hopBound, levelBound}
+use Rattle.routes.specs.Match.{Match, longest, last}
+use Rattle.routes.specs.Block.{block}
+use Rattle.routes.specs.Answers.{Reply, matched}
 use Rattle.laws.specs.Longest.{longest-walk, last-past}
 use Rattle.numbers.specs.Front.{front, byteOf}
+use Rattle.calm.specs.Calm.{Block}
 use Rattle.array.specs.Right.{Right}
 use Rattle.tree.specs.Arrays.{Arrays, at, node, held}
 use Rattle.tree.specs.Shape.{Child}
 use Rattle.tree.specs.Tree.{Level, node-level}
-use Rattle.words.specs.Words.{arraysOf, arrayCount, slotsOf, bestsOf}
-use Rattle.words.specs.Table.{listOf, seen}
+use Rattle.words.specs.Words.{arraysOf, arrayCount, slotsOf, bestsOf, blocksOf}
+use Rattle.words.specs.Table.{listOf}
 use Rattle.words.specs.TableBut.{Table}
 use Rattle.words.specs.View.{seen-cases}
-use Rattle.lookup.specs.Walk.{outside, deeper, walkFrom, walk, walked, lookedUp}
+use Rattle.lookup.specs.Walk.{deeper, walkFrom, walk, walked, lookedUp}
 use Rattle.lookup.specs.Path.{along-slot, below-cell, nothing-longer}
+use Rattle.lookup.specs.Tied.{block-at}
 use Rattle.lookup.specs.Level.{best-inside, level-last, level-first, upTo}
 
 -- length 0 is held in the array of level 0
@@ -39,6 +43,10 @@ module _ (L : ℕ) (ws : List ℕ) (o : Table L ws) (x : ℕ) (small : x < 2 ^ (
   -- the hop held for the first l bits
   abbrev along : ℕ → ℕ
   along l = held t (x / 2 ^ (8 * L - l)) l
+
+  -- what the walk is to give
+  abbrev given : Reply
+  given = matched (last along (8 * L)) (block (8 * L) (listOf L ws) x)
 
   -- ---- level k, n levels above the last: its array, and the cell of the address there
   module _ (k n : ℕ) (p : k + suc n ≡ L) where
@@ -56,11 +64,8 @@ module _ (L : ℕ) (ws : List ℕ) (o : Table L ws) (x : ℕ) (small : x < 2 ^ (
       right = rw (level .level) at (o .right a there (level .within) (omega (arith, level .level)))
 
       -- the best of the cell is in its range, and is the longest match down to this level
-      inside : outside (8 * L) (8 * k) (bestsOf ws a i) ≡ false
-      inside =
-          rw (right .sound .best i (omega arith))
-          (best-inside (8 * L) (slotsOf ws a) (8 * k) 8 (cellSlots + i) (right .sound .hops) (omega arith)
-          (omega arith) (omega arith))
+      inside : ltb 8 (bestsOf ws a i / hopBound) ≡ false
+      inside = rw (right .sound .best i (omega arith)) (best-inside (slotsOf ws a) (right .sound .hops) i (omega arith))
 
       down-to : deeper (8 * k) (upTo along k) (bestsOf ws a i) ≡ last along (8 * suc k)
       down-to =
@@ -85,31 +90,39 @@ module _ (L : ℕ) (ws : List ℕ) (o : Table L ws) (x : ℕ) (small : x < 2 ^ (
           sym (last-past along (8 * suc k) (8 * L) (omega arith)
           (nothing-longer L t x k (omega arith) there (arrayCount ws) (o .shape) small z))
 
+      -- the cell where the path ends has its block
+      ends-block : t .link a i ≡ 0 → Block (slotsOf ws a) (t .link a) i (blocksOf ws a i)
+      ends-block z = o .settled a there (level .within) (omega (arith, level .level)) i (omega arith) z
+
       -- one turn of the walk: it ends here, or goes on at the array below
-      turns : (suc k < L → 1 ≤ next → walkFrom L ws x n next (last along (8 * suc k)) ≡ matched (last along (8 * L)))
-          → walkFrom L ws x (suc n) a (upTo along k) ≡ matched (last along (8 * L))
+      turns : (suc k < L → 1 ≤ next → walkFrom L ws x n next (last along (8 * suc k)) ≡ given)
+          → walkFrom L ws x (suc n) a (upTo along k) ≡ given
       unfolding walkFrom
       turns on =
           let e : L - suc n ≡ k = omega arith in
           let c = t .link a i in
           ⊎-elim
-          (λ (z : c ≡ 0). rw (e, inside, eq-eqb c 0 z, down-to) (ap matched (ends z)))
+          (λ (z : c ≡ 0).
+          let q = ends-block z in
+          rw (e, inside, eq-eqb c 0 z, le-ltb 8 (blocksOf ws a i) (q .fits), down-to)
+          (ap₂ matched (ends z) (sym (block-at L ws o x small k n p there (blocksOf ws a i) q))))
           (λ (h : Child (arrayCount ws) L t a i c).
           rw (e, inside, ne-eqb c 0 (λ z. omega (arith, h .some)), le-ltb (arrayCount ws) c (h .within), down-to, ← below)
           (on (omega (arith, h .deep, level .level)) (rw below (h .some))))
           (o .shape .links a i there (level .within) (omega arith))
 
   onward : (n k : ℕ) → k + suc n ≡ L → 1 ≤ node t (front L x k) k
-      → walkFrom L ws x (suc n) (node t (front L x k) k) (upTo along k) ≡ matched (last along (8 * L))
+      → walkFrom L ws x (suc n) (node t (front L x k) k) (upTo along k) ≡ given
   onward zero k p there = turns k zero p there (λ h b. absurd (omega arith))
   onward (suc n) k p there = turns k (suc n) p there (λ h b. onward n (suc k) (omega arith) b)
 
-  walk-longest : walk L ws x ≡ matched (longest (8 * L) x (listOf L ws))
+  walk-longest : walk L ws x ≡ matched (longest (8 * L) x (listOf L ws)) (block (8 * L) (listOf L ws) x)
   unfolding node
   walk-longest =
       let e : suc (L - 1) ≡ L = omega (arith, o .shape .some-level) in
       (rw e at (onward (L - 1) 0 (omega (arith, o .shape .some-level)) (omega arith)))
-      ∙ ap matched (sym (longest-walk (8 * L) (held t) x (omega (arith, o .shape .levels)) small))
+      ∙ ap (λ (m : Match). matched m (block (8 * L) (listOf L ws) x))
+      (sym (longest-walk (8 * L) (held t) x (omega (arith, o .shape .levels)) small))
 
 -- ---- on any words: by what they are seen to be
 

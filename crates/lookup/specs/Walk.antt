@@ -1,20 +1,19 @@
 -- The layout's walk: what a lookup gives on any words of a right size. It goes from the root down, reads one cell an array, a
--- word with its best and its link, and keeps the last best that it met. Assumes nothing.
+-- word with its best and its link or its block, and keeps the last best that it met. Assumes nothing.
 --
---     10.1.5.9    array 1, cell 10       array 3, cell 1        array 2, cell 5                    (hop / in-array length)
---                 best 1/8, link 3 ──▶   best 0, link 2 ──▶     best 2/6, link 0      found 2 22
-use mathlib.Core.Bool.{Bool, false, cond}
+--     10.1.5.9    array 1, cell 10       array 3, cell 1        array 2, cell 5                        (hop / in-array length)
+--                 best 1/8, link 3 ──▶   best 0, link 2 ──▶     best 2/6, block 6      found 2 22 22
+use mathlib.Core.Bool.{cond}
 use mathlib.Core.List.{List}
 use Prim.Native.Nat.{ℕ, zero, suc, _+_, _-_, _*_, _/_, _%_}
 use lib.Dec.{ltb, eqb}
 use lib.ListN.{length}
 use Rattle.sizes.specs.Sizes.{hopBound}
-use Rattle.routes.specs.Route.{tooLong}
 use Rattle.routes.specs.Match.{Match, none, found}
 use Rattle.routes.specs.Seen.{misfits, lookupOn}
 use Rattle.routes.specs.Answers.{Reply, refused, refuse, matched}
 use Rattle.numbers.specs.Front.{byteOf}
-use Rattle.words.specs.Words.{arraysOf, arrayCount, bestsOf}
+use Rattle.words.specs.Words.{arraysOf, arrayCount, bestsOf, blocksOf}
 use Rattle.words.specs.Table.{seen}
 
 -- a best in an array below `base` bits: its hop, 0 for none, and its length
@@ -24,19 +23,16 @@ hopOf b = b % hopBound
 abbrev pub lengthOf : ℕ → ℕ → ℕ
 lengthOf base b = base + b / hopBound
 
--- a length out of its range
-abbrev pub outside : ℕ → ℕ → ℕ → Bool
-outside W base b = cond (eqb (hopOf b) 0) false (tooLong W (lengthOf base b))
-
 -- the best of a cell, where it has one, comes before what was found above it
 abbrev pub deeper : ℕ → Match → ℕ → Match
 deeper base m b = cond (eqb (hopOf b) 0) m (found (hopOf b) (lengthOf base b))
 
--- a cell with the best b and the array c below it, in words of A arrays: the walk ends here, or goes on
+-- a cell with the best b, the block q and the array c below it, in an array below `base` bits and words of A arrays, with m found
+-- above: the walk ends here, or goes on. In-array lengths and blocks have at most 8 bits
 abbrev pub turn : ℕ → ℕ → ℕ → ℕ → ℕ → Match → (ℕ → Match → Reply) → Reply
-turn W A base b c m on =
-    refuse 2 (outside W base b)
-    (cond (eqb c 0) (matched (deeper base m b))
+turn A base b q c m on =
+    refuse 2 (ltb 8 (b / hopBound))
+    (cond (eqb c 0) (refuse 2 (ltb 8 q) (matched (deeper base m b) (base + q)))
     (refuse 2 (ltb A c)
     (on c (deeper base m b))))
 
@@ -46,7 +42,7 @@ walkFrom L ws x zero a m = refused 2
 walkFrom L ws x (suc n) a m =
     let k = L - suc n in
     let i = byteOf L x k in
-    turn (8 * L) (arrayCount ws) (8 * k) (bestsOf ws a i) (arraysOf ws .link a i) m (walkFrom L ws x n)
+    turn (arrayCount ws) (8 * k) (bestsOf ws a i) (blocksOf ws a i) (arraysOf ws .link a i) m (walkFrom L ws x n)
 
 -- L levels, from the root
 abbrev pub walk : ℕ → List ℕ → ℕ → Reply

@@ -77,8 +77,8 @@ plain-count p h (y ∷ ys) = ap₂ (λ (b : Bool) (n : ℕ). cond b 1 0 + n) (h 
 
 plain-refused : (y : Reply) → isRefused (plain y) ≡ isRefused y
 plain-refused (done h c) = refl
-plain-refused (found h l) = refl
-plain-refused none = refl
+plain-refused (found h l q) = refl
+plain-refused (none q) = refl
 plain-refused (refused n) = refl
 
 -- each reply is to a record of one of the feeds

@@ -12,9 +12,10 @@ use lib.Dec.{eqb}
 use lib.ListN.{length}
 use Rattle.routes.specs.Route.{Route, route, tooLong, stray, From, hopAt, insert}
 use Rattle.routes.specs.Match.{longest}
+use Rattle.routes.specs.Block.{block}
 use Rattle.routes.specs.Room.{need}
-use Rattle.routes.specs.Answers.{Update, announce, withdraw, records, Reply, done, found, none, refused, replies, leaves}
-use Rattle.routes.specs.Answers.{isDone, isRefused, count}
+use Rattle.routes.specs.Answers.{Update, announce, withdraw, records, Reply, done, found, none, refused, matched, replies}
+use Rattle.routes.specs.Answers.{leaves, isDone, isRefused, count}
 use Rattle.routes.specs.Bytes.{recordsBytes, repliesBytes, repliesAt, written}
 use Rattle.routes.specs.Runs.{Ran}
 
@@ -69,8 +70,8 @@ named W (u ∷ us) = cond (proper W (prefix u)) (prefix u ∷ named W us) (named
 -- numbers of cells excepted
 abbrev pub plain : Reply → Reply
 plain (done h c) = done h 0
-plain (found h l) = found h l
-plain none = none
+plain (found h l q) = found h l q
+plain (none q) = none q
 plain (refused n) = refused n
 
 abbrev pub plains : List Reply → List Reply
@@ -111,7 +112,8 @@ pub record Independent (W A : ℕ) {xs ys zs : List Update} (w : Weave xs ys zs)
   pub joined : kept W A zs ≡ keptBoth W A xs ys
   pub union : Union (kept W A xs) (kept W A ys) (keptBoth W A xs ys)
   -- so it answers and writes itself out accordingly
-  pub lookups : (a : ℕ) → longest W a (kept W A zs) ≡ longest W a (keptBoth W A xs ys)
+  pub lookups : (a : ℕ) → matched (longest W a (kept W A zs)) (block W (kept W A zs) a)
+      ≡ matched (longest W a (keptBoth W A xs ys)) (block W (keptBoth W A xs ys) a)
   pub out : written (kept W A zs) ≡ written (keptBoth W A xs ys)
 
 -- what is asked of the two feeds: no prefix is named by both, and all that are named need, together, no more arrays than there

@@ -11,8 +11,9 @@ use lib.Dec.{eqb, lit<}
 use borrow.Author.Tests.{eq-eqb, ne-eqb}
 use Rattle.routes.specs.Route.{Route, key, From, All, hopAt}
 use Rattle.routes.specs.Match.{longest}
+use Rattle.routes.specs.Block.{block}
 use Rattle.routes.specs.Room.{mem, need}
-use Rattle.routes.specs.Answers.{Update, announce, withdraw, records, answer, isDone, after, replies, leaves}
+use Rattle.routes.specs.Answers.{Update, announce, withdraw, records, answer, isDone, after, matched, replies, leaves}
 use Rattle.routes.specs.Bytes.{written}
 use Rattle.logic.specs.Cases.{bool, same}
 use Rattle.laws.specs.Sorted.{Good, ext, insert-from, all-insert, insert-same, insert-other}
@@ -237,7 +238,7 @@ module _ (W : ℕ) (w : W < 256) (A : ℕ) (xs ys zs : List Update) (v : Weave x
             beside-heard W w A N r (mine self) (flip v) [] [] (seconds self) (firsts self) (beside-empty W w A N r (mine self));
         joined = is-join;
         union = join-union F S (second-beside .alone .from) (first-beside .alone .good) none-common;
-        lookups = λ a. ap (longest W a) is-join;
+        lookups = λ a. ap (λ (rs : List Route). matched (longest W a rs) (block W rs a)) is-join;
         out = ap written is-join;
       }
 

@@ -36,8 +36,8 @@ each-map f (u ∷ us) p = (f u (p .0), each-map f us (p .1))
 
 pub plain-done : (r : Reply) → isDone (plain r) ≡ isDone r
 plain-done (done h c) = refl
-plain-done (found h l) = refl
-plain-done none = refl
+plain-done (found h l q) = refl
+plain-done (none q) = refl
 plain-done (refused n) = refl
 
 -- what the hop x held says to an update that is not faulty, cells and room excepted

@@ -20,9 +20,15 @@ fn main() {
     run(b"long", 8192, 4096, true);
     // 4 arrays: room freed by a withdrawal is usable at once. Bytes after the end are not read.
     run(b"four_arrays", 5120, 4096, true);
-    // Replies of 5, 4 and 1 bytes leave 4 of 14: the next record stops it with 4, an end wants no reply and stops it with 0.
-    run(b"short_reply", 8192, 14, true);
-    run(b"short_reply_end", 8192, 14, true);
+    // Replies of 5, 5 and 2 bytes leave 4 of 16: the next record stops it with 4, an end wants no reply and stops it with 0.
+    run(b"short_reply", 8192, 16, true);
+    run(b"short_reply_end", 8192, 16, true);
+    // Blocks: of no route and the default route, of boxes in boxes, down to the last bits. After two replies of 2 bytes 4 of 8
+    // are free: a lookup stops it with 4, though 2 would do.
+    run(b"blocks_none", 8192, 4096, true);
+    run(b"blocks_nested", 8192, 4096, true);
+    run(b"blocks_last_bits", 8192, 4096, true);
+    run(b"blocks_short_reply", 8192, 8, true);
     // A number of words that no table has is refused with 1, words that are no table with 2.
     run(b"misfit_words", 8191, 4096, true);
     run(b"foreign_words", 2048, 4096, false);

@@ -4,7 +4,7 @@ use mathlib.Core.List.{List, [], _∷_}
 use Prim.Native.Nat.{ℕ}
 use lib.Count.{leadingZeros}
 use Rattle.routes.specs.Route.{Route, route}
-use Rattle.routes.specs.Block.{block}
+use Rattle.routes.specs.Block.{first, gets, block}
 
 abbrev blocks : List Route → List ℕ → List ℕ
 blocks rs [] = []
@@ -32,3 +32,9 @@ host = refl
 halves : blocks (route 0 1 7 ∷ route 0x80000000 1 7 ∷ []) (5 ∷ 0xFFFFFFFF ∷ []) ≡ (1 ∷ 1 ∷ [])
 unfolding leadingZeros
 halves = refl
+
+apart : gets 32 (route 0 1 7 ∷ route 0x80000000 1 7 ∷ []) 5 ≡ first 0 1
+apart = refl
+
+apart-above : gets 32 (route 0 1 7 ∷ route 0x80000000 1 7 ∷ []) 0xFFFFFFFF ≡ first 1 1
+apart-above = refl

@@ -67,17 +67,24 @@ cellAt a i = arrayWords * a + cellsAt + i
 abbrev pub rootSlot : ℕ
 rootSlot = wordAt 1 1
 
--- ---- a cell's word: best * linkBound + link; a best: in-array length * hopBound + hop
+-- ---- a cell's word: mark * markUnit + hop * linkBound + rest. The rest is the number of the array below, less 1; where the
+-- mark is 0 there is none, and the rest is in-array length * blockBound + block. A best: in-array length * hopBound + hop
+
+abbrev pub markUnit : ℕ
+markUnit = 268435456
 
 abbrev pub linkBound : ℕ
 linkBound = 4096
 
+abbrev pub blockBound : ℕ
+blockBound = 16
+
 abbrev pub hopBound : ℕ
 hopBound = 65536
 
--- four bits of in-array length and a hop
+-- in-array lengths are at most 8
 abbrev pub bestBound : ℕ
-bestBound = 1048576
+bestBound = 589824
 
 -- ---- a tag: parent * parentUnit + cell * levelBound + one more than the level
 

@@ -28,8 +28,12 @@ pub const UNUSED_AT: usize = 768;
 // The word of the root's first slot, which is that of length 0.
 pub const ROOT_SLOT: usize = 1025;
 
-// A cell's word is its best times this, and its link.
+// A cell's word is its mark times this, ..
+pub const MARK_UNIT: u32 = 268435456;
+// .. its hop times this, and the array below, less 1; where the mark is 0 there is none, ..
 pub const LINK_BOUND: u32 = 4096;
+// .. and an in-array length times this, and the block.
+pub const BLOCK_BOUND: u32 = 16;
 // A best is an in-array length times this, and a hop, which is below it.
 pub const HOP_BOUND: u32 = 65536;
 

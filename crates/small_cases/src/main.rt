@@ -111,13 +111,12 @@ fn answered(r: Reply) {
             field(b" via ", hop);
             field(b" cells ", cells);
         }
-        Reply::Found(hop, length) => {
+        Reply::Found(hop, length, block) => {
             field(b" via ", hop);
             field(b" length ", length);
+            field(b" block ", block);
         }
-        Reply::Nothing => {
-            io::write_all(1, b" none");
-        }
+        Reply::Nothing(block) => field(b" none block ", block),
         Reply::Refused(n) => field(b" refused ", n),
     }
 }

@@ -28,16 +28,16 @@ counted (refuses n) = record { refusal = n; routes = 0; arrays = 0 }
 
 -- no lookup is answered by `done`
 abbrev pub looked : Reply → Found
-looked (done h c) = record { refusal = 0; found = 0; hop = 0; length = 0 }
-looked (found h l) = record { refusal = 0; found = 1; hop = h; length = l }
-looked none = record { refusal = 0; found = 0; hop = 0; length = 0 }
-looked (refused n) = record { refusal = n; found = 0; hop = 0; length = 0 }
+looked (done h c) = record { refusal = 0; found = 0; hop = 0; length = 0; block = 0 }
+looked (found h l q) = record { refusal = 0; found = 1; hop = h; length = l; block = q }
+looked (none q) = record { refusal = 0; found = 0; hop = 0; length = 0; block = q }
+looked (refused n) = record { refusal = n; found = 0; hop = 0; length = 0; block = 0 }
 
 -- no update is answered by `found` or `none`
 abbrev pub updated : Reply → Updated
 updated (done h c) = record { refusal = 0; hop = h; cells = c }
-updated (found h l) = record { refusal = 0; hop = 0; cells = 0 }
-updated none = record { refusal = 0; hop = 0; cells = 0 }
+updated (found h l q) = record { refusal = 0; hop = 0; cells = 0 }
+updated (none q) = record { refusal = 0; hop = 0; cells = 0 }
 updated (refused n) = record { refusal = n; hop = 0; cells = 0 }
 
 abbrev pub wrote : Answer ℕ → Written

@@ -1,18 +1,16 @@
 // The copy's calls of the C face: its need, its build from the bytes of a written-out list, and its lookup.
-use super::Found;
 use replies::Match;
 ghost use mathlib.Core.Path.{_≡_};
 ghost use mathlib.Core.List.{List};
 ghost use Rattle.routes.specs.Route.{Route, IsList};
 ghost use Rattle.routes.specs.Match.{longest};
-ghost use Rattle.routes.specs.Answers.{matched};
+ghost use Rattle.routes.specs.Seen.{gives};
 ghost use Rattle.listing.specs.Listed.{listedIn};
 ghost use Rattle.lengths_build.specs.Answer.{needOn, needAnswer, buildAnswer};
 ghost use Rattle.replies.specs.Said.{saidMatch};
 ghost use Rattle.lengths.specs.Layout.{walk};
 ghost use Rattle.lengths.specs.Laid.{Laid};
-ghost use Rattle.toggleash.specs.Face.{looked};
-ghost use Rattle.toggleash.specs.Copies.{needed, built, HasBuilt};
+ghost use Rattle.toggleash.specs.Copies.{needed, built, matched, HasBuilt};
 
 #[repr(C)]
 pub struct Needed {
@@ -25,6 +23,14 @@ pub struct Built {
     pub refusal: u32,
     pub routes: u64,
     pub markers: u64,
+}
+
+#[repr(C)]
+pub struct Matched {
+    pub refusal: u32,
+    pub found: u32,
+    pub hop: u32,
+    pub length: u32,
 }
 
 // ---- answers in plain numbers
@@ -61,23 +67,23 @@ fn counts(answer: lengths_build::Built) -> Built
     }
 }
 
-fn finding(answer: Match) -> Found
-    ensures { λ r. ⌜ r ≡ looked (saidMatch answer) ⌝ }
+fn finding(answer: Match) -> Matched
+    ensures { λ r. ⌜ r ≡ matched (saidMatch answer) ⌝ }
 {
     match answer {
-        Match::Found(hop, length) => Found {
+        Match::Found(hop, length) => Matched {
             refusal: 0,
             found: 1,
             hop: hop,
             length: length,
         },
-        Match::Nothing => Found {
+        Match::Nothing => Matched {
             refusal: 0,
             found: 0,
             hop: 0,
             length: 0,
         },
-        Match::Refused(n) => Found {
+        Match::Refused(n) => Matched {
             refusal: n,
             found: 0,
             hop: 0,
@@ -103,10 +109,10 @@ pub extern "C" fn toggleash_copy_build(bytes: &[u8], words: &mut [u32]) -> Built
 }
 
 #[no_mangle]
-pub extern "C" fn toggleash_copy_lookup(words: &[u32], address: u32) -> Found
-    ensures { λ r. ⌜ r ≡ looked (walk (now (words .entry)) address) ⌝ }
+pub extern "C" fn toggleash_copy_lookup(words: &[u32], address: u32) -> Matched
+    ensures { λ r. ⌜ r ≡ matched (walk (now (words .entry)) address) ⌝ }
     ensures of_a_list { λ r. ⌜ ((rs : List Route) → IsList 32 rs → Laid rs (now (words .entry))
-        → r ≡ looked (matched (longest 32 address rs))) ⌝ }
+        → r ≡ matched (gives (longest 32 address rs))) ⌝ }
 {
     finding(lengths::lookup(words, address))
 }

@@ -3,12 +3,17 @@
 pub mod copies; // the copy's calls
 
 use replies::Reply;
+use sizes::HOP_BOUND;
 ghost use mathlib.Core.Path.{_≡_};
+ghost use mathlib.Core.Bool.{cond};
+ghost use Prim.Native.Nat.{_≤_};
+ghost use lib.Dec.{eqb};
 ghost use lib.ListN.{length};
 ghost use Rattle.routes.specs.Answers.{announce as announced, withdraw as withdrawn};
 ghost use Rattle.routes.specs.Seen.{lookupOn, checkOn};
 ghost use Rattle.words.specs.Table.{seen};
 ghost use Rattle.lookup.specs.Walk.{walk};
+ghost use Rattle.lookup.specs.Ended.{ended};
 ghost use Rattle.writing.specs.Answer.{countAnswer};
 ghost use Rattle.feed.specs.Runs.{runAnswer};
 ghost use Rattle.audit.specs.Answer.{clearAnswer, checkAnswer};
@@ -29,6 +34,7 @@ pub struct Found {
     pub found: u32,
     pub hop: u32,
     pub length: u32,
+    pub block: u32,
 }
 
 #[repr(C)]
@@ -82,35 +88,35 @@ fn counts(answer: audit::Checked) -> Counted
     }
 }
 
-// No lookup is done.
-fn finding(answer: Reply) -> Found
-    ensures { λ r. ⌜ r ≡ looked (saidReply answer) ⌝ }
+// 1 for a hop, 0 for none.
+fn some(hop: u32) -> u32
+    ensures { λ r. ⌜ (r ≡ cond (eqb hop 0) 0 1) × (r ≤ 1) ⌝ }
 {
-    match answer {
-        Reply::Done(_, _) => Found {
-            refusal: 0,
+    if hop == 0 { 0 } else { 1 }
+}
+
+// A walk's end is not told apart by cases: a branch on whether something was found would go either way, and a lookup of random
+// addresses take half as long again.
+fn finding(end: lookup::End) -> Found
+    ensures { λ r. ⌜ r ≡ looked (ended end) ⌝ }
+{
+    if end.block > lookup::MOST_BITS {
+        return Found {
+            refusal: end.block - lookup::MOST_BITS,
             found: 0,
             hop: 0,
             length: 0,
-        },
-        Reply::Found(hop, length) => Found {
-            refusal: 0,
-            found: 1,
-            hop: hop,
-            length: length,
-        },
-        Reply::Nothing => Found {
-            refusal: 0,
-            found: 0,
-            hop: 0,
-            length: 0,
-        },
-        Reply::Refused(n) => Found {
-            refusal: n,
-            found: 0,
-            hop: 0,
-            length: 0,
-        },
+            block: 0,
+        };
+    }
+    let hop = end.best % HOP_BOUND;
+    let found = some(hop);
+    Found {
+        refusal: 0,
+        found: found,
+        hop: hop,
+        length: found * (end.best / HOP_BOUND),
+        block: end.block,
     }
 }
 
@@ -124,12 +130,12 @@ fn change(answer: Reply) -> Updated
             hop: hop,
             cells: cells,
         },
-        Reply::Found(_, _) => Updated {
+        Reply::Found(_, _, _) => Updated {
             refusal: 0,
             hop: 0,
             cells: 0,
         },
-        Reply::Nothing => Updated {
+        Reply::Nothing(_) => Updated {
             refusal: 0,
             hop: 0,
             cells: 0,
@@ -185,10 +191,10 @@ fn report(answer: feed::Ran) -> Ran
 // The version is in the name, so that a caller made for another one does not link (bindings/c/toggleash.h). It rises with any
 // change that such a caller would not notice: of a call, of its answer, or of what words are a table or a copy.
 #[no_mangle]
-pub extern "C" fn toggleash_version_1() -> u32
-    ensures { λ r. ⌜ r ≡ 1 ⌝ }
+pub extern "C" fn toggleash_version_2() -> u32
+    ensures { λ r. ⌜ r ≡ 2 ⌝ }
 {
-    1
+    2
 }
 
 #[no_mangle]
@@ -209,7 +215,7 @@ pub extern "C" fn toggleash_check(words: &[u32]) -> Counted
 pub extern "C" fn toggleash_lookup(words: &[u32], address: u32) -> Found
     ensures { λ r. ⌜ r ≡ looked (lookupOn 32 (seen 4 (now (words .entry))) (walk 4 (now (words .entry)) address) address) ⌝ }
 {
-    finding(lookup::lookup(words, address))
+    finding(lookup::walk_of(words, address))
 }
 
 #[no_mangle]

@@ -9,19 +9,22 @@ use native.Mathlib.Omega.{arith}
 use lib.ListN.{length, getD}
 use lib.Pow.{pow-add, pow-mono}
 use Rattle.sizes.specs.Sizes.{arrayWords, slotEnd, cellCount, cellSlots, cellsAt, arrayAt, wordAt, cellAt}
+use Rattle.calm.specs.Calm.{Settled}
+use Rattle.calm.specs.Same.{settled-ext}
+use Rattle.settle.specs.Settled.{SettledPage}
 use Rattle.array.specs.Tag.{levelIn}
-use Rattle.array.specs.Cell.{bestIn, linkIn}
-use Rattle.array.specs.Page.{slots, bests, links}
+use Rattle.array.specs.Cell.{bestIn, linkIn, blockIn}
+use Rattle.array.specs.Page.{slots, bests, links, blocks}
 use Rattle.array.specs.Right.{Right, right-ext}
 use Rattle.array.specs.Put.{anyUp, exposed, SlotAt, PageSlotSet}
 use Rattle.array.specs.Frame.{pageOf, withPage, page-word, page-length, with-length, with-in, with-other}
 use Rattle.tree.specs.Arrays.{lev}
-use Rattle.words.specs.Words.{arraysOf, arrayCount, slotsOf, bestsOf}
+use Rattle.words.specs.Words.{arraysOf, arrayCount, slotsOf, bestsOf, blocksOf}
 use Rattle.words.specs.TableBut.{TableBut}
 use Rattle.tree.specs.Tree.{node-level}
 use Rattle.tree.specs.SlotSet.{Place}
 use Rattle.words.specs.SlotSet.{SlotSet}
-use Rattle.words.specs.Lent.{lent-slot, lent-best, lent-link}
+use Rattle.words.specs.Lent.{lent-slot, lent-best, lent-link, page-settled}
 
 -- array a, of level k, is right, and has a slot of length d and value x
 pub record Seat (ws : List ℕ) (a k d x : ℕ) : Type 0 where
@@ -31,6 +34,7 @@ pub record Seat (ws : List ℕ) (a k d x : ℕ) : Type 0 where
   pub small : x < 2 ^ d
   pub own : (1 ≤ d) ⊎ (k ≡ 0)
   pub right : Right (k + 1) (slotsOf ws a) (bestsOf ws a)
+  pub settled : Settled (slotsOf ws a) (arraysOf ws .link a) (blocksOf ws a)
 
 -- of a table but for one array
 pub seat-at : (L e : ℕ) (ws : List ℕ) (a q k d x : ℕ) → TableBut L e ws → Place (arrayCount ws) L (arraysOf ws) a q k d x
@@ -44,6 +48,7 @@ seat-at L e ws a q k d x ok p =
       small = p .small;
       own = p .own;
       right = rw (lv .level) at (ok .right a (p .array) (lv .within) (omega (arith, lv .level)));
+      settled = ok .settled a (p .array) (lv .within) (omega (arith, lv .level));
     }
 
 -- ---- slots alike below slotEnd cover alike
@@ -74,6 +79,9 @@ module _ (ws : List ℕ) (a k d x : ℕ) (s : Seat ws a k d x) where
         (λ r l h. page-slot r h) (lent-best ws a) (s .right) .sound;
   }
 
+  pub seat-settled : SettledPage (pageOf ws a)
+  seat-settled = page-settled ws a (s .settled)
+
   slot-lt : 2 ^ d + x < slotEnd
   slot-lt = omega (arith, s .small, pow-mono {i = d} {j = 8} (s .deep))
 
@@ -86,7 +94,7 @@ module _ (ws : List ℕ) (a k d x : ℕ) (s : Seat ws a k d x) where
       exposed-ext (slots (pageOf ws a)) (slotsOf ws a) page-slot d (x * 2 ^ (8 - d)) (2 ^ (8 - d)) fits
 
   -- the page m has come back
-  module _ (m : List ℕ) (h : ℕ) (g : PageSlotSet (pageOf ws a) m (2 ^ d + x) h) where
+  module _ (m : List ℕ) (h : ℕ) (g : PageSlotSet (pageOf ws a) m (2 ^ d + x) h) (b : SettledPage m) where
     abbrev vs : List ℕ
     vs = withPage ws a m
 
@@ -130,9 +138,12 @@ module _ (ws : List ℕ) (a k d x : ℕ) (s : Seat ws a k d x) where
           slots = λ r l w n. slot r w ∙ g .same-slots r l w n ∙ page-slot r w;
           right = rw lv (right-ext (k + 1) (slots m) (bests m) (slotsOf vs a) (bestsOf vs a)
               (λ r l w. slot r w) (λ i w. ap bestIn (cell i w)) right);
+          settled = settled-ext (slots m) (links m) (blocks m) (slotsOf vs a) (arraysOf vs .link a) (blocksOf vs a)
+              (λ r l w. slot r w) (λ i w. ap linkIn (cell i w)) (λ i w _. ap blockIn (cell i w)) b;
         }
 
--- ---- a seat set to a hop, or to 0: vs is ws but for that slot and the array's best cells, and so many cells were rewritten
+-- ---- a seat set to a hop, or to 0: vs is ws but for that slot and the array's best cells and blocks, and so many
+-- cells took another best
 
 pub record Seated (ws vs : List ℕ) (a d x hop cells : ℕ) : Type 0 where
   pub slot : SlotSet ws vs a (2 ^ d + x) hop
@@ -140,7 +151,7 @@ pub record Seated (ws vs : List ℕ) (a d x hop cells : ℕ) : Type 0 where
 
 -- with the words as the code has them
 pub seated : (ws vs m : List ℕ) (a k d x hop cells : ℕ) → Seat ws a k d x → PageSlotSet (pageOf ws a) m (2 ^ d + x) hop
-    → cells ≡ exposed (slots (pageOf ws a)) d (x * 2 ^ (8 - d)) (2 ^ (8 - d)) → vs ≡ withPage ws a m
+    → SettledPage m → cells ≡ exposed (slots (pageOf ws a)) d (x * 2 ^ (8 - d)) (2 ^ (8 - d)) → vs ≡ withPage ws a m
     → Seated ws vs a d x hop cells
-seated ws vs m a k d x hop cells s g c e =
-    rw e (record { slot = seat-reslot ws a k d x s m hop g; count = c ∙ seat-exposed ws a k d x s })
+seated ws vs m a k d x hop cells s g b c e =
+    rw e (record { slot = seat-reslot ws a k d x s m hop g b; count = c ∙ seat-exposed ws a k d x s })

@@ -55,7 +55,7 @@ fn reslot(words: &mut [u32], a: usize, p: address::Place, hop: u32) -> u32
     let to = words::part::array_at(a + 1);
     let d = p.depth;
     let x = p.value;
-    array::change::reslot(&mut words[from..to], d, x, hop)
+    settle::slot::reslot(&mut words[from..to], d, x, hop)
 }
 
 // A route announced to a table. A hop that is held already changes no word; another replaces the one held, in the array that is

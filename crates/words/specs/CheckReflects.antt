@@ -15,14 +15,16 @@ use Rattle.sizes.specs.Sizes.{arrayWords, leastWords, mostWords, cellCount, cel
 use Rattle.sizes.specs.Sizes.{wordAt, cellAt, levelBound, groupCount, restAt, restWords}
 use Rattle.array.specs.Cell.{link-blank}
 use Rattle.array.specs.Right.{Right}
-use Rattle.array.specs.Check.{zeroAt, rightB, emptyB}
+use Rattle.calm.specs.Calm.{Settled}
+use Rattle.calm.specs.Check.{settled-reflects}
+use Rattle.array.specs.Check.{zeroAt, emptyB}
 use Rattle.array.specs.CheckReflects.{right-reflects, full-reflects}
 use Rattle.tree.specs.Arrays.{Arrays, lev, usedIn, usedOf}
 use Rattle.tree.specs.Shape.{Child, ParentLinks, HasSlot, HasLink}
-use Rattle.words.specs.Words.{arraysOf, arrayCount, slotsOf, bestsOf}
+use Rattle.words.specs.Words.{arraysOf, arrayCount, slotsOf, bestsOf, blocksOf}
 use Rattle.words.specs.TableBut.{Header, Table}
 use Rattle.tree.specs.Check.{linksB, parentLinksB, links-reflects, parent-links-reflects}
-use Rattle.words.specs.Table.{arrayB, groupB, headerB, tableB}
+use Rattle.words.specs.Table.{pageB, arrayB, groupB, headerB, tableB}
 
 -- something in an array
 pub some-reflects : (t : Arrays) (a : ℕ) → Reflects (not (emptyB (t .slot a) (t .link a))) (HasSlot t a ⊎ HasLink t a)
@@ -37,6 +39,7 @@ record Free (ws : List ℕ) (a : ℕ) : Type 0 where
 record Used (L : ℕ) (ws : List ℕ) (a : ℕ) : Type 0 where
   pub tag : getD ws (arrayAt a) 0 ≢ 0
   pub right : Right (lev (arraysOf ws) a) (slotsOf ws a) (bestsOf ws a)
+  pub settled : Settled (slotsOf ws a) (arraysOf ws .link a) (blocksOf ws a)
   pub links : (i : ℕ) → i < cellCount
       → (arraysOf ws .link a i ≡ 0) ⊎ Child (arrayCount ws) L (arraysOf ws) a i (arraysOf ws .link a i)
   pub hung : a ≢ 1 → ParentLinks (arrayCount ws) (arraysOf ws) a
@@ -53,15 +56,23 @@ module _ (L : ℕ) (ws : List ℕ) (a : ℕ) where
   placed = parentLinksB A t a && not (emptyB (slotsOf ws a) (t .link a))
 
   abbrev usedB : Bool
-  usedB = rightB (lev t a) (slotsOf ws a) (bestsOf ws a) && (linksB A L t a && (eqb a 1 || placed))
+  usedB = pageB ws a && (linksB A L t a && (eqb a 1 || placed))
+
+  page-reflects : Reflects (pageB ws a)
+      (Right (lev t a) (slotsOf ws a) (bestsOf ws a) × Settled (slotsOf ws a) (t .link a) (blocksOf ws a))
+  page-reflects =
+      reflects-and (right-reflects (lev t a) (slotsOf ws a) (bestsOf ws a))
+      (settled-reflects (slotsOf ws a) (t .link a) (blocksOf ws a))
 
   used-to : getD ws (arrayAt a) 0 ≢ 0 → usedB ≡ true → Used L ws a
   used-to n b =
-      let x = and-to (rightB (lev t a) (slotsOf ws a) (bestsOf ws a)) (linksB A L t a && (eqb a 1 || placed)) b in
+      let x = and-to (pageB ws a) (linksB A L t a && (eqb a 1 || placed)) b in
+      let w = page-reflects .to (x .0) in
       let y = and-to (linksB A L t a) (eqb a 1 || placed) (x .1) in
       record {
         tag = n;
-        right = right-reflects (lev t a) (slotsOf ws a) (bestsOf ws a) .to (x .0);
+        right = w .0;
+        settled = w .1;
         links = links-reflects A L t a .to (y .0);
         hung =
             λ m. ⊎-elim (λ (z : t .tag a ≡ 0). absurd (n z)) (λ (z : ParentLinks A t a). z)
@@ -74,8 +85,8 @@ module _ (L : ℕ) (ws : List ℕ) (a : ℕ) where
 
   used-from : Used L ws a → usedB ≡ true
   used-from x =
-      and-from (rightB (lev t a) (slotsOf ws a) (bestsOf ws a)) (linksB A L t a && (eqb a 1 || placed))
-      (right-reflects (lev t a) (slotsOf ws a) (bestsOf ws a) .from (x .right))
+      and-from (pageB ws a) (linksB A L t a && (eqb a 1 || placed))
+      (page-reflects .from (x .right, x .settled))
       (and-from (linksB A L t a) (eqb a 1 || placed) (links-reflects A L t a .from (x .links))
       (same a 1 (λ q e. rw e) (λ n e. rw e (and-from (parentLinksB A t a) (not (emptyB (slotsOf ws a) (t .link a)))
       (parent-links-reflects A t a .from (inr (x .hung n))) (some-reflects t a .from (x .some n))))))
@@ -152,6 +163,8 @@ module _ (L : ℕ) (ws : List ℕ) (some : 1 ≤ L) (levels : L < levelBound) (s
         (one f a (omega arith) w);
     blank = λ a h w z. ⊎-elim (λ (x : Free ws a). x .blank) (λ (x : Used L ws a). absurd (x .tag z)) (one f a h w);
     right = λ a h w p. ⊎-elim (λ (x : Free ws a). absurd (omega (arith, x .tag))) (λ (x : Used L ws a). x .right) (one f a h w);
+    settled =
+        λ a h w p. ⊎-elim (λ (x : Free ws a). absurd (omega (arith, x .tag))) (λ (x : Used L ws a). x .settled) (one f a h w);
     header = hd .0;
     rest = hd .1;
   }
@@ -163,6 +176,7 @@ module _ (L : ℕ) (ws : List ℕ) (some : 1 ≤ L) (levels : L < levelBound) (s
       (λ m _. inr (record {
         tag = m;
         right = k .right (j + 1) (omega arith) (omega arith) (omega arith);
+        settled = k .settled (j + 1) (omega arith) (omega arith) (omega arith);
         links = λ i b. k .shape .links (j + 1) i (omega arith) (omega arith) b;
         hung =
             λ e. ⊎-elim (λ (z : arraysOf ws .tag (j + 1) ≡ 0). absurd (m z))

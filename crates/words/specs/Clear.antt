@@ -12,12 +12,13 @@ use Rattle.sizes.specs.Sizes.{arrayWords, leastWords, mostWords, arrayAt, wordA
 use Rattle.routes.specs.Collect.{routes}
 use Rattle.laws.specs.Collect.{collect-none}
 use Rattle.routes.specs.Room.{level}
-use Rattle.array.specs.Cell.{bestIn, link-blank}
+use Rattle.calm.specs.Same.{none-settled}
+use Rattle.array.specs.Cell.{blockIn, link-blank, best-blank}
 use Rattle.array.specs.Right.{right-none}
 use Rattle.tree.specs.Arrays.{Arrays, lev, node, held, depthOf, slotOf, usedIn}
 use Rattle.tree.specs.Need.{at-some, slot-some}
 use Rattle.tree.specs.SlotSet.{at-none}
-use Rattle.words.specs.Words.{arraysOf, slotsOf, bestsOf}
+use Rattle.words.specs.Words.{arraysOf, slotsOf, bestsOf, blocksOf}
 use Rattle.words.specs.TableBut.{TableBut, Table}
 use Rattle.routes.specs.Seen.{table, misfits, arrays}
 use Rattle.words.specs.Table.{listOf, seen}
@@ -69,8 +70,11 @@ module _ (n : ℕ) (low : leastWords ≤ n) where
   tag-none : (c : ℕ) → 2 ≤ c → t .tag c ≡ 0
   tag-none c h = cleared-word (arrayAt c) (λ e. omega arith) (λ e. omega arith) (λ e. omega arith)
 
+  cell-none : (c i : ℕ) → 1 ≤ c → getD (cleared n) (cellAt c i) 0 ≡ 0
+  cell-none c i h = cleared-word (cellAt c i) (λ e. omega arith) (λ e. omega arith) (λ e. omega arith)
+
   link-none : (c i : ℕ) → 1 ≤ c → t .link c i ≡ 0
-  link-none c i h = link-blank _ (cleared-word (cellAt c i) (λ e. omega arith) (λ e. omega arith) (λ e. omega arith))
+  link-none c i h = link-blank _ (cell-none c i h)
 
   slot-none : (c s : ℕ) → 1 ≤ c → 1 ≤ s → t .slot c s ≡ 0
   slot-none c s h l = cleared-word (wordAt c s) (λ e. omega arith) (λ e. omega arith) (λ e. omega arith)
@@ -101,7 +105,9 @@ module _ (n : ℕ) (low : leastWords ≤ n) where
         (λ q _. (let d : wordAt a j ≡ arrayAt a = omega arith in rw d e))
         (λ q _. slot-none a j h (omega arith));
     right = λ a h k p. right-none (lev t a) (slotsOf (cleared n) a) (bestsOf (cleared n) a) (λ s m b. slot-none a s h m)
-        (λ i b. ap bestIn (cleared-word (cellAt a i) (λ e. omega arith) (λ e. omega arith) (λ e. omega arith)));
+        (λ i b. best-blank _ (cell-none a i h));
+    settled = λ a h k p. none-settled (slotsOf (cleared n) a) (t .link a) (λ r m b. slot-none a r h m) (λ j b. link-none a j h)
+        (blocksOf (cleared n) a) (λ j b. ap blockIn (cell-none a j h));
     header = record {
       count = rw cleared-length
           (let d : n / arrayWords - 1 ≡ suc (n / arrayWords - 2) = omega arith in

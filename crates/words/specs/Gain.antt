@@ -8,15 +8,18 @@ use lib.ListN.{getD}
 use Rattle.logic.specs.Cases.{same}
 use Rattle.sizes.specs.Sizes.{cellCount, cellsAt, unusedAt}
 use Rattle.sizes.specs.Sizes.{arrayAt, wordAt, cellAt}
-use Rattle.array.specs.Cell.{bestIn}
-use Rattle.array.specs.Right.{Right, right-ext, right-none}
+use Rattle.calm.specs.Calm.{Settled}
+use Rattle.calm.specs.Same.{none-settled}
+use Rattle.array.specs.Cell.{blockIn, link-blank, best-blank}
+use Rattle.array.specs.Right.{Right, right-ext, right-none, best-small}
 use Rattle.tree.specs.Arrays.{Arrays, lev}
 use Rattle.tree.specs.Shape.{Child}
 use Rattle.tree.specs.HungBelow.{HungBelow, hang-shape, hang-filled}
-use Rattle.words.specs.Words.{arraysOf, arrayCount, slotsOf, bestsOf}
+use Rattle.words.specs.Words.{arraysOf, arrayCount, slotsOf, bestsOf, blocksOf}
 use Rattle.words.specs.TableBut.{TableBut}
 use Rattle.words.specs.Gained.{Ends, Gained}
 use Rattle.words.specs.Rehung.{re-word, re-header, re-tags, re-slots, re-cell, re-bests, re-here, re-links}
+use Rattle.words.specs.Rehung.{re-settled-here, re-settled}
 use Rattle.words.specs.Rehung.{Counted, counted-up}
 
 -- an array a that is free, and a cell i of p without a link, above the last level
@@ -49,6 +52,9 @@ module _ (L : ℕ) (ws : List ℕ) (p i a : ℕ) (ok : TableBut L p ws) (gn : Ga
     some = not-root;
     within = omega (arith, ok .whole, ok .low, gn .within);
     apart = λ e. (let q : t .tag p ≡ t .tag a = ap (t .tag) e in omega (arith, gn .used, gn .free));
+    settled = ok .settled p (gn .parent) (gn .inside) (omega (arith, gn .used));
+    small = best-small (lev t p) (slotsOf ws p) (bestsOf ws p)
+        (ok .right p (gn .parent) (gn .inside) (omega (arith, gn .used))) i (gn .cells);
   }
 
   module _ (vs : List ℕ) (re : Gained ws vs p i a) where
@@ -105,11 +111,21 @@ module _ (L : ℕ) (ws : List ℕ) (p i a : ℕ) (ok : TableBut L p ws) (gn : Ga
         same c a
         (λ e _. right-none (lev u c) (slotsOf vs c) (bestsOf vs c)
         (λ s l b. re-slots gain-ends re c s h l b ∙ rw e (gained-hung-below .no-slot s l b))
-        (λ j b. rw e (ap bestIn (cell-none j b))))
+        (λ j b. rw e (best-blank _ (cell-none j b))))
         (λ n _. rw (re-tags gain-ends re c h n)
         (right-ext (lev t c) (slotsOf ws c) (bestsOf ws c) (slotsOf vs c) (bestsOf vs c)
         (λ s l b. re-slots gain-ends re c s h l b) (λ j b. re-bests gain-ends re c j h b)
         (ok .right c h w (rw (← (re-tags gain-ends re c h n)) z))))
+
+    settled : (c : ℕ) → 1 ≤ c → c ≤ arrayCount ws → 1 ≤ u .tag c → Settled (slotsOf vs c) (u .link c) (blocksOf vs c)
+    settled c h w z =
+        same c a
+        (λ e _. rw e (none-settled (slotsOf vs a) (u .link a)
+        (λ s l b. re-slots gain-ends re a s (gn .some) l b ∙ gained-hung-below .no-slot s l b)
+        (λ j b. link-blank _ (cell-none j b)) (blocksOf vs a) (λ j b. ap blockIn (cell-none j b))))
+        (λ n _. same c p
+        (λ e _. rw e (re-settled-here gain-ends re))
+        (λ m _. re-settled gain-ends re c h m (ok .settled c h w (rw (← (re-tags gain-ends re c h n)) z))))
 
     pub gained-table-but : TableBut L a vs
     gained-table-but = record {
@@ -120,6 +136,7 @@ module _ (L : ℕ) (ws : List ℕ) (p i a : ℕ) (ok : TableBut L p ws) (gn : Ga
       filled = rw (re .size) (hang-filled (arrayCount ws) L t u p i a gained-hung-below (ok .filled));
       blank = rw (re .size) blank;
       right = rw (re .size) right;
+      settled = rw (re .size) settled;
       header = counted-up L ws vs p i a gained-hung-below gained-counted (ok .high) (ok .header);
       rest =
           λ k h w. re-header gain-ends re k w (λ e. omega arith) (λ e. omega (arith, gain-ends .within, ok .high))

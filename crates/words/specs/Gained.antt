@@ -4,11 +4,13 @@ use mathlib.Core.Logic.{_⊎_, _≢_}
 use mathlib.Core.List.{List}
 use Prim.Native.Nat.{ℕ, _+_, _-_, _/_, _≤_, _<_}
 use lib.ListN.{length, getD, set}
-use Rattle.sizes.specs.Sizes.{mostArrays, mostWords, cellCount, arrayAt, cellAt, perGroup}
+use Rattle.sizes.specs.Sizes.{mostArrays, mostWords, cellCount, arrayAt, cellAt, perGroup, bestBound}
+use Rattle.calm.specs.Calm.{Settled}
 use Rattle.array.specs.Tag.{tagOf, parentIn, cellIn, levelIn}
 use Rattle.array.specs.Cell.{linkIn}
-use Rattle.array.specs.Link.{Relinked}
+use Rattle.settle.specs.Link.{Relinked}
 use Rattle.array.specs.Frame.{pageOf}
+use Rattle.words.specs.Words.{arraysOf, slotsOf, bestsOf, blocksOf}
 
 -- the word of the header that counts the group of array a
 abbrev pub groupAt : ℕ → ℕ
@@ -20,7 +22,7 @@ retagged ws a x n m = set (set (set ws (arrayAt a) x) 0 n) (groupAt a) m
 
 -- ---- what is asked
 
--- an array a and another, p, of which i is a cell
+-- an array a and another, p, of which i is a cell: its blocks are right, and the best of the cell is in its range
 pub record Ends (ws : List ℕ) (p i a : ℕ) : Type 0 where
   pub size : length ws ≤ mostWords
   pub parent : 1 ≤ p
@@ -29,6 +31,8 @@ pub record Ends (ws : List ℕ) (p i a : ℕ) : Type 0 where
   pub some : 2 ≤ a
   pub within : arrayAt (a + 1) ≤ length ws
   pub apart : p ≢ a
+  pub settled : Settled (slotsOf ws p) (arraysOf ws .link p) (blocksOf ws p)
+  pub small : bestsOf ws p i < bestBound
 
 pub record Gains (ws : List ℕ) (p i a : ℕ) : Type 0 where
   pub ends : Ends ws p i a

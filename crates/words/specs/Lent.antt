@@ -8,14 +8,17 @@ use lib.ListN.{getD}
 use Rattle.logic.specs.Cases.{bool}
 use Rattle.logic.specs.Reflects.{Reflects}
 use Rattle.sizes.specs.Sizes.{lastSlot, slotEnd, cellCount, cellsAt, wordAt, cellAt}
-use Rattle.array.specs.Cell.{bestIn, linkIn}
-use Rattle.array.specs.Page.{slots, bests, links}
+use Rattle.calm.specs.Check.{settledB, settled-reflects}
+use Rattle.calm.specs.Calm.{Settled}
+use Rattle.calm.specs.Same.{settled-ext}
+use Rattle.array.specs.Cell.{bestIn, linkIn, blockIn}
+use Rattle.array.specs.Page.{slots, bests, links, blocks}
 use Rattle.array.specs.Frame.{pageOf, page-word}
 use Rattle.array.specs.Check.{rightB, emptyB}
 use Rattle.array.specs.Taken.{taken}
 use Rattle.array.specs.CheckReflects.{right-reflects, empty-reflects}
 use Rattle.array.specs.Right.{right-ext}
-use Rattle.words.specs.Words.{arraysOf, slotsOf, bestsOf}
+use Rattle.words.specs.Words.{arraysOf, slotsOf, bestsOf, blocksOf}
 
 -- two tests of statements that follow from each other
 reflects-same : {b c : Bool} {P Q : Type 0} → Reflects b P → Reflects c Q → (P → Q) → (Q → P) → b ≡ c
@@ -51,6 +54,26 @@ module _ (ws : List ℕ) (a : ℕ) where
       reflects-same (right-reflects k (slots b) (bests b)) (right-reflects k (slotsOf ws a) (bestsOf ws a))
       (right-ext k (slots b) (bests b) (slotsOf ws a) (bestsOf ws a) (λ s _ h. sym (lent-slot s h)) (λ i h. sym (lent-best i h)))
       (right-ext k (slotsOf ws a) (bestsOf ws a) (slots b) (bests b) (λ s _ h. lent-slot s h) (λ i h. lent-best i h))
+
+  pub lent-block : (i : ℕ) → i < cellCount → blocks b i ≡ blocksOf ws a i
+  lent-block i h = ap blockIn (lent-cell i h)
+
+  -- the blocks of the page are right where those of the array are
+  pub page-settled : Settled (slotsOf ws a) (arraysOf ws .link a) (blocksOf ws a) → Settled (slots b) (links b) (blocks b)
+  page-settled =
+      settled-ext (slotsOf ws a) (arraysOf ws .link a) (blocksOf ws a) (slots b) (links b) (blocks b)
+      (λ s _ h. lent-slot s h) (λ i h. lent-link i h) (λ i h _. lent-block i h)
+
+  pub settled-page : Settled (slots b) (links b) (blocks b) → Settled (slotsOf ws a) (arraysOf ws .link a) (blocksOf ws a)
+  settled-page =
+      settled-ext (slots b) (links b) (blocks b) (slotsOf ws a) (arraysOf ws .link a) (blocksOf ws a)
+      (λ s _ h. sym (lent-slot s h)) (λ i h. sym (lent-link i h)) (λ i h _. sym (lent-block i h))
+
+  pub lent-settled : settledB (slots b) (links b) (blocks b) ≡ settledB (slotsOf ws a) (arraysOf ws .link a) (blocksOf ws a)
+  lent-settled =
+      reflects-same (settled-reflects (slots b) (links b) (blocks b))
+      (settled-reflects (slotsOf ws a) (arraysOf ws .link a) (blocksOf ws a))
+      settled-page page-settled
 
   pub lent-empty : emptyB (slots b) (links b) ≡ emptyB (slotsOf ws a) (arraysOf ws .link a)
   lent-empty =

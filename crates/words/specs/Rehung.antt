@@ -10,13 +10,15 @@ use lib.Seq.{getD-set-same, getD-set-other, ext-getD}
 use Rattle.logic.specs.Cases.{same, less}
 use Rattle.sizes.specs.Sizes.{arrayWords, mostWords, slotEnd, cellCount, cellsAt}
 use Rattle.sizes.specs.Sizes.{arrayAt, wordAt, cellAt, perGroup, groupCount}
-use Rattle.array.specs.Cell.{bestIn, linkIn}
-use Rattle.array.specs.Link.{Relinked}
+use Rattle.array.specs.Cell.{bestIn, linkIn, blockIn}
+use Rattle.calm.specs.Calm.{Settled}
+use Rattle.calm.specs.Same.{settled-ext}
+use Rattle.settle.specs.Link.{Relinked}
 use Rattle.array.specs.Frame.{pageOf, withPage, page-word, page-length, with-length, with-in, with-other}
 use Rattle.tree.specs.Arrays.{Arrays, usedIn, usedOf}
 use Rattle.tree.specs.HungBelow.{HungBelow, used-out, used-inside}
-use Rattle.words.specs.Words.{arraysOf, arrayCount, slotsOf, bestsOf}
-use Rattle.words.specs.Lent.{lent-best, lent-link}
+use Rattle.words.specs.Words.{arraysOf, arrayCount, slotsOf, bestsOf, blocksOf}
+use Rattle.words.specs.Lent.{lent-best, lent-link, settled-page}
 use Rattle.words.specs.TableBut.{Header}
 use Rattle.words.specs.Gained.{groupAt, retagged, Ends, Rehung}
 
@@ -144,6 +146,16 @@ module _ {ws vs : List ℕ} {p i a x c n m : ℕ} (g : Ends ws p i a) (r : Rehun
       (λ q _. rw q (sym (lent-link vs p j b)
       ∙ r .page .same-links j b (⊎-elim (λ (z : d ≢ p). absurd (z q)) (λ (z : j ≢ i). z) o) ∙ lent-link ws p j b))
       (λ f _. ap linkIn (re-cell d j h b f))
+
+  -- the blocks of p are right, and those of another array if they were
+  pub re-settled-here : Settled (slotsOf vs p) (arraysOf vs .link p) (blocksOf vs p)
+  re-settled-here = settled-page vs p (r .page .settled)
+
+  pub re-settled : (d : ℕ) → 1 ≤ d → d ≢ p → Settled (slotsOf ws d) (arraysOf ws .link d) (blocksOf ws d)
+      → Settled (slotsOf vs d) (arraysOf vs .link d) (blocksOf vs d)
+  re-settled d h f =
+      settled-ext (slotsOf ws d) (arraysOf ws .link d) (blocksOf ws d) (slotsOf vs d) (arraysOf vs .link d) (blocksOf vs d)
+      (λ s l b. re-slots d s h l b) (λ j b. re-links d j h b (inl f)) (λ j b _. ap blockIn (re-cell d j h b f))
 
 -- ---- the header
 

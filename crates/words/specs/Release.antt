@@ -8,17 +8,20 @@ use lib.ListN.{getD}
 use Rattle.logic.specs.Cases.{same, less}
 use Rattle.sizes.specs.Sizes.{slotEnd, cellCount, cellsAt, unusedAt}
 use Rattle.sizes.specs.Sizes.{arrayAt, wordAt, cellAt, perGroup}
-use Rattle.array.specs.Cell.{cell-blank}
-use Rattle.array.specs.Right.{Right, right-ext}
+use Rattle.calm.specs.Calm.{Settled}
+use Rattle.calm.specs.Same.{settled-none}
+use Rattle.array.specs.With.{cell-blank}
+use Rattle.array.specs.Right.{Right, right-ext, best-small}
 use Rattle.tree.specs.Arrays.{Arrays, par, cell, lev}
 use Rattle.tree.specs.Shape.{Child, ParentLinks}
 use Rattle.tree.specs.Tree.{parent-links, is-child}
 use Rattle.tree.specs.Free.{used-some}
 use Rattle.tree.specs.HungBelow.{HungBelow, unhang-shape, unhang-filled}
-use Rattle.words.specs.Words.{arraysOf, arrayCount, slotsOf, bestsOf}
+use Rattle.words.specs.Words.{arraysOf, arrayCount, slotsOf, bestsOf, blocksOf}
 use Rattle.words.specs.TableBut.{TableBut}
 use Rattle.words.specs.Gained.{groupAt, Ends, Releases, Released}
-use Rattle.words.specs.Rehung.{re-word, re-header, re-tags, re-slots, re-bests, re-here, re-links, Counted, counted-down}
+use Rattle.words.specs.Rehung.{re-word, re-header, re-tags, re-slots, re-bests, re-here, re-links}
+use Rattle.words.specs.Rehung.{re-settled-here, re-settled, Counted, counted-down}
 
 -- a used array that is not the root and has nothing in it
 pub record Releasable (ws : List ℕ) (a : ℕ) : Type 0 where
@@ -57,6 +60,9 @@ module _ (L : ℕ) (ws : List ℕ) (a : ℕ) (ok : TableBut L a ws) (em : Releas
     some = em .some;
     within = omega (arith, ok .whole, ok .low, em .within);
     apart = not-self;
+    settled = ok .settled p (hu .some) (hu .within) (omega (arith, ha .used));
+    small = best-small (lev u₁ p) (slotsOf ws p) (bestsOf ws p)
+        (ok .right p (hu .some) (hu .within) (omega (arith, ha .used))) i (omega arith);
   }
 
   -- the counts are not 0
@@ -91,7 +97,9 @@ module _ (L : ℕ) (ws : List ℕ) (a : ℕ) (ok : TableBut L a ws) (em : Releas
       less k cellsAt
       (λ l _. em .no-slot k h l)
       (λ l _. (let d : wordAt a k ≡ cellAt a (k - cellsAt) = omega arith in
-      rw d (cell-blank _ (em .no-best (k - cellsAt) (omega arith)) (em .no-link (k - cellsAt) (omega arith)))))
+      rw d (cell-blank _ (em .no-best (k - cellsAt) (omega arith)) (em .no-link (k - cellsAt) (omega arith))
+      (settled-none (slotsOf ws a) (u₁ .link a) (em .no-slot) (em .no-link) (blocksOf ws a)
+      (ok .settled a (omega (arith, em .some)) (em .within) (em .used)) (k - cellsAt) (omega arith)))))
 
   module _ (vs : List ℕ) (re : Released ws vs a) where
     abbrev t₁ : Arrays
@@ -144,6 +152,13 @@ module _ (L : ℕ) (ws : List ℕ) (a : ℕ) (ok : TableBut L a ws) (em : Releas
         (λ s l b. re-slots ends re c s h l b) (λ j b. re-bests ends re c j h b)
         (ok .right c h w (rw (← (re-tags ends re c h n)) z)))
 
+    settled : (c : ℕ) → 1 ≤ c → c ≤ arrayCount ws → 1 ≤ t₁ .tag c → Settled (slotsOf vs c) (t₁ .link c) (blocksOf vs c)
+    settled c h w z =
+        let n : c ≢ a = λ e. (let q : t₁ .tag c ≡ t₁ .tag a = ap (t₁ .tag) e in omega (arith, re .tag)) in
+        same c p
+        (λ e _. rw e (re-settled-here ends re))
+        (λ m _. re-settled ends re c h m (ok .settled c h w (rw (← (re-tags ends re c h n)) z)))
+
     pub released-table-but : TableBut L p vs
     released-table-but = record {
       whole = rw (re .size) (ok .whole);
@@ -153,6 +168,7 @@ module _ (L : ℕ) (ws : List ℕ) (a : ℕ) (ok : TableBut L a ws) (em : Releas
       filled = rw (re .size) (unhang-filled (arrayCount ws) L t₁ u₁ p i a released-hung-below (ok .filled));
       blank = rw (re .size) blank;
       right = rw (re .size) right;
+      settled = rw (re .size) settled;
       header =
           counted-down L vs ws p i a (rw (re .size) released-hung-below) released-counted (rw (re .size) (ok .high))
           (ok .header);

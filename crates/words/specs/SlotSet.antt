@@ -1,4 +1,4 @@
--- One array's slots and bests rewritten: what the floor of one page has to hand over. Assumes nothing.
+-- One array's slots, bests and blocks rewritten: what the floor of one page has to hand over. Assumes nothing.
 use mathlib.Core.Path.{_≡_, refl, sym, ap, _∙_}
 use mathlib.Core.Logic.{_⊎_, _≢_, inl, inr, ⊎-elim}
 use mathlib.Core.List.{List}
@@ -7,15 +7,17 @@ use native.Mathlib.Omega.{arith}
 use lib.ListN.{length, getD}
 use Rattle.logic.specs.Cases.{same, less}
 use Rattle.sizes.specs.Sizes.{arrayWords, slotEnd, cellCount, cellsAt, arrayAt, wordAt, cellAt, perGroup}
-use Rattle.array.specs.Cell.{bestIn, linkIn}
+use Rattle.array.specs.Cell.{bestIn, linkIn, blockIn}
+use Rattle.calm.specs.Calm.{Settled}
+use Rattle.calm.specs.Same.{settled-ext}
 use Rattle.array.specs.Right.{Right, right-ext}
 use Rattle.tree.specs.Arrays.{Arrays, lev, usedIn}
 use Rattle.tree.specs.Shape.{HasSlot, HasLink}
-use Rattle.words.specs.Words.{arraysOf, arrayCount, slotsOf, bestsOf}
+use Rattle.words.specs.Words.{arraysOf, arrayCount, slotsOf, bestsOf, blocksOf}
 use Rattle.words.specs.TableBut.{TableBut}
 use Rattle.tree.specs.SlotSet.{TreeSlotSet, same-shape}
 
--- vs is ws but for slot s of array a, which holds h, and a's best cells
+-- vs is ws but for slot s of array a, which holds h, and a's best cells and blocks
 pub record SlotSet (ws vs : List ℕ) (a s h : ℕ) : Type 0 where
   pub size : length vs ≡ length ws
   pub outside : (k : ℕ) → (k < arrayAt a) ⊎ (arrayAt (a + 1) ≤ k) → getD vs k 0 ≡ getD ws k 0
@@ -24,6 +26,7 @@ pub record SlotSet (ws vs : List ℕ) (a s h : ℕ) : Type 0 where
   pub here : slotsOf vs a s ≡ h
   pub slots : (r : ℕ) → 1 ≤ r → r < slotEnd → r ≢ s → slotsOf vs a r ≡ slotsOf ws a r
   pub right : Right (lev (arraysOf vs) a) (slotsOf vs a) (bestsOf vs a)
+  pub settled : Settled (slotsOf vs a) (arraysOf vs .link a) (blocksOf vs a)
 
 -- a table is one but for any array
 pub table-is-but : (L e : ℕ) (ws : List ℕ) → TableBut L 0 ws → TableBut L e ws
@@ -35,6 +38,7 @@ table-is-but L e ws o = record {
   filled = λ a h w n p. o .filled a h w (λ q. omega arith) p;
   blank = o .blank;
   right = o .right;
+  settled = o .settled;
   header = o .header;
   rest = o .rest;
 }
@@ -50,6 +54,7 @@ but-is-table L e ws o f = record {
   filled = λ a h w n p. same a e (λ q _. rw q (f (rw q at h))) (λ m _. o .filled a h w m p);
   blank = o .blank;
   right = o .right;
+  settled = o .settled;
   header = o .header;
   rest = o .rest;
 }
@@ -122,6 +127,13 @@ module _ (L e : ℕ) (ws vs : List ℕ) (a s h : ℕ) (some : 1 ≤ a) (g : Slot
         (λ r l b. word c r n (omega arith))
         (λ i b. ap bestIn (cell c i n b))
         (o .right c k w (rw (← (tags c k)) p)))));
+    settled = rw (g .size) (λ c k w p. same c a
+        (λ q _. rw q (g .settled))
+        (λ n _. settled-ext (slotsOf ws c) (t .link c) (blocksOf ws c) (slotsOf vs c) (u .link c) (blocksOf vs c)
+        (λ r l b. word c r n (omega arith))
+        (λ i b. links c i k b)
+        (λ i b z. ap blockIn (cell c i n b))
+        (o .settled c k w (rw (← (tags c k)) p))));
     header = record {
       count = g .outside 0 (inl (omega arith)) ∙ o .header .count ∙ sym (used-same 0 (arrayCount ws))
           ∙ ap (λ (x : ℕ). usedIn u 0 (x / arrayWords - 1)) (sym (g .size));

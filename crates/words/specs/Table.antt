@@ -9,17 +9,23 @@ use Rattle.sizes.specs.Sizes.{arrayWords, unusedAt, arrayAt, groupCount, restAt
 use Rattle.routes.specs.Seen.{Seen, misfit, foreign, table, misfits}
 use Rattle.routes.specs.Collect.{routes}
 use Rattle.logic.specs.Every.{allB}
+use Rattle.calm.specs.Check.{settledB}
 use Rattle.array.specs.Check.{zeroAt, rightB, emptyB}
 use Rattle.tree.specs.Arrays.{lev, held, usedIn, usedOf}
-use Rattle.words.specs.Words.{arraysOf, arrayCount, slotsOf, bestsOf}
+use Rattle.words.specs.Words.{arraysOf, arrayCount, slotsOf, bestsOf, blocksOf}
 use Rattle.tree.specs.Check.{linksB, parentLinksB}
+
+-- the page of array a: its bests are the longest covers, and each cell without a link has its block
+abbrev pub pageB : List ℕ → ℕ → Bool
+pageB ws a =
+    rightB (lev (arraysOf ws) a) (slotsOf ws a) (bestsOf ws a) && settledB (slotsOf ws a) (arraysOf ws .link a) (blocksOf ws a)
 
 -- array a: free and 0; or used, its page right, its links leading to arrays that name their cell, and, the root aside, hung
 -- where its tag says and not empty
 unfoldable pub arrayB : ℕ → List ℕ → ℕ → Bool
 arrayB L ws a =
     cond (eqb (getD ws (arrayAt a) 0) 0) (allB (zeroAt ws (arrayAt a)) unusedAt)
-    (rightB (lev (arraysOf ws) a) (slotsOf ws a) (bestsOf ws a)
+    (pageB ws a
     && (linksB (arrayCount ws) L (arraysOf ws) a
     && (eqb a 1 || (parentLinksB (arrayCount ws) (arraysOf ws) a && not (emptyB (slotsOf ws a) (arraysOf ws .link a))))))
 

@@ -6,7 +6,8 @@ use lib.ListN.{length, getD}
 use Rattle.sizes.specs.Sizes.{arrayWords, leastWords, mostWords, unusedAt, arrayAt, wordAt, groupCount, restAt}
 use Rattle.array.specs.Right.{Right}
 use Rattle.tree.specs.Arrays.{lev, usedIn, usedOf}
-use Rattle.words.specs.Words.{arraysOf, arrayCount, slotsOf, bestsOf}
+use Rattle.calm.specs.Calm.{Settled}
+use Rattle.words.specs.Words.{arraysOf, arrayCount, slotsOf, bestsOf, blocksOf}
 use Rattle.tree.specs.Shape.{Shape, Filled}
 
 -- the header: how many are used, in all and in each group of 8
@@ -25,6 +26,8 @@ pub record TableBut (L e : ℕ) (ws : List ℕ) : Type 0 where
       → getD ws (wordAt a k) 0 ≡ 0
   pub right : (a : ℕ) → 1 ≤ a → a ≤ arrayCount ws → 1 ≤ getD ws (arrayAt a) 0
       → Right (lev (arraysOf ws) a) (slotsOf ws a) (bestsOf ws a)
+  pub settled : (a : ℕ) → 1 ≤ a → a ≤ arrayCount ws → 1 ≤ getD ws (arrayAt a) 0
+      → Settled (slotsOf ws a) (arraysOf ws .link a) (blocksOf ws a)
   pub header : Header ws
   pub rest : (k : ℕ) → restAt ≤ k → k < arrayWords → getD ws k 0 ≡ 0
 

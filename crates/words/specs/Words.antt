@@ -2,12 +2,12 @@
 --
 --     header │ array 1 │ array 2 │ .. │ array A            1,024 words each
 --     header: used in all │ used among 1 .. 8 │ used among 9 .. 16 │ .. │ 0 ..
---     array:  tag │ slots 1 .. 511 │ cells 0 .. 255, each its best and its link │ 256 words not used
+--     array:  tag │ slots 1 .. 511 │ cells 0 .. 255, each its best, and its link or its block │ 256 words not used
 use mathlib.Core.List.{List}
 use Prim.Native.Nat.{ℕ, _-_, _/_}
 use lib.ListN.{length, getD}
 use Rattle.sizes.specs.Sizes.{arrayWords, arrayAt, wordAt, cellAt}
-use Rattle.array.specs.Cell.{bestIn, linkIn}
+use Rattle.array.specs.Cell.{bestIn, linkIn, blockIn}
 use Rattle.tree.specs.Arrays.{Arrays}
 
 abbrev pub arraysOf : List ℕ → Arrays
@@ -17,12 +17,15 @@ arraysOf ws = record {
   slot = λ a s. getD ws (wordAt a s) 0;
 }
 
--- the slots 1 .. 511 and the best cells 0 .. 255 of array a
+-- the slots 1 .. 511, and of the cells 0 .. 255 the bests and the blocks of array a
 abbrev pub slotsOf : List ℕ → ℕ → ℕ → ℕ
 slotsOf ws = arraysOf ws .slot
 
 abbrev pub bestsOf : List ℕ → ℕ → ℕ → ℕ
 bestsOf ws a i = bestIn (getD ws (cellAt a i) 0)
+
+abbrev pub blocksOf : List ℕ → ℕ → ℕ → ℕ
+blocksOf ws a i = blockIn (getD ws (cellAt a i) 0)
 
 -- how many arrays the words hold besides the header
 abbrev pub arrayCount : List ℕ → ℕ

@@ -130,7 +130,7 @@ pub fn gain(words: &mut [u32], p: usize, i: usize, a: usize)
     let level = level_in(words[from]);
     let n = words[0];
     let m = words[group];
-    array::link::set_link(&mut words[from..to], i, a as u32);
+    settle::link::set_link(&mut words[from..to], i, a as u32);
     retag(words, a, tag_of(p, i, level + 1), n + 1, m + 1);
 }
 
@@ -147,6 +147,6 @@ pub fn release(words: &mut [u32], a: usize)
     let group = (a - 1) / PER_GROUP + 1;
     let n = words[0];
     let m = words[group];
-    array::link::cut_link(&mut words[from..to], i);
+    settle::link::cut_link(&mut words[from..to], i);
     retag(words, a, 0, n - 1, m - 1);
 }

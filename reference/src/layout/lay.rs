@@ -2,7 +2,7 @@
 
 use std::collections::BTreeMap;
 
-use super::{best_of_slots, tag_below, with_best, with_link, CELLS, ROOT_TAG};
+use super::{cells, tag_below, Cell, End, CELLS, ROOT_TAG, UNUSED};
 use crate::address::Address;
 use crate::list::{Prefix, RouteList};
 use crate::memory::ARRAY_WORDS;
@@ -24,7 +24,7 @@ pub fn lay(list: &RouteList, arrays: usize, numbers: &[usize]) -> Vec<u32> {
     for a in used {
         words[0] += 1;
         words[1 + (a - 1) / 8] += 1;
-        fill_bests(&mut words[ARRAY_WORDS * a..ARRAY_WORDS * (a + 1)]);
+        fill_cells(&mut words[ARRAY_WORDS * a..ARRAY_WORDS * (a + 1)]);
     }
     words
 }
@@ -51,8 +51,7 @@ fn parent(level: u32, head: u32) -> (u32, u32) {
 /// Links array `a` from its parent and tags it. Parents come first in the order of levels, so theirs is set already.
 fn hang(words: &mut [u32], parent: usize, a: usize, level: u32, head: u32) {
     let cell = head.byte(level - 1);
-    let word = &mut words[ARRAY_WORDS * parent + CELLS + cell];
-    *word = with_link(*word, a as u32 - 1);
+    words[ARRAY_WORDS * parent + CELLS + cell] = Cell { hop: 0, length: 0, end: End::Link(a as u32) }.word();
     words[ARRAY_WORDS * a] = tag_below(parent, cell, words[ARRAY_WORDS * parent]);
 }
 
@@ -63,8 +62,10 @@ fn slot(prefix: Prefix) -> usize {
     (1 << bits) + value as usize
 }
 
-fn fill_bests(block: &mut [u32]) {
-    for cell in 0..256 {
-        block[CELLS + cell] = with_best(block[CELLS + cell], best_of_slots(|slot| block[slot], cell));
+/// Bests and blocks, where the links stand already.
+fn fill_cells(page: &mut [u32]) {
+    let links: Vec<_> = page[CELLS..UNUSED].iter().map(|&word| Cell::of(word).link()).collect();
+    for (cell, word) in cells(&page[..CELLS], &links).into_iter().zip(&mut page[CELLS..UNUSED]) {
+        *word = cell.word();
     }
 }

@@ -1,13 +1,15 @@
 //! A reading of docs/LAYOUT.md: which words are a table and of which list, what the lookup's walk gives on any
 //! words, and words laid out for a list with freely chosen array numbers.
 
+mod cell;
 mod lay;
 mod read;
 mod walk;
 
+pub use cell::{Cell, End, HOPS, LINKS, MOST};
 pub use lay::lay;
 pub use read::{check, read};
-pub use walk::{walk, Found};
+pub use walk::{trace, walk, Found, Odd, Walked};
 
 use crate::memory::{arrays_in, ARRAY_WORDS};
 
@@ -15,10 +17,6 @@ use crate::memory::{arrays_in, ARRAY_WORDS};
 pub const CELLS: usize = 512;
 /// The first word after the cells: from there to the array's end no word has a use, whatever it holds.
 pub const UNUSED: usize = 768;
-/// The word of a cell is its best times this, and its link.
-pub const LINKS: u32 = 4096;
-/// A best is the cover's length within the array times this, and its hop.
-pub const HOPS: u32 = 65_536;
 /// The tag of the root, which is array 1.
 pub const ROOT_TAG: u32 = 1;
 /// The levels, one for each byte of an address.
@@ -47,28 +45,25 @@ impl<'a> Arrays<'a> {
     }
 
     /// All words of array `a`, from 1.
-    pub fn block(&self, a: usize) -> &'a [u32] {
+    pub fn page(&self, a: usize) -> &'a [u32] {
         &self.words[ARRAY_WORDS * a..ARRAY_WORDS * (a + 1)]
     }
 
     pub fn tag(&self, a: usize) -> u32 {
-        self.block(a)[0]
+        self.page(a)[0]
     }
 
     pub fn slot(&self, a: usize, slot: usize) -> u32 {
-        self.block(a)[slot]
+        self.page(a)[slot]
     }
 
-    pub fn best(&self, a: usize, cell: usize) -> u32 {
-        self.block(a)[CELLS + cell] / LINKS
+    pub fn cell(&self, a: usize, cell: usize) -> Cell {
+        Cell::of(self.page(a)[CELLS + cell])
     }
 
-    /// The number of the array that the link of a cell leads to, which the words need not hold; 0 for none.
-    pub fn below(&self, a: usize, cell: usize) -> u32 {
-        match self.block(a)[CELLS + cell] % LINKS {
-            0 => 0,
-            link => link + 1,
-        }
+    /// The number of the array that the link of a cell leads to, which the words need not hold.
+    pub fn below(&self, a: usize, cell: usize) -> Option<u32> {
+        self.cell(a, cell).link()
     }
 
     /// The array of that number, if the words hold it; 0 is none.
@@ -82,24 +77,29 @@ pub fn tag_below(parent: usize, cell: usize, parent_tag: u32) -> u32 {
     parent as u32 * 8192 + cell as u32 * 32 + (parent_tag % 32 + 1)
 }
 
-/// What the best of a cell must be: length within the array and hop of its longest slot that covers the cell.
-pub fn best_of_slots(slots: impl Fn(usize) -> u32, cell: usize) -> u32 {
-    let mut slot = 256 + cell;
-    while slot > 1 && slots(slot) == 0 {
-        slot /= 2;
-    }
-    match slots(slot) {
-        0 => 0,
-        hop => slot.ilog2() * HOPS + hop,
-    }
+/// What the cells must be, with these slots and these links: a cell's best is the longest slot that covers it, and its block the
+/// length of the largest box around it inside which no other slot is taken and no cell has a link.
+pub fn cells(slots: &[u32], links: &[Option<u32>]) -> Vec<Cell> {
+    let busy = busy(slots, links);
+    // The slots of the boxes around a cell, the largest first: length 0 has slot 1.
+    let boxes = |cell: usize| (0..=MOST).map(move |length| (length, (256 + cell) >> (MOST - length)));
+    let cell = |(cell, link): (usize, &Option<u32>)| {
+        let best = boxes(cell).filter(|&(_, slot)| slots[slot] != 0).last();
+        let (length, hop) = best.map_or((0, 0), |(length, slot)| (length, slots[slot]));
+        let block = || boxes(cell).find(|&(_, slot)| !busy[slot]).map_or(MOST, |(length, _)| length);
+        Cell { hop, length, end: link.map_or_else(|| End::Block(block()), End::Link) }
+    };
+    links.iter().enumerate().map(cell).collect()
 }
 
-/// The word of a cell with this best, its link as it was.
-pub fn with_best(word: u32, best: u32) -> u32 {
-    best * LINKS + word % LINKS
-}
-
-/// The word of a cell with this link, its best as it was.
-pub fn with_link(word: u32, link: u32) -> u32 {
-    word / LINKS * LINKS + link
+/// For each slot, whether another is taken inside its box or a cell has a link there.
+fn busy(slots: &[u32], links: &[Option<u32>]) -> Vec<bool> {
+    let mut busy = vec![false; 512];
+    for slot in (1..512).rev() {
+        busy[slot] = match slot {
+            256.. => links[slot - 256].is_some(),
+            _ => [2 * slot, 2 * slot + 1].into_iter().any(|half| slots[half] != 0 || busy[half]),
+        };
+    }
+    busy
 }

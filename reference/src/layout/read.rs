@@ -1,6 +1,6 @@
 //! Which words are a table, and the list that they stand for.
 
-use super::{best_of_slots, tag_below, Arrays, LEVELS, ROOT_TAG, UNUSED};
+use super::{cells, tag_below, Arrays, CELLS, LEVELS, ROOT_TAG, UNUSED};
 use crate::list::{Prefix, RouteList};
 use crate::memory::{Counts, Memory, ARRAY_WORDS};
 use crate::refusal::Refusal;
@@ -25,7 +25,7 @@ fn is_table(arrays: &Arrays) -> bool {
     header_right(arrays)
         && arrays.tag(1) == ROOT_TAG
         && all.clone().all(|a| free_is_zero(arrays, a) && tag_right(arrays, a) && links_right(arrays, a))
-        && all.clone().all(|a| arrays.tag(a) == 0 || (slots_right(arrays, a) && bests_right(arrays, a)))
+        && all.clone().all(|a| arrays.tag(a) == 0 || (slots_right(arrays, a) && cells_right(arrays, a)))
 }
 
 /// The counts of used arrays, in all and by groups of eight, and zeros after them.
@@ -39,7 +39,7 @@ fn header_right(arrays: &Arrays) -> bool {
 }
 
 fn free_is_zero(arrays: &Arrays, a: usize) -> bool {
-    arrays.tag(a) != 0 || arrays.block(a)[..UNUSED].iter().all(|&word| word == 0)
+    arrays.tag(a) != 0 || arrays.page(a)[..UNUSED].iter().all(|&word| word == 0)
 }
 
 /// A used array but the root hangs where its tag says, and holds something.
@@ -49,18 +49,18 @@ fn tag_right(arrays: &Arrays, a: usize) -> bool {
         return true;
     }
     let hangs = match arrays.held(tag / 8192) {
-        Some(parent) => arrays.below(parent, (tag / 32 % 256) as usize) == a as u32,
+        Some(parent) => arrays.below(parent, (tag / 32 % 256) as usize) == Some(a as u32),
         None => false,
     };
-    hangs && ((2..512).any(|slot| arrays.slot(a, slot) != 0) || (0..256).any(|cell| arrays.below(a, cell) != 0))
+    hangs && ((2..512).any(|slot| arrays.slot(a, slot) != 0) || (0..256).any(|cell| arrays.below(a, cell).is_some()))
 }
 
 /// Each link leads to an array whose tag names that cell, one level down, and none leaves the last level.
 fn links_right(arrays: &Arrays, a: usize) -> bool {
     let tag = arrays.tag(a);
     (0..256).all(|cell| match arrays.below(a, cell) {
-        0 => true,
-        number => match arrays.held(number) {
+        None => true,
+        Some(number) => match arrays.held(number) {
             Some(below) => tag % 32 < LEVELS && arrays.tag(below) == tag_below(a, cell, tag),
             None => false,
         },
@@ -72,8 +72,10 @@ fn slots_right(arrays: &Arrays, a: usize) -> bool {
     in_range && (a == 1 || arrays.slot(a, 1) == 0)
 }
 
-fn bests_right(arrays: &Arrays, a: usize) -> bool {
-    (0..256).all(|cell| arrays.best(a, cell) == best_of_slots(|slot| arrays.slot(a, slot), cell))
+/// Each best and each block is what slots and links make it.
+fn cells_right(arrays: &Arrays, a: usize) -> bool {
+    let links: Vec<_> = (0..256).map(|cell| arrays.below(a, cell)).collect();
+    cells(&arrays.page(a)[..CELLS], &links).into_iter().enumerate().all(|(at, cell)| arrays.cell(a, at) == cell)
 }
 
 /// Adds the routes of array `a`, whose head is `head`, and of all that hangs below it.
@@ -89,7 +91,7 @@ fn collect(arrays: &Arrays, a: usize, level: u32, head: u32, list: &mut RouteLis
         }
     }
     for cell in 0..256 {
-        if let Some(below) = arrays.held(arrays.below(a, cell)) {
+        if let Some(below) = arrays.below(a, cell).and_then(|number| arrays.held(number)) {
             collect(arrays, below, level + 1, head | (cell as u32) << (24 - 8 * level), list);
         }
     }

@@ -49,17 +49,17 @@ add-reply c = search needs
 slice-write-reply-3 : tie.Need-slice-write-reply-3
 slice-write-reply-3 c = omega (arith, simp length-set at (c .before .before .put-two3 .kept))
 
-add-result-2 : tie.Need-add-result-2
-add-result-2 c = search needs
+cast-reply-2 : tie.Need-cast-reply-2
+cast-reply-2 c = search needs
 
-enum-told : tie.Need-enum-told
-enum-told c = search needs
+add-reply-2 : tie.Need-add-reply-2
+add-reply-2 c = search needs
 
 slice-write-reply-4 : tie.Need-slice-write-reply-4
-slice-write-reply-4 c = search needs
+slice-write-reply-4 c = simp length-set (omega (arith, simp length-set at (c .before .before .put-two3 .kept)))
 
-add-result-3 : tie.Need-add-result-3
-add-result-3 c = search needs
+add-result-2 : tie.Need-add-result-2
+add-result-2 c = search needs
 
 enum-known-r-3 : tie.Need-enum-known-r-3
 enum-known-r-3 c = search needs
@@ -67,14 +67,32 @@ enum-known-r-3 c = search needs
 slice-write-reply-5 : tie.Need-slice-write-reply-5
 slice-write-reply-5 c = search needs
 
-cast-reply-2 : tie.Need-cast-reply-2
-cast-reply-2 c = search needs
+cast-reply-3 : tie.Need-cast-reply-3
+cast-reply-3 c = search needs
 
-add-reply-2 : tie.Need-add-reply-2
-add-reply-2 c = search needs
+add-reply-3 : tie.Need-add-reply-3
+add-reply-3 c = search needs
 
 slice-write-reply-6 : tie.Need-slice-write-reply-6
 slice-write-reply-6 c = simp length-set (omega arith)
+
+add-result-3 : tie.Need-add-result-3
+add-result-3 c = search needs
+
+enum-known-r-4 : tie.Need-enum-known-r-4
+enum-known-r-4 c = search needs
+
+slice-write-reply-7 : tie.Need-slice-write-reply-7
+slice-write-reply-7 c = search needs
+
+cast-reply-4 : tie.Need-cast-reply-4
+cast-reply-4 c = search needs
+
+add-reply-4 : tie.Need-add-reply-4
+add-reply-4 c = search needs
+
+slice-write-reply-8 : tie.Need-slice-write-reply-8
+slice-write-reply-8 c = simp length-set (omega arith)
 
 add-result-4 : tie.Need-add-result-4
 add-result-4 c = search needs
@@ -92,19 +110,19 @@ same-length-2 : tie.Need-same-length-2
 same-length-2 c = simp length-set (c .before .before .put-two3 .kept .0 ∙ simp length-set)
 
 returns-2 : tie.Need-returns-2
-returns-2 c = put-found _ _ _ _ _ _ (c .before .before .before .before .before .r2 .given .1) (c .before .before .put-two3 .ensures)
+returns-2 c = put-found _ _ _ _ _ _ _ (c .before .before .before .before .before .r2 .given .1) (c .before .before .put-two3 .ensures)
 
 same-length-3 : tie.Need-same-length-3
 same-length-3 c = search needs
 
 returns-3 : tie.Need-returns-3
-returns-3 c = put-nothing _ _ (c .before .before .before .args .r) (c .enum-told .given .1)
+returns-3 c = put-nothing _ _ _ _ (c .before .r3 .given .1)
 
 same-length-4 : tie.Need-same-length-4
 same-length-4 c = search needs
 
 returns-4 : tie.Need-returns-4
-returns-4 c = put-refused _ _ _ _ (c .before .r3 .given .1)
+returns-4 c = put-refused _ _ _ _ (c .before .r4 .given .1)
 
 pub put-spec : {M : Type 1} → statement M
 put-spec =
@@ -124,15 +142,21 @@ put-spec =
     cast-reply
     add-reply
     slice-write-reply-3
-    add-result-2
-    enum-told
-    slice-write-reply-4
-    add-result-3
-    enum-known-r-3
-    slice-write-reply-5
     cast-reply-2
     add-reply-2
+    slice-write-reply-4
+    add-result-2
+    enum-known-r-3
+    slice-write-reply-5
+    cast-reply-3
+    add-reply-3
     slice-write-reply-6
+    add-result-3
+    enum-known-r-4
+    slice-write-reply-7
+    cast-reply-4
+    add-reply-4
+    slice-write-reply-8
     add-result-4
     same-length
     returns

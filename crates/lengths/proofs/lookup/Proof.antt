@@ -1,6 +1,6 @@
 -- `lengths::lookup` meets its contract: each return is one law of the walk. Assumes nothing.
 use mathlib.Core.Path.{_≡_, ap, _∙_}
-use Rattle.routes.specs.Answers.{refused}
+use Rattle.routes.specs.Seen.{refuses}
 use Rattle.lengths.specs.Layout.{answered, walk}
 use Rattle.replies.specs.Said.{saidMatch}
 use Rattle.lengths.proofs.Searching.{walk-short, walk-strange, walk-search, of-list}
@@ -12,8 +12,8 @@ use Rattle.lengths.proofs.lookup.Tie as tie
 returns : tie.Need-returns
 returns c =
     let a = c .before .before .args in
-    let w : refused 2 ≡ walk (a .words .now) (a .address) = walk-short (a .words .now) (a .address) (c .if1 .taken) in
-    (w, of-list (a .words .now) (a .address) (refused 2) (omega arith) w)
+    let w : refuses 2 ≡ walk (a .words .now) (a .address) = walk-short (a .words .now) (a .address) (c .if1 .taken) in
+    (w, of-list (a .words .now) (a .address) (refuses 2) (omega arith) w)
 
 shared-slice-read-default : tie.Need-shared-slice-read-default
 shared-slice-read-default c = search needs
@@ -25,9 +25,9 @@ returns-2 : tie.Need-returns-2
 returns-2 c =
     let a = c .before .before .before .before .before .args in
     let if1 = c .before .before .before .if1 in
-    let w : refused 2 ≡ walk (a .words .now) (a .address) =
+    let w : refuses 2 ≡ walk (a .words .now) (a .address) =
     walk-strange (a .words .now) (a .address) (c .before .strange .result) (if1 .left) (c .before .strange .ensures) (c .if2 .taken) in
-    (w, of-list (a .words .now) (a .address) (refused 2) (omega arith) w)
+    (w, of-list (a .words .now) (a .address) (refuses 2) (omega arith) w)
 
 search-from-requires : tie.Need-search-from-requires
 search-from-requires c κs = search needs

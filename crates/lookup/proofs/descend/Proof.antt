@@ -1,15 +1,18 @@
 -- `lookup::descend` is the layout's walk. The loop's invariant: what is left of the walk, from this array on and with the best so far,
--- is the whole walk; and that best is in its range while a level is left. The measure is the levels left. Assumes nothing.
-use mathlib.Core.Path.{_≡_, sym, _∙_}
-use Prim.Native.Nat.{_+_, _*_, _-_, _/_, _≤_}
+-- is the whole walk. The measure is the levels left. Assumes nothing.
+use mathlib.Core.Path.{_≡_, sym, ap, _∙_}
+use mathlib.Core.Logic.{_≢_}
+use Prim.Native.Nat.{_+_, _*_, _-_, _≤_, _<_}
 use native.Mathlib.Omega.{arith}
-use lib.ListN.{length}
+use lib.ListN.{length, getD}
 use borrow.Author.Needs.{needs}
-use Rattle.sizes.specs.Sizes.{cellAt, hopBound}
+use Rattle.logic.specs.Bools.{not-true, not-false}
+use Rattle.sizes.specs.Sizes.{cellAt}
 use Rattle.routes.specs.Match.{none}
 use Rattle.numbers.specs.Number.{number}
+use Rattle.array.specs.Cell.{bestIn, linkIn, linked-by, unlinked-by}
 use Rattle.lookup.specs.Walk.{deeper, walkFrom, walk}
-use Rattle.lookup.proofs.Laws.{ended-astray, no-link, bad-link, onward, walk-none}
+use Rattle.lookup.proofs.Laws.{newer-found, no-link, too-long, bad-link, onward, walk-none}
 use Rattle.lookup.proofs.descend.Statement.{statement}
 use Rattle.lookup.proofs.descend.Tie as tie
 
@@ -18,7 +21,6 @@ Inv-loop words address arrays a₀ best₀ k₀ a best k =
     let L = length address in
     let x = number address in
     (k ≤ L) × (1 ≤ a) × (a ≤ arrays) × (walkFrom L words x (L - k) a (deeper 0 none best) ≡ walk L words x)
-    × (1 ≤ L - k → best / hopBound ≤ 8 * L)
 
 abbrev μ-loop : tie.MeasureT-loop
 μ-loop words address arrays a₀ best₀ k₀ a best k = length address - k
@@ -30,7 +32,7 @@ loop-holds : tie.Need-loop-holds Inv-loop μ-loop
 loop-holds c =
     let L = length (c .before .before .before .args .address .now) in
     let e : L - 0 ≡ L = omega arith in
-    (omega arith, omega arith, omega arith, rw e, λ h. omega arith)
+    (omega arith, omega arith, omega arith, rw e)
 
 byte-at-requires : tie.Need-byte-at-requires Inv-loop μ-loop
 byte-at-requires c κs = search needs
@@ -38,52 +40,79 @@ byte-at-requires c κs = search needs
 cell-requires : tie.Need-cell-requires Inv-loop μ-loop
 cell-requires c κs = (omega arith, omega arith)
 
-best-in-requires : tie.Need-best-in-requires Inv-loop μ-loop
-best-in-requires c κs = search needs
+cast-base : tie.Need-cast-base Inv-loop μ-loop
+cast-base c = search needs
 
-cast-newer : tie.Need-cast-newer Inv-loop μ-loop
-cast-newer c = search needs
+mul-base : tie.Need-mul-base Inv-loop μ-loop
+mul-base c = search needs
 
-mul-newer : tie.Need-mul-newer Inv-loop μ-loop
-mul-newer c = search needs
+has-link-requires : tie.Need-has-link-requires Inv-loop μ-loop
+has-link-requires c κs = search needs
 
-newer-requires : tie.Need-newer-requires Inv-loop μ-loop
-newer-requires c κs = (c .best-in .ensures .1, omega arith)
-
-link-in-requires : tie.Need-link-in-requires Inv-loop μ-loop
-link-in-requires c κs = search needs
+last-requires : tie.Need-last-requires Inv-loop μ-loop
+last-requires c κs =
+    (unlinked-by _ _ (c .before .has-link .ensures) (not-true _ (c .if1 .taken)), omega arith)
 
 returns : tie.Need-returns Inv-loop μ-loop
 returns c =
-    let u = c .before in
-    let l = u .before .before .before .before .before .before .loop in
-    let s = u .before .before .before .before .before .before .before .before .before .before .args in
-    let w = u .before .before .before .cell in
+    let h = c .before .before in
+    let w = h .before in
+    let y = w .before .byte-at in
+    let l = w .before .before .before .loop in
+    let s = w .before .before .before .before .before .before .before .args in
+    let ws = s .words .now in
     let L = length (s .address .now) in
-    let y = u .before .before .before .before .byte-at in
-    let n = rw (w .ensures) at (u .link-in .ensures .0) in
-    let e = rw (u .before .before .best-in .ensures .0, w .ensures) at (u .before .newer .ensures) in
-    no-link L (s .words .now) (number (s .address .now)) (l .k) (L - l .k) (l .a) (l .best) _ (y .result) (omega arith) (omega arith)
-    (y .ensures .0) (l .inv .4 (omega arith)) e (sym n ∙ c .if1 .taken)
+    let z : linkIn (w .cell .result) ≡ 0 = unlinked-by _ _ (h .has-link .ensures) (not-true _ (c .before .if1 .taken)) in
+    let e = w .cell .ensures in
+    (rw e at (c .last .ensures))
+    ∙ no-link L ws (number (s .address .now)) (l .k) (L - l .k) (l .a) (y .result) (deeper 0 none (l .best)) (omega arith) (omega arith)
+    (y .ensures .0) (sym (ap linkIn e) ∙ z)
     ∙ l .inv .3
 
-mul-result : tie.Need-mul-result Inv-loop μ-loop
-mul-result c = search needs
+best-linked-requires : tie.Need-best-linked-requires Inv-loop μ-loop
+best-linked-requires c κs = linked-by _ _ (c .before .has-link .ensures) (not-false _ (c .if1 .left))
+
+astray-requires : tie.Need-astray-requires Inv-loop μ-loop
+astray-requires c κs = search needs
 
 returns-2 : tie.Need-returns-2 Inv-loop μ-loop
 returns-2 c =
-    let u = c .before .before in
-    let l = u .before .before .before .before .before .before .loop in
-    let s = u .before .before .before .before .before .before .before .before .before .before .args in
-    let w = u .before .before .before .cell in
+    let o = c .before .before in
+    let w = o .before .before .before in
+    let y = w .before .byte-at in
+    let l = w .before .before .before .loop in
+    let s = w .before .before .before .before .before .before .before .args in
     let L = length (s .address .now) in
-    let y = u .before .before .before .before .byte-at in
-    let n = rw (w .ensures) at (u .link-in .ensures .0) in
-    let e = rw (u .before .before .best-in .ensures .0, w .ensures) at (u .before .newer .ensures) in
-    ended-astray (8 * L) (omega arith)
-    ∙ bad-link L (s .words .now) (number (s .address .now)) (l .k) (L - l .k) (l .a) (l .best) _ (y .result) (omega arith) (omega arith)
-    (y .ensures .0) (l .inv .4 (omega arith)) e (λ z. c .before .if1 .left (n ∙ z)) (omega (arith, n))
+    let e = ap bestIn (w .cell .ensures) in
+    c .astray .ensures
+    ∙ too-long L (s .words .now) (number (s .address .now)) (l .k) (L - l .k) (l .a) (y .result) (deeper 0 none (l .best)) (omega arith) (omega arith)
+    (y .ensures .0) (omega (arith, o .best-linked .ensures .0, e))
     ∙ l .inv .3
+
+array-below-requires : tie.Need-array-below-requires Inv-loop μ-loop
+array-below-requires c κs = linked-by _ _ (c .before .before .before .has-link .ensures) (not-false _ (c .before .before .if1 .left))
+
+astray-requires-2 : tie.Need-astray-requires-2 Inv-loop μ-loop
+astray-requires-2 c κs = search needs
+
+returns-3 : tie.Need-returns-3 Inv-loop μ-loop
+returns-3 c =
+    let b = c .before .before in
+    let h = b .before .before .before .before in
+    let w = h .before in
+    let y = w .before .byte-at in
+    let l = w .before .before .before .loop in
+    let s = w .before .before .before .before .before .before .before .args in
+    let L = length (s .address .now) in
+    let i = linked-by _ _ (h .has-link .ensures) (not-false _ (b .before .before .before .if1 .left)) in
+    let e = ap linkIn (w .cell .ensures) in
+    c .astray2 .ensures
+    ∙ bad-link L (s .words .now) (number (s .address .now)) (l .k) (L - l .k) (l .a) (y .result) (deeper 0 none (l .best)) (omega arith) (omega arith)
+    (y .ensures .0) (λ z. i (e ∙ z)) (omega (arith, b .array-below .ensures .0, e))
+    ∙ l .inv .3
+
+newer-requires : tie.Need-newer-requires Inv-loop μ-loop
+newer-requires c κs = search needs
 
 add-k : tie.Need-add-k Inv-loop μ-loop
 add-k c = search needs
@@ -93,29 +122,37 @@ loop-less c = search needs
 
 loop-again : tie.Need-loop-again Inv-loop μ-loop
 loop-again c =
-    let u = c .before .before in
-    let l = u .before .before .before .before .before .before .loop in
-    let s = u .before .before .before .before .before .before .before .before .before .before .args in
-    let w = u .before .before .before .cell in
+    let b = c .before .before in
+    let o = b .before .before in
+    let h = o .before .before in
+    let w = h .before in
+    let y = w .before .byte-at in
+    let l = w .before .before .before .loop in
+    let s = w .before .before .before .before .before .before .before .args in
+    let ws = s .words .now in
+    let x = number (s .address .now) in
     let L = length (s .address .now) in
-    let y = u .before .before .before .before .byte-at in
-    let n = rw (w .ensures) at (u .link-in .ensures .0) in
-    let e = rw (u .before .before .best-in .ensures .0, w .ensures) at (u .before .newer .ensures) in
-    let o = onward L (s .words .now) (number (s .address .now)) (l .k) (L - l .k) (l .a) (l .best) _ (y .result) (omega arith) (omega arith)
-    (y .ensures .0) (l .inv .4 (omega arith)) e (λ z. c .before .if1 .left (n ∙ z)) (omega (arith, n))
-    (omega (arith, u .before .before .before .before .before .before .before .before .before .shared-slice-known .given (cellAt (l .a) (y .result)))) in
+    let i : linkIn (w .cell .result) ≢ 0 = linked-by _ _ (h .has-link .ensures) (not-false _ (o .before .if1 .left)) in
+    let e = ap linkIn (w .cell .ensures) in
+    let f = ap bestIn (w .cell .ensures) in
+    let m = deeper 0 none (l .best) in
     let d : L - (l .k + 1) ≡ L - l .k - 1 = omega arith in
-    (omega arith, omega arith, omega arith, rw (d, n) (o .0) ∙ l .inv .3, λ h. o .1 (omega arith))
+    let q : o .best-linked .result ≡ bestIn (getD ws (cellAt (l .a) (y .result)) 0) = o .best-linked .ensures .0 ∙ f in
+    let p : b .array-below .result ≡ linkIn (getD ws (cellAt (l .a) (y .result)) 0) = b .array-below .ensures .0 ∙ e in
+    let n = rw q at (newer-found (l .best) (o .best-linked .result) (8 * l .k) _ (c .newer .ensures)) in
+    let on = onward L ws x (l .k) (L - l .k) (l .a) (y .result) m (omega arith) (omega arith) (y .ensures .0)
+    (omega (arith, q)) (λ z. i (e ∙ z)) (omega (arith, p)) in
+    (omega arith, omega arith, omega arith, rw (d, p, n) on ∙ l .inv .3)
 
-mul-result-2 : tie.Need-mul-result-2 Inv-loop μ-loop
-mul-result-2 c = search needs
+astray-requires-3 : tie.Need-astray-requires-3 Inv-loop μ-loop
+astray-requires-3 c κs = search needs
 
-returns-3 : tie.Need-returns-3 Inv-loop μ-loop
-returns-3 c =
-    let l = c .before .loop in
-    let s = c .before .before .before .before .before .args in
+returns-4 : tie.Need-returns-4 Inv-loop μ-loop
+returns-4 c =
+    let l = c .before .before .loop in
+    let s = c .before .before .before .before .before .before .args in
     let L = length (s .address .now) in
-    ended-astray (8 * L) (omega arith)
+    c .astray3 .ensures
     ∙ walk-none L (s .words .now) (number (s .address .now)) (L - l .k) (l .a) (deeper 0 none (l .best)) (omega arith)
     ∙ l .inv .3
 
@@ -129,16 +166,20 @@ descend-spec =
     loop-holds
     byte-at-requires
     cell-requires
-    best-in-requires
-    cast-newer
-    mul-newer
-    newer-requires
-    link-in-requires
+    cast-base
+    mul-base
+    has-link-requires
+    last-requires
     returns
-    mul-result
+    best-linked-requires
+    astray-requires
     returns-2
+    array-below-requires
+    astray-requires-2
+    returns-3
+    newer-requires
     add-k
     loop-less
     loop-again
-    mul-result-2
-    returns-3)
+    astray-requires-3
+    returns-4)

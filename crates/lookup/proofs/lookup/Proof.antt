@@ -1,74 +1,17 @@
--- `lookup::lookup` refuses a wrong size, and else gives what the walk gives; that this is what the words are seen to give is a law.
--- Assumes nothing.
-use mathlib.Core.Path.{_≡_, sym, ap, _∙_}
-use native.Mathlib.Omega.{arith}
-use lib.ListN.{length}
+-- `lookup::lookup` tells where the walk ends. Assumes nothing.
+use mathlib.Core.Path.{_∙_}
 use borrow.Author.Needs.{needs}
-use Rattle.numbers.specs.Number.{number}
-use Rattle.address.specs.Four.{four-number}
-use Rattle.words.specs.View.{no-misfit-fits}
-use Rattle.lookup.proofs.Laws.{small-words, gave-bad, gave-good, both}
 use Rattle.lookup.proofs.lookup.Statement.{statement}
 use Rattle.lookup.proofs.lookup.Tie as tie
 
-misfit-requires : tie.Need-misfit-requires
-misfit-requires c κs = search needs
+walk-of-requires : tie.Need-walk-of-requires
+walk-of-requires c κs = search needs
+
+told-requires : tie.Need-told-requires
+told-requires c κs = search needs
 
 returns : tie.Need-returns
-returns c =
-    let a = c .before .before .before .args in
-    let ws = a .words .now in
-    both 4 ws (a .address) _ (omega arith) (omega arith) (omega arith)
-    (small-words 4 ws (a .address) (sym (c .before .misfit .ensures) ∙ c .if1 .taken))
-
-four-of-requires : tie.Need-four-of-requires
-four-of-requires c κs = search needs
-
-slice-aggregate-descend : tie.Need-slice-aggregate-descend
-slice-aggregate-descend c = search needs
-
-descend-requires : tie.Need-descend-requires
-descend-requires c κs =
-    let e : length (c .before .four-of .result) ≡ 4 = search needs in
-    (no-misfit-fits _ (sym (c .before .before .before .misfit .ensures) ∙ c .before .before .if1 .left), omega arith)
-
-returns-2 : tie.Need-returns-2
-returns-2 c =
-    let d = c .before in
-    let f = d .before .before in
-    let a = f .before .before .before .before .args in
-    let ws = a .words .now in
-    let e : length (f .four-of .result) ≡ 4 = search needs in
-    let v : number (f .four-of .result) ≡ a .address = ap number (f .four-of .ensures) ∙ four-number (a .address) (omega arith) in
-    both 4 ws (a .address) _ (omega arith) (omega arith) (omega arith)
-    (gave-bad 4 ws (a .address) _ (sym (f .before .before .misfit .ensures) ∙ f .before .if1 .left) (rw (e, v) at (d .descend .ensures))
-    (c .if2 .taken))
-
-found-requires : tie.Need-found-requires
-found-requires c κs = search needs
-
-returns-3 : tie.Need-returns-3
-returns-3 c =
-    let d = c .before .before in
-    let f = d .before .before in
-    let a = f .before .before .before .before .args in
-    let ws = a .words .now in
-    let e : length (f .four-of .result) ≡ 4 = search needs in
-    let v : number (f .four-of .result) ≡ a .address = ap number (f .four-of .ensures) ∙ four-number (a .address) (omega arith) in
-    both 4 ws (a .address) _ (omega arith) (omega arith) (omega arith)
-    (c .found .ensures
-    ∙ gave-good 4 ws (a .address) _ (sym (f .before .before .misfit .ensures) ∙ f .before .if1 .left)
-    (rw (e, v) at (d .descend .ensures)) (c .before .if2 .left))
+returns c = (c .told .ensures ∙ c .before .walk-of .ensures .0, c .told .ensures ∙ c .before .walk-of .ensures .1)
 
 pub lookup-spec : {M : Type 1} → statement M
-lookup-spec =
-    tie.close
-    (tie.spec
-    misfit-requires
-    returns
-    four-of-requires
-    slice-aggregate-descend
-    descend-requires
-    returns-2
-    found-requires
-    returns-3)
+lookup-spec = tie.close (tie.spec walk-of-requires told-requires returns)

@@ -5,18 +5,15 @@ use lib.ListN.{length}
 use borrow.Author.Needs.{needs}
 use Rattle.numbers.specs.Number.{number, number-lt}
 use Rattle.words.specs.View.{fits-no-misfit}
-use Rattle.lookup.proofs.Laws.{gave-bad, gave-good, both}
+use Rattle.lookup.proofs.Laws.{gave, both}
 use Rattle.lookup.proofs.lookup_on.Statement.{statement}
 use Rattle.lookup.proofs.lookup_on.Tie as tie
 
 descend-requires : tie.Need-descend-requires
 descend-requires c κs = search needs
 
-cast-if1 : tie.Need-cast-if1
-cast-if1 c = search needs
-
-mul-if1 : tie.Need-mul-if1
-mul-if1 c = search needs
+told-requires : tie.Need-told-requires
+told-requires c κs = search needs
 
 returns : tie.Need-returns
 returns c =
@@ -26,23 +23,8 @@ returns c =
     let ws = s .args .words .now in
     let bs = s .args .address .now in
     both (length bs) ws (number bs) _ (s .pre .1) (s .pre .2) (number-lt bs (λ i. omega (arith, k .shared-slice-known2 .given i)))
-    (gave-bad (length bs) ws (number bs) _ (fits-no-misfit _ (s .pre .0)) (d .descend .ensures) (c .if1 .taken))
-    .0
-
-found-requires : tie.Need-found-requires
-found-requires c κs = search needs
-
-returns-2 : tie.Need-returns-2
-returns-2 c =
-    let d = c .before .before in
-    let k = d .before in
-    let s = k .before .before in
-    let ws = s .args .words .now in
-    let bs = s .args .address .now in
-    both (length bs) ws (number bs) _ (s .pre .1) (s .pre .2) (number-lt bs (λ i. omega (arith, k .shared-slice-known2 .given i)))
-    (c .found .ensures
-    ∙ gave-good (length bs) ws (number bs) _ (fits-no-misfit _ (s .pre .0)) (d .descend .ensures) (c .before .if1 .left))
+    (c .told .ensures ∙ gave (length bs) ws (number bs) (d .descend .result) (fits-no-misfit _ (s .pre .0)) (d .descend .ensures))
     .0
 
 pub lookup-on-spec : {M : Type 1} → statement M
-lookup-on-spec = tie.close (tie.spec descend-requires cast-if1 mul-if1 returns found-requires returns-2)
+lookup-on-spec = tie.close (tie.spec descend-requires told-requires returns)

@@ -1,41 +1,31 @@
--- `toggleash::finding` meets its contract: each case of the answer is its fields. Assumes nothing.
+-- `toggleash::finding` meets its contract: a refusal, or the numbers of what was found, which are 0 for none. Assumes nothing.
+use Prim.Native.Nat.{_/_}
+use native.Mathlib.Omega.{arith}
 use borrow.Author.Needs.{needs}
+use Rattle.sizes.specs.Sizes.{hopBound}
+use Rattle.toggleash.proofs.Laws.{once, looked-refused, looked-end}
 use Rattle.toggleash.proofs.finding.Statement.{statement}
 use Rattle.toggleash.proofs.finding.Tie as tie
 
-enum-told : tie.Need-enum-told
-enum-told c = search needs
-
-enum-known-answer : tie.Need-enum-known-answer
-enum-known-answer c = search needs
-
-enum-told-2 : tie.Need-enum-told-2
-enum-told-2 c = search needs
-
-enum-known-answer-2 : tie.Need-enum-known-answer-2
-enum-known-answer-2 c = search needs
+sub-t5 : tie.Need-sub-t5
+sub-t5 c = search needs
 
 returns : tie.Need-returns
-returns c = rw (c .enum-told .given .1)
+returns c = looked-refused (c .before .before .before .args .end) (c .before .if1 .taken)
+
+some-requires : tie.Need-some-requires
+some-requires c κs = search needs
+
+mul-t7 : tie.Need-mul-t7
+mul-t7 c =
+    let f = c .before .some in
+    let e = c .before .before .before .before .before .args .end in
+    omega (arith, once (f .result) (e .best / hopBound) (f .ensures .1))
 
 returns-2 : tie.Need-returns-2
-returns-2 c = rw (c .before .answer .given .1)
-
-returns-3 : tie.Need-returns-3
-returns-3 c = rw (c .enum-told2 .given .1)
-
-returns-4 : tie.Need-returns-4
-returns-4 c = rw (c .before .answer2 .given .1)
+returns-2 c =
+    let f = c .before .some in
+    looked-end (c .before .before .before .before .before .args .end) (f .result) (f .ensures .0) (c .before .before .before .if1 .left)
 
 pub finding-spec : {M : Type 1} → statement M
-finding-spec =
-    tie.close
-    (tie.spec
-    enum-told
-    enum-known-answer
-    enum-told-2
-    enum-known-answer-2
-    returns
-    returns-2
-    returns-3
-    returns-4)
+finding-spec = tie.close (tie.spec sub-t5 returns some-requires mul-t7 returns-2)

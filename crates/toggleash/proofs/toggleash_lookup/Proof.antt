@@ -1,18 +1,18 @@
--- `toggleash::toggleash_lookup` meets its contract: its fields are those of what the lookup tells. Assumes nothing.
+-- `toggleash::toggleash_lookup` meets its contract: its fields are those of where the walk ends. Assumes nothing.
 use mathlib.Core.Path.{ap, _∙_}
 use Rattle.toggleash.specs.Face.{looked}
 use borrow.Author.Needs.{needs}
 use Rattle.toggleash.proofs.toggleash_lookup.Statement.{statement}
 use Rattle.toggleash.proofs.toggleash_lookup.Tie as tie
 
-lookup-requires : tie.Need-lookup-requires
-lookup-requires c κs = search needs
+walk-of-requires : tie.Need-walk-of-requires
+walk-of-requires c κs = search needs
 
 finding-requires : tie.Need-finding-requires
 finding-requires c κs = search needs
 
 returns : tie.Need-returns
-returns c = c .finding .ensures ∙ ap looked (c .before .lookup .ensures .0)
+returns c = c .finding .ensures ∙ ap looked (c .before .walk-of .ensures .0)
 
 pub toggleash-lookup-spec : {M : Type 1} → statement M
-toggleash-lookup-spec = tie.close (tie.spec lookup-requires finding-requires returns)
+toggleash-lookup-spec = tie.close (tie.spec walk-of-requires finding-requires returns)

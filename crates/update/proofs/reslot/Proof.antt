@@ -3,7 +3,7 @@ use mathlib.Core.Path.{_≡_, refl}
 use Prim.Native.Nat.{_+_, _-_}
 use native.Mathlib.Omega.{arith}
 use Rattle.sizes.specs.Sizes.{arrayWords, arrayAt}
-use Rattle.update.specs.Seat.{seat-spot, seated}
+use Rattle.update.specs.Seat.{seat-spot, seat-settled, seated}
 use borrow.Author.Needs.{needs}
 use Rattle.update.proofs.reslot.Statement.{statement}
 use Rattle.update.proofs.reslot.Tie as tie
@@ -35,8 +35,11 @@ reslot-requires c κs =
     let a = t .args .a in
     let p = t .args .p in
     let e : arrayAt (a + 1) - arrayAt a ≡ arrayWords = omega arith in
-    rw (c .before .array-at2 .ensures, c .before .before .array-at .ensures, e)
-    (seat-spot (t .args .words .now) a (p .level) (p .depth) (p .value) (t .pre .0), t .pre .1)
+    rw (c .before .array-at2 .ensures, c .before .before .array-at .ensures, e) (
+      seat-spot (t .args .words .now) a (p .level) (p .depth) (p .value) (t .pre .0),
+      seat-settled (t .args .words .now) a (p .level) (p .depth) (p .value) (t .pre .0),
+      t .pre .1,
+    )
 
 same-length : tie.Need-same-length
 same-length c = search needs
@@ -52,7 +55,7 @@ returns c =
     let r = c .before .before .reslot in
     let g = rw (to, from, e) at (r .ensures) in
     rw (to, from, e) (seated (t .args .words .now) _ (r .last .0) a (p .level) (p .depth) (p .value) (t .args .hop) (r .result)
-    (t .pre .0) (g .0) (g .1) refl)
+    (t .pre .0) (g .0) (g .1) (g .2) refl)
 
 pub reslot-spec : {M : Type 1} → statement M
 reslot-spec =

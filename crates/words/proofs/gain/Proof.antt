@@ -4,7 +4,7 @@ use Prim.Native.Nat.{_+_, _-_}
 use native.Mathlib.Omega.{arith}
 use Rattle.sizes.specs.Sizes.{arrayWords, arrayAt}
 use Rattle.array.specs.Frame.{page-length}
-use Rattle.words.specs.Lent.{lent-link}
+use Rattle.words.specs.Lent.{lent-best, lent-link, page-settled}
 use Rattle.words.specs.Rehung.{rehangs}
 use borrow.Author.Needs.{needs}
 use Rattle.words.proofs.gain.Statement.{statement}
@@ -61,13 +61,15 @@ set-link-requires c κs =
     let p = s .args .p in
     let g = s .pre in
     let e : arrayAt p + arrayWords - arrayAt p ≡ arrayWords = omega arith in
+    let ws = s .args .words .now in
     rw e (
-      (page-length (s .args .words .now) p (g .ends .inside), g .ends .cells),
-      (
-        g .ends .some,
-        omega (arith, g .ends .within, g .ends .size),
-        lent-link (s .args .words .now) p (s .args .i) (g .ends .cells) ∙ g .off,
-      ),
+      page-length ws p (g .ends .inside),
+      g .ends .cells,
+      omega (arith, g .ends .some),
+      omega (arith, g .ends .within, g .ends .size),
+      page-settled ws p (g .ends .settled),
+      lent-link ws p (s .args .i) (g .ends .cells) ∙ g .off,
+      rw (lent-best ws p (s .args .i) (g .ends .cells)) (g .ends .small),
     )
 
 add-tag-of : tie.Need-add-tag-of

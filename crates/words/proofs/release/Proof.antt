@@ -6,7 +6,7 @@ use lib.ListN.{getD}
 use Rattle.sizes.specs.Sizes.{arrayWords, arrayAt}
 use Rattle.array.specs.Tag.{parentIn, cellIn}
 use Rattle.array.specs.Frame.{page-length}
-use Rattle.words.specs.Lent.{lent-link}
+use Rattle.words.specs.Lent.{lent-best, lent-link, page-settled}
 use Rattle.words.specs.Rehung.{rehangs}
 use borrow.Author.Needs.{needs}
 use Rattle.words.proofs.release.Statement.{statement}
@@ -65,7 +65,9 @@ cut-link-requires c κs =
     rw (cell .cell-in .ensures .0, cell .before .parent-in .ensures, cell .before .before .tag .ensures, e) (
       page-length ws (parentIn x) (g .ends .inside),
       g .ends .cells,
+      page-settled ws (parentIn x) (g .ends .settled),
       λ z. g .on (sym (lent-link ws (parentIn x) (cellIn x) (g .ends .cells)) ∙ z),
+      rw (lent-best ws (parentIn x) (cellIn x) (g .ends .cells)) (g .ends .small),
     )
 
 sub-retag : tie.Need-sub-retag

@@ -1,0 +1,114 @@
+-- `settle::check::busy` meets its contract: the slots that the loop passed, from the last above two others down to the first,
+-- have their marks in the list. Assumes nothing.
+use mathlib.Core.Path.{_≡_}
+use Prim.Native.Nat.{_-_, _≤_}
+use native.Mathlib.Omega.{arith}
+use borrow.Author.Needs.{needs}
+use Rattle.sizes.specs.Sizes.{cellSlots}
+use Rattle.array.specs.Page.{slots, links}
+use Rattle.settle.specs.Busy.{Busy, busy-more}
+use Rattle.settle.proofs.check.busy.Statement.{statement}
+use Rattle.settle.proofs.check.busy.Tie as tie
+
+abbrev Inv-loop : tie.InvT-loop
+Inv-loop page all₀ k₀ all k = (k ≤ 255) × Busy (slots page) (links page) all (cellSlots - k)
+
+abbrev μ-loop : tie.MeasureT-loop
+μ-loop page all₀ k₀ all k = 255 - k
+
+marks-requires : tie.Need-marks-requires Inv-loop μ-loop
+marks-requires c κs = search needs
+
+loop-holds : tie.Need-loop-holds Inv-loop μ-loop
+loop-holds c = (omega arith, c .marks .ensures)
+
+sub-s : tie.Need-sub-s Inv-loop μ-loop
+sub-s c = search needs
+
+mul-two : tie.Need-mul-two Inv-loop μ-loop
+mul-two c = search needs
+
+mul-any : tie.Need-mul-any Inv-loop μ-loop
+mul-any c = search needs
+
+shared-slice-read-any : tie.Need-shared-slice-read-any Inv-loop μ-loop
+shared-slice-read-any c = search needs
+
+add-any : tie.Need-add-any Inv-loop μ-loop
+add-any c = search needs
+
+mul-any-2 : tie.Need-mul-any-2 Inv-loop μ-loop
+mul-any-2 c = search needs
+
+shared-slice-read-any-2 : tie.Need-shared-slice-read-any-2 Inv-loop μ-loop
+shared-slice-read-any-2 c = search needs
+
+mul-any-3 : tie.Need-mul-any-3 Inv-loop μ-loop
+mul-any-3 c = search needs
+
+array-read-any : tie.Need-array-read-any Inv-loop μ-loop
+array-read-any c = omega (arith, c .before .before .before .loop .inv .1 .size)
+
+add-any-2 : tie.Need-add-any-2 Inv-loop μ-loop
+add-any-2 c = search needs
+
+mul-any-4 : tie.Need-mul-any-4 Inv-loop μ-loop
+mul-any-4 c = search needs
+
+array-read-any-2 : tie.Need-array-read-any-2 Inv-loop μ-loop
+array-read-any-2 c = omega (arith, c .before .before .before .loop .inv .1 .size)
+
+any-requires : tie.Need-any-requires Inv-loop μ-loop
+any-requires c κs = search needs
+
+mul-all : tie.Need-mul-all Inv-loop μ-loop
+mul-all c = search needs
+
+array-write-all : tie.Need-array-write-all Inv-loop μ-loop
+array-write-all c = omega (arith, c .before .before .before .before .loop .inv .1 .size)
+
+add-k : tie.Need-add-k Inv-loop μ-loop
+add-k c = search needs
+
+loop-less : tie.Need-loop-less Inv-loop μ-loop
+loop-less c = search needs
+
+loop-again : tie.Need-loop-again Inv-loop μ-loop
+loop-again c =
+    let a = c .before .before .before .before .before .before .before .args in
+    let l = c .before .before .before .before .loop in
+    (omega arith, busy-more (a .page .now) (l .all) (l .k) _ (omega arith) (c .any .ensures) (l .inv .1))
+
+returns : tie.Need-returns Inv-loop μ-loop
+returns c =
+    let l = c .before .loop in
+    let e : l .k ≡ 255 = omega arith in
+    rw e at (l .inv .1)
+
+pub busy-spec : {M : Type 1} → statement M
+busy-spec =
+    tie.close
+    (tie.spec
+    Inv-loop
+    μ-loop
+    marks-requires
+    loop-holds
+    sub-s
+    mul-two
+    mul-any
+    shared-slice-read-any
+    add-any
+    mul-any-2
+    shared-slice-read-any-2
+    mul-any-3
+    array-read-any
+    add-any-2
+    mul-any-4
+    array-read-any-2
+    any-requires
+    mul-all
+    array-write-all
+    add-k
+    loop-less
+    loop-again
+    returns)

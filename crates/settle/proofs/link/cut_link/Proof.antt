@@ -1,0 +1,76 @@
+-- `settle::link::cut_link` meets its contract: the cell is plain at first, then the block found is written around it
+-- (`link-cut`). Assumes nothing.
+use mathlib.Core.Path.{refl, _∙_}
+use Prim.Native.Nat.{_+_}
+use native.Mathlib.Omega.{arith}
+use borrow.Author.Needs.{needs}
+use lib.ListN.{length-set}
+use Rattle.sizes.specs.Sizes.{cellsAt}
+use Rattle.settle.specs.Link.{link-cut}
+use Rattle.settle.proofs.link.cut_link.Statement.{statement}
+use Rattle.settle.proofs.link.cut_link.Tie as tie
+
+add-best-in : tie.Need-add-best-in
+add-best-in c = search needs
+
+mul-best-in : tie.Need-mul-best-in
+mul-best-in c = search needs
+
+slice-read-best-in : tie.Need-slice-read-best-in
+slice-read-best-in c = search needs
+
+best-in-requires : tie.Need-best-in-requires
+best-in-requires c κs = search needs
+
+plain-requires : tie.Need-plain-requires
+plain-requires c κs = search needs
+
+add-page : tie.Need-add-page
+add-page c = search needs
+
+mul-page : tie.Need-mul-page
+mul-page c = search needs
+
+slice-write-page : tie.Need-slice-write-page
+slice-write-page c = search needs
+
+climb-requires : tie.Need-climb-requires
+climb-requires c κs = search needs
+
+cast-fill-below : tie.Need-cast-fill-below
+cast-fill-below c = search needs
+
+fill-below-requires : tie.Need-fill-below-requires
+fill-below-requires c κs = search needs
+
+same-length : tie.Need-same-length
+same-length c =
+    let a = c .before .before .before .before .before .before .before .before .before .before .args in
+    c .before .before .fill-below .ensures .size ∙ length-set (a .page .now) (cellsAt + a .i) _
+
+returns : tie.Need-returns
+returns c =
+    let a = c .before .before .before .before .before .before .before .before .before .before .args in
+    let p = c .before .before .before .before .before .before .before .before .before .before .pre in
+    let b = c .before .before .before .before .before .before .before .best-in .ensures .0 in
+    let w = c .before .before .before .before .before .before .plain .ensures in
+    link-cut (a .page .now) _ (a .i) _ _ _ (omega arith) (omega arith) (p .2) (p .3) b (omega (arith, b))
+    (rw w at (c .before .before .before .before .climb .ensures .0)) refl (rw w at (c .before .before .fill-below .ensures))
+
+pub cut-link-spec : {M : Type 1} → statement M
+cut-link-spec =
+    tie.close
+    (tie.spec
+    add-best-in
+    mul-best-in
+    slice-read-best-in
+    best-in-requires
+    plain-requires
+    add-page
+    mul-page
+    slice-write-page
+    climb-requires
+    cast-fill-below
+    fill-below-requires
+    same-length
+    returns)

@@ -1,0 +1,78 @@
+-- `settle::part::joins` meets its contract: the first half that is taken settles it, and else the cell across does. Assumes
+-- nothing.
+use borrow.Author.Needs.{needs}
+use Rattle.settle.proofs.Laws.{joins-own, joins-other, joins-rest}
+use Rattle.settle.proofs.part.joins.Statement.{statement}
+use Rattle.settle.proofs.part.joins.Tie as tie
+
+across-requires : tie.Need-across-requires
+across-requires c κs = search needs
+
+slot-over-requires : tie.Need-slot-over-requires
+slot-over-requires c κs = search needs
+
+mul-if1 : tie.Need-mul-if1
+mul-if1 c = search needs
+
+shared-slice-read-if1 : tie.Need-shared-slice-read-if1
+shared-slice-read-if1 c = search needs
+
+returns : tie.Need-returns
+returns c =
+    let a = c .before .before .before .before .before .args in
+    joins-own (a .page .now) (a .i) (a .m) _ (c .before .before .slot-over .ensures .0) (c .if1 .taken)
+
+slot-over-requires-2 : tie.Need-slot-over-requires-2
+slot-over-requires-2 c κs = search needs
+
+mul-if2 : tie.Need-mul-if2
+mul-if2 c = search needs
+
+shared-slice-read-if2 : tie.Need-shared-slice-read-if2
+shared-slice-read-if2 c = search needs
+
+returns-2 : tie.Need-returns-2
+returns-2 c =
+    let a = c .before .before .before .before .before .before .before .before .args in
+    joins-other (a .page .now) (a .i) (a .m) _ (c .before .before .before .before .before .slot-over .ensures .0) _ _
+    (c .before .before .before .before .before .before .across .ensures .0) (c .before .before .slot-over2 .ensures .0)
+    (c .before .before .before .if1 .left) (c .if2 .taken)
+
+add-rests : tie.Need-add-rests
+add-rests c = search needs
+
+mul-rests : tie.Need-mul-rests
+mul-rests c = search needs
+
+shared-slice-read-rests : tie.Need-shared-slice-read-rests
+shared-slice-read-rests c = search needs
+
+rests-requires : tie.Need-rests-requires
+rests-requires c κs = search needs
+
+returns-3 : tie.Need-returns-3
+returns-3 c =
+    let s = c .before .before .before .before in
+    let a = s .before .before .before .before .before .before .args in
+    joins-rest (a .page .now) (a .i) (a .m) _ (s .before .before .before .slot-over .ensures .0) _ _
+    (s .before .before .before .before .across .ensures .0) (s .slot-over2 .ensures .0) (s .before .if1 .left)
+    (c .before .before .if2 .left) _ (c .rests .ensures)
+
+pub joins-spec : {M : Type 1} → statement M
+joins-spec =
+    tie.close
+    (tie.spec
+    across-requires
+    slot-over-requires
+    mul-if1
+    shared-slice-read-if1
+    returns
+    slot-over-requires-2
+    mul-if2
+    shared-slice-read-if2
+    returns-2
+    add-rests
+    mul-rests
+    shared-slice-read-rests
+    rests-requires
+    returns-3)

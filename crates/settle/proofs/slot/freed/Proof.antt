@@ -1,0 +1,92 @@
+-- `settle::slot::freed` meets its contract: nothing changes below a link or where a longer slot is taken, and else the block
+-- found is written (`freed-joins`). Assumes nothing.
+use mathlib.Core.Path.{refl}
+use native.Mathlib.Omega.{arith}
+use borrow.Author.Needs.{needs}
+use Rattle.array.specs.Cell.{linked-by, unlinked-by}
+use Rattle.settle.specs.Slot.{freed-linked, freed-deep, freed-alone, freed-joins}
+use Rattle.settle.proofs.slot.freed.Statement.{statement}
+use Rattle.settle.proofs.slot.freed.Tie as tie
+
+add-word : tie.Need-add-word
+add-word c = search needs
+
+mul-word : tie.Need-mul-word
+mul-word c = search needs
+
+slice-read-word : tie.Need-slice-read-word
+slice-read-word c = search needs
+
+has-link-requires : tie.Need-has-link-requires
+has-link-requires c κs = search needs
+
+returns : tie.Need-returns
+returns c =
+    let s = c .before .before .before .before in
+    let a = s .args in
+    freed-linked (a .page .now) (a .i) (a .d) (omega arith) (s .pre .3) (linked-by _ _ (c .before .has-link .ensures) (c .if1 .taken))
+
+block-in-requires : tie.Need-block-in-requires
+block-in-requires c κs = search needs
+
+cast-if2 : tie.Need-cast-if2
+cast-if2 c = search needs
+
+returns-2 : tie.Need-returns-2
+returns-2 c =
+    let s = c .before .before .before .before .before .before in
+    let a = s .args in
+    freed-deep (a .page .now) (a .i) (a .d) (omega arith) (s .pre .3) (omega (arith, c .before .block-in .ensures .0))
+
+climb-requires : tie.Need-climb-requires
+climb-requires c κs = search needs
+
+same-length : tie.Need-same-length
+same-length c = search needs
+
+returns-3 : tie.Need-returns-3
+returns-3 c =
+    let b = c .before .before .before .before in
+    let s = b .before .before .before .before .before in
+    let a = s .args in
+    let o = unlinked-by _ _ (b .before .before .has-link .ensures) (b .before .if1 .left) in
+    freed-alone (a .page .now) (a .i) (a .d) (omega arith) (s .pre .3) o (omega (arith, b .block-in .ensures .0)) _
+    (c .before .climb .ensures .0) (omega arith)
+
+cast-fill-below : tie.Need-cast-fill-below
+cast-fill-below c = search needs
+
+fill-below-requires : tie.Need-fill-below-requires
+fill-below-requires c κs = search needs
+
+same-length-2 : tie.Need-same-length-2
+same-length-2 c = search needs
+
+returns-4 : tie.Need-returns-4
+returns-4 c =
+    let b = c .before .before .before .before .before .before .before .before in
+    let s = b .before .before .before .before .before in
+    let a = s .args in
+    let o = unlinked-by _ _ (b .before .before .has-link .ensures) (b .before .if1 .left) in
+    freed-joins (a .page .now) (a .i) (a .d) (omega arith) (s .pre .3) o (omega (arith, b .block-in .ensures .0)) _
+    (c .before .before .before .before .before .climb .ensures .0) _ _ refl (omega arith) (c .before .before .fill-below .ensures)
+
+pub freed-spec : {M : Type 1} → statement M
+freed-spec =
+    tie.close
+    (tie.spec
+    add-word
+    mul-word
+    slice-read-word
+    has-link-requires
+    returns
+    block-in-requires
+    cast-if2
+    returns-2
+    climb-requires
+    same-length
+    returns-3
+    cast-fill-below
+    fill-below-requires
+    same-length-2
+    returns-4)

@@ -1,0 +1,68 @@
+-- `settle::slot::took` meets its contract: nothing changes below a link or where no block was shorter, and else the cells part
+-- (`took-parts`). Assumes nothing.
+use native.Mathlib.Omega.{arith}
+use borrow.Author.Needs.{needs}
+use Rattle.array.specs.Cell.{linked-by, unlinked-by}
+use Rattle.settle.specs.Slot.{took-linked, took-deep, took-parts}
+use Rattle.settle.proofs.slot.took.Statement.{statement}
+use Rattle.settle.proofs.slot.took.Tie as tie
+
+add-word : tie.Need-add-word
+add-word c = search needs
+
+mul-word : tie.Need-mul-word
+mul-word c = search needs
+
+slice-read-word : tie.Need-slice-read-word
+slice-read-word c = search needs
+
+has-link-requires : tie.Need-has-link-requires
+has-link-requires c κs = search needs
+
+returns : tie.Need-returns
+returns c =
+    let s = c .before .before .before .before in
+    let a = s .args in
+    took-linked (a .page .now) (a .i) (a .d) (omega arith) (s .pre .3) (linked-by _ _ (c .before .has-link .ensures) (c .if1 .taken))
+
+block-in-requires : tie.Need-block-in-requires
+block-in-requires c κs = search needs
+
+cast-q : tie.Need-cast-q
+cast-q c = search needs
+
+returns-2 : tie.Need-returns-2
+returns-2 c =
+    let s = c .before .before .before .before .before .before in
+    let a = s .args in
+    took-deep (a .page .now) (a .i) (a .d) (omega arith) (s .pre .3) (omega (arith, c .before .block-in .ensures .0))
+
+part-requires : tie.Need-part-requires
+part-requires c κs = search needs
+
+same-length : tie.Need-same-length
+same-length c = search needs
+
+returns-3 : tie.Need-returns-3
+returns-3 c =
+    let b = c .before .before .before .before .before in
+    let s = b .before .before .before .before .before in
+    let a = s .args in
+    let o = unlinked-by _ _ (b .before .before .has-link .ensures) (b .before .if1 .left) in
+    took-parts (a .page .now) (a .i) (a .d) (omega arith) (s .pre .3) _ _ o (b .block-in .ensures .0) (omega arith) (c .before .before .part .ensures)
+
+pub took-spec : {M : Type 1} → statement M
+took-spec =
+    tie.close
+    (tie.spec
+    add-word
+    mul-word
+    slice-read-word
+    has-link-requires
+    returns
+    block-in-requires
+    cast-q
+    returns-2
+    part-requires
+    same-length
+    returns-3)

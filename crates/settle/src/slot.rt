@@ -1,0 +1,84 @@
+// A slot of an array set to a hop, or to 0 for none, with the blocks around it.
+use super::part::climb;
+use super::part::fill_below;
+use super::part::part;
+use array::cell::block_in;
+use array::cell::has_link;
+use array::place::first_cell;
+use array::place::slot_of;
+use sizes::CELLS_AT;
+ghost use mathlib.Core.Path.{_≡_};
+ghost use Prim.Native.Nat.{_+_, _*_, _-_, _^_, _<_, _≤_};
+ghost use lib.ListN.{length};
+ghost use Rattle.sizes.specs.Sizes.{arrayWords, cellCount, hopBound};
+ghost use Rattle.array.specs.Page.{slots};
+ghost use Rattle.array.specs.Put.{exposed, SlotAt, PageSlotSet};
+ghost use Rattle.settle.specs.Settled.{SettledPage, Resettled};
+ghost use Rattle.settle.specs.Slot.{WasFree, WasTaken};
+ghost use Rattle.settle.specs.Was.{Was};
+
+// The slot of depth d over cell i was taken. Where nothing above it was calm, as in a crowded array, there is nothing to write.
+fn took(page: &mut [u32], i: usize, d: usize)
+    requires { ⌜ (length (now page) ≡ arrayWords) × (i < cellCount) × (d ≤ 8) × WasFree (now page) i d ⌝ }
+    ensures { λ _. ⌜ Resettled (now (page .entry)) (now (page .exit)) ⌝ }
+{
+    let word = page[CELLS_AT + i];
+    if has_link(word) {
+        return;
+    }
+    let q = block_in(word) as usize;
+    if q >= d {
+        return;
+    }
+    part(page, i, d, q)
+}
+
+// The slot of depth d over cell i was freed.
+fn freed(page: &mut [u32], i: usize, d: usize)
+    requires { ⌜ (length (now page) ≡ arrayWords) × (i < cellCount) × (d ≤ 8) × WasTaken (now page) i d ⌝ }
+    ensures { λ _. ⌜ Resettled (now (page .entry)) (now (page .exit)) ⌝ }
+{
+    let word = page[CELLS_AT + i];
+    if has_link(word) {
+        return;
+    }
+    if block_in(word) > d as u32 {
+        return;
+    }
+    let q = climb(&page[..], i, d);
+    if q >= d {
+        return;
+    }
+    fill_below(page, i, q, q as u32)
+}
+
+// The slot of depth d over cell i was `old` and is `hop`: another hop changes no block.
+fn resettle(page: &mut [u32], i: usize, d: usize, old: u32, hop: u32)
+    requires { ⌜ (length (now page) ≡ arrayWords) × (i < cellCount) × (d ≤ 8) × Was (now page) i d old hop ⌝ }
+    ensures { λ _. ⌜ Resettled (now (page .entry)) (now (page .exit)) ⌝ }
+{
+    if old == 0 {
+        if hop == 0 {
+            return;
+        }
+        return took(page, i, d);
+    }
+    if hop != 0 {
+        return;
+    }
+    freed(page, i, d)
+}
+
+// Sets the slot of in-array length d and value x to a hop, or to 0 for none: the cells below it that no longer slot covers take
+// its cover, and are counted; and every cell without a link has its block.
+pub fn reslot(page: &mut [u32], d: usize, x: usize, hop: u32) -> u32
+    requires { ⌜ SlotAt (now page) d x × SettledPage (now page) × (hop < hopBound) ⌝ }
+    ensures { λ r. ⌜ PageSlotSet (now (page .entry)) (now (page .exit)) (2 ^ d + x) hop × SettledPage (now (page .exit))
+        × (r ≡ exposed (slots (now (page .entry))) d (x * 2 ^ (8 - d)) (2 ^ (8 - d))) × (r ≤ cellCount) ⌝ }
+{
+    let slot = slot_of(d, x);
+    let old = page[slot];
+    let cells = array::change::reslot(page, d, x, hop);
+    resettle(page, first_cell(d, x), d, old, hop);
+    cells
+}
