@@ -1,0 +1,9 @@
+pub mod Keyed
+pub mod Candidate
+pub mod Winners
+pub mod Answers
+pub mod Bytes
+pub mod Runs
+pub mod Seen
+pub mod Worked
+pub mod Views

@@ -1,0 +1,293 @@
+-- Document 02's worked cases of item 7, candidates: feeds that a cleared table runs with 4,096 reply bytes, what the check and
+-- writing out give then, and the numbers of words. Rows under one statement, decided by computation. Assumes nothing.
+use mathlib.Core.Path.{_≡_, refl}
+use mathlib.Core.Bool.{true, false, cond}
+use mathlib.Core.List.{List, [], _∷_}
+use Prim.Native.Nat.{ℕ}
+use lib.Count.{leadingZeros}
+use lib.ListN.{length}
+use Rattle.routes.specs.Family.{v4, width}
+use Rattle.routes.specs.Room.{need, needTo}
+use Rattle.routes.specs.Cells.{cells, shown}
+use Rattle.routes.specs.Answers.{Reply, done}
+use Rattle.routes.specs.Seen.{Answer, gives, refuses}
+use Rattle.routes.specs.Small.{ip}
+use Rattle.candidates.specs.Candidate.{Candidate, candidate}
+use Rattle.candidates.specs.Winners.{winners}
+use Rattle.candidates.specs.Answers.{announce, withdraw, Record, update, answer, replies, leaves}
+use Rattle.candidates.specs.Bytes.{written}
+use Rattle.candidates.specs.Runs.{Ran, run, runs, halts}
+use Rattle.candidates.specs.Seen.{table, misfits, arrays, countOn}
+
+-- ---- feeds
+
+-- case 7.`number`, on a table of `room` arrays
+pub record Case : Type 0 where
+  pub number : ℕ
+  pub room : ℕ
+  pub sent : List ℕ
+  pub stop : ℕ
+  pub consumed : ℕ
+  pub replies : List ℕ
+  pub accepted : ℕ
+  pub refused : ℕ
+  pub routes : ℕ
+  pub arrays : ℕ
+  pub out : List ℕ
+
+-- the row with what the definitions give
+abbrev by : Case → Ran → Case
+by c r =
+    record {
+      number = c .number;
+      room = c .room;
+      sent = c .sent;
+      stop = r .stop;
+      consumed = r .end .consumed;
+      replies = r .end .replies;
+      accepted = r .end .accepted;
+      refused = r .end .refused;
+      routes = length (r .end .list);
+      arrays = need (width v4) (winners (r .end .list));
+      out = written (r .end .list);
+    }
+
+abbrev got : Case → Case
+got c = by c (run (c .room) [] (c .sent) 4096)
+
+abbrev gots : List Case → List Case
+gots [] = []
+gots (c ∷ cs) = got c ∷ gots cs
+
+abbrev numbers : List Case → List ℕ
+numbers [] = []
+numbers (c ∷ cs) = c .number ∷ numbers cs
+
+-- 7.1 the better preference wins, and goes; 7.3 equal preference: the lowest feed, equal hop: no cells; 7.5 kinds 1 and 2 are
+-- feed 1, preference 0; 7.7 room: a prefix counts while it has a candidate; 7.9 writing out: kind 4, feeds ascending
+abbrev pub worked : List Case
+worked =
+    record {
+      number = 1;
+      room = 3;
+      sent =
+          0x04 ∷ 0x0A ∷ 0x00 ∷ 0x00 ∷ 0x00 ∷ 0x08 ∷ 0x00 ∷ 0x05 ∷ 0x01 ∷ 0x0A
+          ∷ 0x04 ∷ 0x0A ∷ 0x00 ∷ 0x00 ∷ 0x00 ∷ 0x08 ∷ 0x00 ∷ 0x06 ∷ 0x02 ∷ 0x05
+          ∷ 0x03 ∷ 0x0A ∷ 0x00 ∷ 0x00 ∷ 0x01
+          ∷ 0x05 ∷ 0x0A ∷ 0x00 ∷ 0x00 ∷ 0x00 ∷ 0x08 ∷ 0x02
+          ∷ 0x03 ∷ 0x0A ∷ 0x00 ∷ 0x00 ∷ 0x01
+          ∷ 0x05 ∷ 0x0A ∷ 0x00 ∷ 0x00 ∷ 0x00 ∷ 0x08 ∷ 0x01
+          ∷ 0x03 ∷ 0x0A ∷ 0x00 ∷ 0x00 ∷ 0x01
+          ∷ 0x00 ∷ [];
+      stop = 0;
+      consumed = 50;
+      replies =
+          0x10 ∷ 0x00 ∷ 0x05 ∷ 0x00 ∷ 0x01
+          ∷ 0x10 ∷ 0x00 ∷ 0x06 ∷ 0x00 ∷ 0x01
+          ∷ 0x11 ∷ 0x00 ∷ 0x06 ∷ 0x08 ∷ 0x08
+          ∷ 0x10 ∷ 0x00 ∷ 0x06 ∷ 0x00 ∷ 0x01
+          ∷ 0x11 ∷ 0x00 ∷ 0x05 ∷ 0x08 ∷ 0x08
+          ∷ 0x10 ∷ 0x00 ∷ 0x05 ∷ 0x00 ∷ 0x01
+          ∷ 0x12 ∷ 0x00 ∷ [];
+      accepted = 4;
+      refused = 0;
+      routes = 0;
+      arrays = 1;
+      out = 0x00 ∷ [];
+    }
+    ∷ record {
+      number = 3;
+      room = 3;
+      sent =
+          0x04 ∷ 0x0A ∷ 0x00 ∷ 0x00 ∷ 0x00 ∷ 0x08 ∷ 0x00 ∷ 0x06 ∷ 0x02 ∷ 0x00
+          ∷ 0x04 ∷ 0x0A ∷ 0x00 ∷ 0x00 ∷ 0x00 ∷ 0x08 ∷ 0x00 ∷ 0x07 ∷ 0x03 ∷ 0x00
+          ∷ 0x04 ∷ 0x0A ∷ 0x00 ∷ 0x00 ∷ 0x00 ∷ 0x08 ∷ 0x00 ∷ 0x05 ∷ 0x01 ∷ 0x00
+          ∷ 0x03 ∷ 0x0A ∷ 0x00 ∷ 0x00 ∷ 0x01
+          ∷ 0x05 ∷ 0x0A ∷ 0x00 ∷ 0x00 ∷ 0x00 ∷ 0x08 ∷ 0x01
+          ∷ 0x03 ∷ 0x0A ∷ 0x00 ∷ 0x00 ∷ 0x01
+          ∷ 0x04 ∷ 0x0A ∷ 0x00 ∷ 0x00 ∷ 0x00 ∷ 0x08 ∷ 0x00 ∷ 0x06 ∷ 0x04 ∷ 0x00
+          ∷ 0x05 ∷ 0x0A ∷ 0x00 ∷ 0x00 ∷ 0x00 ∷ 0x08 ∷ 0x02
+          ∷ 0x04 ∷ 0x0A ∷ 0x00 ∷ 0x00 ∷ 0x00 ∷ 0x08 ∷ 0x00 ∷ 0x07 ∷ 0x04 ∷ 0x09
+          ∷ 0x05 ∷ 0x0A ∷ 0x00 ∷ 0x00 ∷ 0x00 ∷ 0x08 ∷ 0x03
+          ∷ 0x00 ∷ [];
+      stop = 0;
+      consumed = 82;
+      replies =
+          0x10 ∷ 0x00 ∷ 0x06 ∷ 0x00 ∷ 0x01
+          ∷ 0x10 ∷ 0x00 ∷ 0x07 ∷ 0x00 ∷ 0x00
+          ∷ 0x10 ∷ 0x00 ∷ 0x05 ∷ 0x00 ∷ 0x01
+          ∷ 0x11 ∷ 0x00 ∷ 0x05 ∷ 0x08 ∷ 0x08
+          ∷ 0x10 ∷ 0x00 ∷ 0x05 ∷ 0x00 ∷ 0x01
+          ∷ 0x11 ∷ 0x00 ∷ 0x06 ∷ 0x08 ∷ 0x08
+          ∷ 0x10 ∷ 0x00 ∷ 0x06 ∷ 0x00 ∷ 0x00
+          ∷ 0x10 ∷ 0x00 ∷ 0x06 ∷ 0x00 ∷ 0x01
+          ∷ 0x10 ∷ 0x00 ∷ 0x07 ∷ 0x00 ∷ 0x00
+          ∷ 0x10 ∷ 0x00 ∷ 0x07 ∷ 0x00 ∷ 0x00 ∷ [];
+      accepted = 8;
+      refused = 0;
+      routes = 1;
+      arrays = 1;
+      out =
+          0x04 ∷ 0x0A ∷ 0x00 ∷ 0x00 ∷ 0x00 ∷ 0x08 ∷ 0x00 ∷ 0x07 ∷ 0x04 ∷ 0x09
+          ∷ 0x00 ∷ [];
+    }
+    ∷ record {
+      number = 5;
+      room = 3;
+      sent =
+          0x04 ∷ 0x0A ∷ 0x00 ∷ 0x00 ∷ 0x00 ∷ 0x08 ∷ 0x00 ∷ 0x05 ∷ 0x01 ∷ 0x09
+          ∷ 0x04 ∷ 0x0A ∷ 0x00 ∷ 0x00 ∷ 0x00 ∷ 0x08 ∷ 0x00 ∷ 0x06 ∷ 0x02 ∷ 0x03
+          ∷ 0x01 ∷ 0x0A ∷ 0x00 ∷ 0x00 ∷ 0x00 ∷ 0x08 ∷ 0x00 ∷ 0x05
+          ∷ 0x03 ∷ 0x0A ∷ 0x00 ∷ 0x00 ∷ 0x01
+          ∷ 0x02 ∷ 0x0A ∷ 0x00 ∷ 0x00 ∷ 0x00 ∷ 0x08
+          ∷ 0x02 ∷ 0x0A ∷ 0x00 ∷ 0x00 ∷ 0x00 ∷ 0x08
+          ∷ 0x05 ∷ 0x0A ∷ 0x00 ∷ 0x00 ∷ 0x00 ∷ 0x08 ∷ 0x01
+          ∷ 0x05 ∷ 0x0A ∷ 0x00 ∷ 0x00 ∷ 0x00 ∷ 0x08 ∷ 0x02
+          ∷ 0x00 ∷ [];
+      stop = 0;
+      consumed = 60;
+      replies =
+          0x10 ∷ 0x00 ∷ 0x05 ∷ 0x00 ∷ 0x01
+          ∷ 0x10 ∷ 0x00 ∷ 0x06 ∷ 0x00 ∷ 0x01
+          ∷ 0x10 ∷ 0x00 ∷ 0x05 ∷ 0x00 ∷ 0x01
+          ∷ 0x11 ∷ 0x00 ∷ 0x05 ∷ 0x08 ∷ 0x08
+          ∷ 0x10 ∷ 0x00 ∷ 0x05 ∷ 0x00 ∷ 0x01
+          ∷ 0x13 ∷ 0x07
+          ∷ 0x13 ∷ 0x07
+          ∷ 0x10 ∷ 0x00 ∷ 0x06 ∷ 0x00 ∷ 0x01 ∷ [];
+      accepted = 5;
+      refused = 2;
+      routes = 0;
+      arrays = 1;
+      out = 0x00 ∷ [];
+    }
+    ∷ record {
+      number = 7;
+      room = 2;
+      sent =
+          0x04 ∷ 0x0A ∷ 0x00 ∷ 0x00 ∷ 0x00 ∷ 0x09 ∷ 0x00 ∷ 0x01 ∷ 0x01 ∷ 0x00
+          ∷ 0x04 ∷ 0x0A ∷ 0x00 ∷ 0x00 ∷ 0x00 ∷ 0x09 ∷ 0x00 ∷ 0x02 ∷ 0x02 ∷ 0x00
+          ∷ 0x04 ∷ 0x0B ∷ 0x00 ∷ 0x00 ∷ 0x00 ∷ 0x09 ∷ 0x00 ∷ 0x01 ∷ 0x01 ∷ 0x00
+          ∷ 0x05 ∷ 0x0A ∷ 0x00 ∷ 0x00 ∷ 0x00 ∷ 0x09 ∷ 0x01
+          ∷ 0x04 ∷ 0x0B ∷ 0x00 ∷ 0x00 ∷ 0x00 ∷ 0x09 ∷ 0x00 ∷ 0x01 ∷ 0x01 ∷ 0x00
+          ∷ 0x05 ∷ 0x0A ∷ 0x00 ∷ 0x00 ∷ 0x00 ∷ 0x09 ∷ 0x02
+          ∷ 0x04 ∷ 0x0B ∷ 0x00 ∷ 0x00 ∷ 0x00 ∷ 0x09 ∷ 0x00 ∷ 0x01 ∷ 0x01 ∷ 0x00
+          ∷ 0x00 ∷ [];
+      stop = 0;
+      consumed = 65;
+      replies =
+          0x10 ∷ 0x00 ∷ 0x01 ∷ 0x00 ∷ 0x80
+          ∷ 0x10 ∷ 0x00 ∷ 0x02 ∷ 0x00 ∷ 0x00
+          ∷ 0x13 ∷ 0x08
+          ∷ 0x10 ∷ 0x00 ∷ 0x01 ∷ 0x00 ∷ 0x80
+          ∷ 0x13 ∷ 0x08
+          ∷ 0x10 ∷ 0x00 ∷ 0x02 ∷ 0x00 ∷ 0x80
+          ∷ 0x10 ∷ 0x00 ∷ 0x01 ∷ 0x00 ∷ 0x80 ∷ [];
+      accepted = 5;
+      refused = 2;
+      routes = 1;
+      arrays = 2;
+      out =
+          0x04 ∷ 0x0B ∷ 0x00 ∷ 0x00 ∷ 0x00 ∷ 0x09 ∷ 0x00 ∷ 0x01 ∷ 0x01 ∷ 0x00
+          ∷ 0x00 ∷ [];
+    }
+    ∷ record {
+      number = 9;
+      room = 3;
+      sent =
+          0x04 ∷ 0x0A ∷ 0x01 ∷ 0x04 ∷ 0x00 ∷ 0x16 ∷ 0x00 ∷ 0x02 ∷ 0x03 ∷ 0xC8
+          ∷ 0x04 ∷ 0x0A ∷ 0x00 ∷ 0x00 ∷ 0x00 ∷ 0x08 ∷ 0x00 ∷ 0x01 ∷ 0x04 ∷ 0x00
+          ∷ 0x04 ∷ 0x0A ∷ 0x01 ∷ 0x04 ∷ 0x00 ∷ 0x16 ∷ 0x00 ∷ 0x03 ∷ 0x01 ∷ 0xC9
+          ∷ 0x01 ∷ 0x0A ∷ 0x00 ∷ 0x00 ∷ 0x00 ∷ 0x08 ∷ 0x00 ∷ 0x09
+          ∷ 0x00 ∷ [];
+      stop = 0;
+      consumed = 39;
+      replies =
+          0x10 ∷ 0x00 ∷ 0x02 ∷ 0x00 ∷ 0x04
+          ∷ 0x10 ∷ 0x00 ∷ 0x01 ∷ 0x00 ∷ 0x01
+          ∷ 0x10 ∷ 0x00 ∷ 0x03 ∷ 0x00 ∷ 0x00
+          ∷ 0x10 ∷ 0x00 ∷ 0x09 ∷ 0x00 ∷ 0x01 ∷ [];
+      accepted = 4;
+      refused = 0;
+      routes = 4;
+      arrays = 3;
+      out =
+          0x04 ∷ 0x0A ∷ 0x00 ∷ 0x00 ∷ 0x00 ∷ 0x08 ∷ 0x00 ∷ 0x09 ∷ 0x01 ∷ 0x00
+          ∷ 0x04 ∷ 0x0A ∷ 0x00 ∷ 0x00 ∷ 0x00 ∷ 0x08 ∷ 0x00 ∷ 0x01 ∷ 0x04 ∷ 0x00
+          ∷ 0x04 ∷ 0x0A ∷ 0x01 ∷ 0x04 ∷ 0x00 ∷ 0x16 ∷ 0x00 ∷ 0x03 ∷ 0x01 ∷ 0xC9
+          ∷ 0x04 ∷ 0x0A ∷ 0x01 ∷ 0x04 ∷ 0x00 ∷ 0x16 ∷ 0x00 ∷ 0x02 ∷ 0x03 ∷ 0xC8
+          ∷ 0x00 ∷ [];
+    }
+    ∷ []
+
+-- the list that case 7.9 leaves: two candidates each of 10.0.0.0/8 and 10.1.4.0/22
+abbrev left : List Candidate
+left =
+    candidate (ip 10 0 0 0) 8 1 0 9
+    ∷ candidate (ip 10 0 0 0) 8 4 0 1
+    ∷ candidate (ip 10 1 4 0) 22 1 201 3
+    ∷ candidate (ip 10 1 4 0) 22 3 200 2
+    ∷ []
+
+-- ---- 7.11: numbers of words, each with the arrays of its table, or with refusal 1
+
+pub record Size : Type 0 where
+  pub words : ℕ
+  pub given : Answer ℕ
+
+abbrev row : ℕ → Answer ℕ → Size
+row n y = record { words = n; given = y }
+
+abbrev sized : List Size → List Size
+sized [] = []
+sized (s ∷ ss) = row (s .words) (cond (misfits (s .words)) (refuses 1) (gives (arrays (s .words)))) ∷ sized ss
+
+abbrev pub sizes : List Size
+sizes =
+    row 6144 (gives 1)
+    ∷ row 9216 (gives 2)
+    ∷ row 12288 (gives 3)
+    ∷ row 12585984 (gives 4096)
+    ∷ row 3072 (refuses 1)
+    ∷ row 2048 (refuses 1)
+    ∷ row 4195328 (refuses 1)
+    ∷ row 7168 (refuses 1)
+    ∷ row 12589056 (refuses 1)
+    ∷ []
+
+-- ---- each row is as the definitions give it, and none of the five feeds is left out
+
+pub record Holds : Type 0 where
+  pub feeds : gots worked ≡ worked
+  pub all : numbers worked ≡ 1 ∷ 3 ∷ 5 ∷ 7 ∷ 9 ∷ []
+  pub words : sized sizes ≡ sizes
+  -- 7.9: 41 bytes, a buffer of 40 gets 9, and fed to a cleared table of 3 arrays they give the list again
+  pub short : countOn (table 3 left) 40 ≡ refuses 9
+  pub enough : countOn (table 3 left) 41 ≡ gives 41
+  pub again : run 3 [] (written left) 4096 .end .list ≡ left
+
+pub candidate-cases : Holds
+unfolding answer cells shown needTo runs halts leadingZeros
+candidate-cases = record { feeds = refl; all = refl; words = refl; short = refl; enough = refl; again = refl }
+
+-- ---- over the width: the updates of case 9.5, with 128 bits
+
+-- 2001::, and 2000::
+abbrev deep : ℕ
+deep = 42540488161975842760550356425300246528
+
+abbrev wide : ℕ
+wide = 42535295865117307932921825928971026432
+
+abbrev asked : List Record
+asked =
+    update (announce deep 16 5 2 1)
+    ∷ update (announce deep 16 6 1 1)
+    ∷ update (announce wide 3 7 3 0)
+    ∷ update (withdraw deep 16 1)
+    ∷ []
+
+pub wider : (replies 128 3 [] asked ≡ done 5 1 ∷ done 6 1 ∷ done 7 32 ∷ done 6 1 ∷ [])
+    × (leaves 128 3 [] asked ≡ candidate wide 3 3 0 7 ∷ candidate deep 16 2 1 5 ∷ [])
+unfolding answer cells shown needTo
+wider = (refl, refl)
