@@ -1,7 +1,7 @@
 -- Document 02's worked cases of item 7, candidates: feeds that a cleared table runs with 4,096 reply bytes, what the check and
 -- writing out give then, and the numbers of words. Rows under one statement, decided by computation. Assumes nothing.
 use mathlib.Core.Path.{_≡_, refl}
-use mathlib.Core.Bool.{true, false, cond}
+use mathlib.Core.Bool.{cond}
 use mathlib.Core.List.{List, [], _∷_}
 use Prim.Native.Nat.{ℕ}
 use lib.Count.{leadingZeros}
@@ -9,7 +9,7 @@ use lib.ListN.{length}
 use Rattle.routes.specs.Family.{v4, width}
 use Rattle.routes.specs.Room.{need, needTo}
 use Rattle.routes.specs.Cells.{cells, shown}
-use Rattle.routes.specs.Answers.{Reply, done}
+use Rattle.routes.specs.Answers.{done}
 use Rattle.routes.specs.Seen.{Answer, gives, refuses}
 use Rattle.routes.specs.Small.{ip}
 use Rattle.candidates.specs.Candidate.{Candidate, candidate}
