@@ -41,7 +41,7 @@ size-back pre y ys =
     go (refused n) = refl
 
 -- wherever they stand, and whatever follows them
-replies-back : (pre : List ℕ) (ys : List Reply) (rest : List ℕ) → RepliesFit ys
+pub replies-back : (pre : List ℕ) (ys : List Reply) (rest : List ℕ) → RepliesFit ys
     → repliesAt (length ys) (pre ++ (repliesBytes ys ++ rest)) (length pre) ≡ ys
 replies-back pre [] rest f = refl
 replies-back pre (y ∷ ys) rest f =
@@ -79,18 +79,18 @@ module _ (W : ℕ) (w : W < 256) where
         bool (ltb (r .len) l) (λ e. rw e f)
         (λ e. rw e (omega (arith, p .hop), omega (arith, p .len, w), omega (arith, b, w)))
 
-    match-fits : (a : ℕ) (rs : List Route) → All (Low W) rs → ReplyFits (matched (longest W a rs) q)
+    pub match-fits : (a : ℕ) (rs : List Route) → All (Low W) rs → ReplyFits (matched (longest W a rs) q)
     match-fits a [] p = omega (arith, b, w)
     match-fits a (r ∷ rs) p =
         let f = match-fits a rs (p .1) in
         bool (matches W a r) (λ e. rw e (longer-fits r (longest W a rs) (p .0) f)) (λ e. rw e f)
 
-  refuse-fits : (n : ℕ) (b : Bool) (y : Reply) → n < 256 → (b ≡ false → ReplyFits y) → ReplyFits (refuse n b y)
+  pub refuse-fits : (n : ℕ) (b : Bool) (y : Reply) → n < 256 → (b ≡ false → ReplyFits y) → ReplyFits (refuse n b y)
   refuse-fits n true y h f = h
   refuse-fits n false y h f = f refl
 
   -- a hop that is not refused
-  hop-low : (h : ℕ) → badHop h ≡ false → h ≤ 65535
+  pub hop-low : (h : ℕ) → badHop h ≡ false → h ≤ 65535
   hop-low h e = ltb-false 65535 h (bool (eqb h 0) (λ d. absurd (true≢false (rw d at e))) (λ d. rw d at e))
 
   reloaded-few : (rs : List Route) (a l h : ℕ) → reloaded W rs a l h < 65536
