@@ -1,0 +1,6 @@
+pub mod Word
+pub mod Winner
+pub mod Slot
+pub mod Page
+pub mod Stored
+pub mod Prefix
