@@ -63,8 +63,8 @@ above lo (c ∷ cs) o = (
 )
 
 -- of two things that each has
-each-both : (P Q R : Candidate → Type 0) → ((c : Candidate) → P c → Q c → R c) → (cs : List Candidate) → Every P cs → Every Q cs
-    → Every R cs
+pub each-both : (P Q R : Candidate → Type 0) → ((c : Candidate) → P c → Q c → R c) → (cs : List Candidate)
+    → Every P cs → Every Q cs → Every R cs
 each-both P Q R f [] p q = tt
 each-both P Q R f (c ∷ cs) p q = (f c (p .0) (q .0), each-both P Q R f cs (p .1) (q .1))
 

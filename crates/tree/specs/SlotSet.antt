@@ -104,7 +104,7 @@ held-cases A L t sh P none some v l =
 
 module _ (A L : ℕ) (t u : Arrays) (b q k d x h : ℕ) (s : Shape A L t) (p : Place A L t b q k d x)
     (g : TreeSlotSet t u b (2 ^ d + x) h) where
-  slot-set-here : held u (q * 2 ^ d + x) (8 * k + d) ≡ h
+  pub slot-set-here : held u (q * 2 ^ d + x) (8 * k + d) ≡ h
   slot-set-here = held-place A L u b q k d x here ∙ g .here
     where
       here : Place A L u b q k d x
@@ -118,7 +118,7 @@ module _ (A L : ℕ) (t u : Arrays) (b q k d x h : ℕ) (s : Shape A L t) (p : P
             small = p .small;
           }
 
-  slot-set-off : (W : ℕ) → Off W (q * 2 ^ d + x) (8 * k + d) (held t) (held u)
+  pub slot-set-off : (W : ℕ) → Off W (q * 2 ^ d + x) (8 * k + d) (held t) (held u)
   unfolding held
   slot-set-off W v l w small n = rw (same-node t u (g .tags) (g .links) (v / 2 ^ e) j) (sym (at-same (node t (v / 2 ^ e) j) refl))
     where

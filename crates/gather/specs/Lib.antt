@@ -1,0 +1,5 @@
+pub mod Gather
+pub mod Found
+pub mod Winning
+pub mod Views
+pub mod WordSet
