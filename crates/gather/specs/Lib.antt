@@ -3,3 +3,4 @@ pub mod Found
 pub mod Winning
 pub mod Views
 pub mod WordSet
+pub mod Counted

@@ -1,18 +1,29 @@
 -- What the proofs of this crate's functions need at their returns. Assumes nothing.
-use mathlib.Core.Path.{_≡_, refl, ap, _∙_}
-use mathlib.Core.Bool.{Bool, _&&_, _||_}
+use mathlib.Core.Path.{_≡_, refl, sym, ap, _∙_}
+use mathlib.Core.Logic.{_≢_}
+use mathlib.Core.Bool.{Bool, true, false, _&&_, _||_, true≢false}
 use mathlib.Core.List.{List}
-use Prim.Native.Nat.{ℕ, _+_, _/_, _%_, _≤_}
+use Prim.Native.Nat.{ℕ, _+_, _-_, _*_, _/_, _%_, _≤_, _<_}
+use native.Mathlib.Nat.{le-antisymm}
+use native.Mathlib.Omega.{arith}
 use lib.Bits.{bitOr}
 use lib.Dec.{leb, eqb}
 use lib.ListN.{length, getD}
+use Rattle.logic.specs.Cases.{bool, less}
+use Rattle.logic.specs.Every.{allB}
+use Rattle.logic.specs.Reflects.{all-to, all-from, all-stop, all-done}
 use Rattle.logic.specs.Ors.{or-none}
-use Rattle.sizes.specs.Sizes.{hopBound}
-use Rattle.slots.specs.Word.{slotWords, IsFeed, hopIn, rightWordB}
+use Rattle.sizes.specs.Sizes.{lastSlot, laterSlots, slotStride, slotStrides, hopBound}
+use Rattle.array.specs.Check.{zeroAt}
+use Rattle.array.specs.Taken.{taken}
+use Rattle.array.proofs.Laws.{taken-none, taken-more, taken-same}
+use Rattle.slots.specs.Word.{slotWords, slotAt, IsFeed, hopIn, rightWordB}
 use Rattle.slots.specs.Winner.{winner4, wonHop}
 use Rattle.slots.specs.Slot.{freeSlotB, rightSlotB}
 use Rattle.slots.specs.Page.{wordsAt, pageWith, each-at}
 use Rattle.slots.specs.Stored.{HasStored, after-stored}
+use Rattle.slots.specs.Count.{slotWord, candidatesTo, words-count}
+use Rattle.slots.specs.Check.{rightSlotsB, bareSlotsB, bare-words}
 use Rattle.slots.specs.declared.slot.Hops.{Hops}
 
 pub right-told : (w : ℕ) → (eqb w 0 || (leb 1 (w % hopBound) && leb (w / hopBound) 255)) ≡ rightWordB w
@@ -46,3 +57,64 @@ pub stored-told : (ws vs : List ℕ) (i f w : ℕ) (r : Hops) → i + slotWords 
     → vs ≡ pageWith ws i f w → r .before ≡ wonHop (wordsAt ws i) → r .after ≡ wonHop (wordsAt vs i)
     → HasStored ws vs i f w r
 stored-told ws vs i f w r h p e b a = record { page = e; before = b; after = a ∙ after-stored ws vs i f w h p e }
+
+-- ---- all slots of a page
+
+-- slot s + 1 is the one that the loop is at
+abbrev pub slotTest : List ℕ → ℕ → Bool
+slotTest ws s = rightSlotB (wordsAt ws (slotAt (s + 1)))
+
+pub rights-stop : (ws : List ℕ) (s : ℕ) → s < lastSlot → slotTest ws s ≡ false → false ≡ rightSlotsB ws
+unfolding rightSlotsB
+rights-stop ws s h e = all-stop (slotTest ws) lastSlot s h e
+
+pub rights-done : (ws : List ℕ) (s : ℕ) → allB (slotTest ws) s ≡ true → s ≤ lastSlot → lastSlot ≤ s → true ≡ rightSlotsB ws
+unfolding rightSlotsB
+rights-done ws s e h w = all-done (slotTest ws) lastSlot s e h w
+
+-- the words of slotStride slots at a time
+abbrev pub strideWords : ℕ
+strideWords = slotWords * slotStride
+
+module _ (ws : List ℕ) (g : ℕ) where
+  abbrev zero8 : ℕ → Bool
+  zero8 = zeroAt ws (slotAt 2)
+
+  pub bare-more : allB zero8 (strideWords * g) ≡ true → allB (zeroAt ws (strideWords * g + slotAt 2)) strideWords ≡ true
+      → allB zero8 (strideWords * (g + 1)) ≡ true
+  bare-more a b =
+      all-from zero8 (strideWords * (g + 1)) (λ k h. less k (strideWords * g)
+      (λ w _. all-to zero8 (strideWords * g) a k w)
+      (λ w _. (let e : strideWords * g + slotAt 2 + (k - strideWords * g) ≡ slotAt 2 + k = omega arith in
+      rw e at (all-to (zeroAt ws (strideWords * g + slotAt 2)) strideWords b (k - strideWords * g) (omega arith)))))
+
+  pub bare-stop : g < slotStrides → allB (zeroAt ws (strideWords * g + slotAt 2)) strideWords ≡ false → false ≡ bareSlotsB ws
+  bare-stop h b =
+      bool (allB zero8 (slotWords * laterSlots))
+      (λ t. absurd (true≢false (sym (all-from (zeroAt ws (strideWords * g + slotAt 2)) strideWords
+      (λ k w. (let e : strideWords * g + slotAt 2 + k ≡ slotAt 2 + (strideWords * g + k) = omega arith in
+      rw e (all-to zero8 (slotWords * laterSlots) t (strideWords * g + k) (omega arith))))) ∙ b)))
+      (λ t. sym t ∙ bare-words ws)
+
+  pub bare-done : allB zero8 (strideWords * g) ≡ true → g ≤ slotStrides → slotStrides ≤ g → true ≡ bareSlotsB ws
+  bare-done a h w =
+      let e : strideWords * g ≡ slotWords * laterSlots = omega arith in
+      sym (rw e at a) ∙ bare-words ws
+
+-- one word more is counted, or is 0
+module _ (ws : List ℕ) (k : ℕ) where
+  at-word : k + 4 ≡ k + 1 + 3
+  at-word = omega arith
+
+  pub count-more : getD ws (k + 4) 0 ≢ 0 → taken (slotWord ws) (k + 1) ≡ taken (slotWord ws) k + 1
+  count-more n = taken-more (slotWord ws) k (rw at-word at n)
+
+  pub count-same : getD ws (k + 4) 0 ≡ 0 → taken (slotWord ws) (k + 1) ≡ taken (slotWord ws) k
+  count-same e = taken-same (slotWord ws) k (rw at-word at e)
+
+  pub count-done : (n : ℕ) → n ≡ taken (slotWord ws) k → k ≤ slotWords * lastSlot → slotWords * lastSlot ≤ k
+      → n ≡ candidatesTo ws lastSlot
+  count-done n e h w = e ∙ ap (taken (slotWord ws)) (le-antisymm h w) ∙ words-count ws lastSlot
+
+pub count-none : (ws : List ℕ) → 0 ≡ taken (slotWord ws) 0
+count-none ws = taken-none (slotWord ws)

@@ -3,4 +3,6 @@ pub mod Winner
 pub mod Slot
 pub mod Page
 pub mod Stored
+pub mod Count
+pub mod Check
 pub mod Prefix

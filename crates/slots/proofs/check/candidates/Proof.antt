@@ -1,0 +1,70 @@
+-- `slots::check::candidates` meets its contract. The number so far is that of the words passed which are not 0. Assumes nothing.
+use mathlib.Core.Path.{_≡_}
+use mathlib.Core.Logic.{⊎-elim}
+use Prim.Native.Nat.{_-_, _*_, _≤_}
+use native.Mathlib.Omega.{arith}
+use Rattle.sizes.specs.Sizes.{lastSlot}
+use Rattle.array.specs.Taken.{taken}
+use Rattle.slots.specs.Word.{slotWords}
+use Rattle.slots.specs.Count.{slotWord}
+use Rattle.slots.proofs.Laws.{count-none, count-more, count-same, count-done}
+use Rattle.slots.proofs.check.candidates.Statement.{statement}
+use Rattle.slots.proofs.check.candidates.Tie as tie
+
+abbrev Inv-loop : tie.InvT-loop
+Inv-loop page n₀ k₀ n k = (k ≤ slotWords * lastSlot) × (n ≤ k) × (n ≡ taken (slotWord page) k)
+
+abbrev μ-loop : tie.MeasureT-loop
+μ-loop page n₀ k₀ n k = slotWords * lastSlot - k
+
+loop-holds : tie.Need-loop-holds Inv-loop μ-loop
+loop-holds c = (omega arith, omega arith, count-none (c .args .page .now))
+
+add-if1 : tie.Need-add-if1 Inv-loop μ-loop
+add-if1 c = omega arith
+
+mul-if1 : tie.Need-mul-if1 Inv-loop μ-loop
+mul-if1 c = omega arith
+
+shared-slice-read-if1 : tie.Need-shared-slice-read-if1 Inv-loop μ-loop
+shared-slice-read-if1 c = omega arith
+
+add-n : tie.Need-add-n Inv-loop μ-loop
+add-n c = omega arith
+
+add-k : tie.Need-add-k Inv-loop μ-loop
+add-k c = omega arith
+
+loop-less : tie.Need-loop-less Inv-loop μ-loop
+loop-less c = omega arith
+
+loop-again : tie.Need-loop-again Inv-loop μ-loop
+loop-again c =
+    let l = c .before .before .before .loop in
+    let a = c .before .before .before .before .args in
+    ⊎-elim
+    (λ w. rw (w .1) (omega arith, omega arith, omega (arith, count-more (a .page .now) (l .k) (w .0 .taken), l .inv .2)))
+    (λ w. rw (w .1) (omega arith, omega arith, omega (arith, count-same (a .page .now) (l .k) (w .0 .left), l .inv .2)))
+    (c .if1 .came)
+
+returns : tie.Need-returns Inv-loop μ-loop
+returns c =
+    let l = c .before .loop in
+    let a = c .before .before .args in
+    (count-done (a .page .now) (l .k) (l .n) (l .inv .2) (omega arith) (omega arith), omega arith)
+
+pub candidates-spec : {M : Type 1} → statement M
+candidates-spec =
+    tie.close
+    (tie.spec
+    Inv-loop
+    μ-loop
+    loop-holds
+    add-if1
+    mul-if1
+    shared-slice-read-if1
+    add-n
+    add-k
+    loop-less
+    loop-again
+    returns)
