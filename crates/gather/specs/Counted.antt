@@ -90,15 +90,15 @@ module _ (g : ℕ → ℕ → ℕ → ℕ) where
 abbrev pub candidatesIn : FeedArrays → ℕ → ℕ
 candidatesIn t a = cond (eqb (t .tag a) 0) 0 (sumFeeds (λ f. taken (λ s. t .word a s f) lastSlot) 1 slotWords)
 
-unfoldable pub arraysTo : FeedArrays → ℕ → ℕ
-arraysTo t zero = 0
-arraysTo t (suc n) = arraysTo t n + candidatesIn t (suc n)
+unfoldable pub candidatesOf : FeedArrays → ℕ → ℕ
+candidatesOf t zero = 0
+candidatesOf t (suc n) = candidatesOf t n + candidatesIn t (suc n)
 
 array-count : (t : FeedArrays) (a : ℕ) → sumFeeds (λ f. takenIn (feedView t f) a) 1 slotWords ≡ candidatesIn t a
 array-count t a = bool (eqb (t .tag a) 0) (λ e. rw e (sum-none 1 slotWords)) (λ e. rw e)
 
-arrays-count : (t : FeedArrays) (n : ℕ) → sumFeeds (λ f. takenTo (feedView t f) n) 1 slotWords ≡ arraysTo t n
-unfolding takenTo arraysTo
+arrays-count : (t : FeedArrays) (n : ℕ) → sumFeeds (λ f. takenTo (feedView t f) n) 1 slotWords ≡ candidatesOf t n
+unfolding takenTo candidatesOf
 arrays-count t zero = sum-none 1 slotWords
 arrays-count t (suc n) =
     sum-add (λ f. takenTo (feedView t f) n) (λ f. takenIn (feedView t f) (suc n)) 1 slotWords
@@ -106,7 +106,7 @@ arrays-count t (suc n) =
 
 -- the candidates of a tree of L levels
 pub tree-count : (A L : ℕ) (t : FeedArrays) → Shape A L (wonView t) → First A (wonView t) → RightWords A t
-    → length (gathered (8 * L) (wordHeld t)) ≡ arraysTo t A
+    → length (gathered (8 * L) (wordHeld t)) ≡ candidatesOf t A
 tree-count A L t sh fi r =
     gathered-count (wordHeld t) (8 * L)
     ∙ sum-same (λ f. length (routes (8 * L) (λ v l. wordHeld t v l f))) (λ f. takenTo (feedView t f) A) 1 slotWords
