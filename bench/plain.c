@@ -4,6 +4,9 @@
 #include <stddef.h>
 #include <stdint.h>
 
+/* The words of an array, and where in it the cells are. */
+enum { ARRAY_WORDS = 3072, CELLS_AT = 2048 };
+
 typedef struct {
     uint32_t refusal, found, hop, length, block;
 } answer;
@@ -30,28 +33,28 @@ static answer answered(uint32_t found, uint32_t cell, uint32_t before) {
 }
 
 answer plain_trusting(const uint32_t *words, size_t n, uint32_t address) {
-    const uint32_t *root = words + 1024, *array = root;
+    const uint32_t *root = words + ARRAY_WORDS, *array = root;
     uint32_t found = 0;
     (void)n;
     for (uint32_t before = 0;; before += 8 * 65536) {
-        uint32_t cell = array[512 + (address >> 24)];
+        uint32_t cell = array[CELLS_AT + (address >> 24)];
         if (cell >> 28 == 0)
             return answered(found, cell, before);
         found = newer(found, best_above(cell), before);
-        array = root + 1024 * (size_t)(cell % 4096);
+        array = root + ARRAY_WORDS * (size_t)(cell % 4096);
         address <<= 8;
     }
 }
 
 /* No test that refuses is ever true on a table, whatever its cells hold, so a processor foresees them all. */
 answer plain_checking(const uint32_t *words, size_t n, uint32_t address) {
-    if (n % 1024 != 0 || n < 2048 || n > 4195328)
+    if (n % ARRAY_WORDS != 0 || n < 6144 || n > 12585984)
         return (answer){1, 0, 0, 0, 0};
-    const uint32_t *root = words + 1024, *array = root;
-    size_t arrays = n / 1024 - 1;
+    const uint32_t *root = words + ARRAY_WORDS, *array = root;
+    size_t arrays = n / ARRAY_WORDS - 1;
     uint32_t found = 0;
     for (uint32_t before = 0; before < 32 * 65536; before += 8 * 65536) {
-        uint32_t cell = array[512 + (address >> 24)], low = cell % 4096;
+        uint32_t cell = array[CELLS_AT + (address >> 24)], low = cell % 4096;
         if (cell >> 28 == 0) {
             if (low / 16 > 8 || low % 16 > 8)
                 break;
@@ -60,7 +63,7 @@ answer plain_checking(const uint32_t *words, size_t n, uint32_t address) {
         if (cell >> 28 > 9 || low >= arrays)
             break;
         found = newer(found, best_above(cell), before);
-        array = root + 1024 * (size_t)low;
+        array = root + ARRAY_WORDS * (size_t)low;
         address <<= 8;
     }
     return (answer){2, 0, 0, 0, 0};

@@ -85,40 +85,61 @@ static uint32_t address(void) {
     return any() % 4 ? 10u << 24 | (a & 0x0003FF7F) : a;
 }
 
-/* The bytes of a record, after its kind: address, length and hop, as many of them as the kind has. */
-static void add(bytes *feed, uint8_t kind, uint32_t a, uint32_t length, uint32_t hop) {
-    static const size_t sizes[4] = {1, 8, 6, 5};
-    uint8_t record[8] = {kind, a >> 24, a >> 16, a >> 8, a, length, hop >> 8, hop};
+/* What an update names: its prefix, and the feed with its preference and hop. */
+typedef struct {
+    uint32_t address, length, hop, feed;
+    uint8_t preference;
+} candidate;
+
+/* The bytes of a record, after its kind: as many of the candidate's as the kind has. */
+static void add(bytes *feed, uint8_t kind, candidate c) {
+    static const size_t sizes[6] = {1, 8, 6, 5, 10, 7};
+    uint8_t record[10] = {kind, c.address >> 24, c.address >> 16, c.address >> 8, c.address, c.length, c.hop >> 8, c.hop,
+                          c.feed, c.preference};
+    if (kind == TOGGLEASH_KIND_WITHDRAW_FOR)
+        record[6] = c.feed;
     memcpy(feed->at + feed->n, record, sizes[kind]);
     feed->n += sizes[kind];
 }
 
-/* One record by its own call, and added to the feed. Few lengths, hops and addresses are wrong ones. */
+/* Few lengths, hops, feeds and addresses are wrong ones, and few preferences are high ones. */
+static candidate any_candidate(void) {
+    candidate c = {.address = address(), .length = any() % 64 ? any() % 33 : any() % 256};
+    if (c.length <= 32 && any() % 30)
+        c.address = c.length ? c.address & 0xFFFFFFFFu << (32 - c.length) : 0;
+    c.hop = any() % 50 ? 1 + any() % 7 : any() % 65536;
+    c.feed = any() % 40 ? 1 + any() % 4 : any() % 256;
+    c.preference = any() % 5 ? any() % 3 : any() % 256;
+    return c;
+}
+
+/* One record by its own call, and added to the feed, by either kind where both can say it. */
 static void record(words table, bytes *feed) {
-    uint32_t choice = any() % 10, length = any() % 64 ? any() % 33 : any() % 256;
-    uint32_t a = address(), hop = any() % 50 ? 1 + any() % 7 : any() % 65536;
+    uint32_t choice = any() % 10, plain = any() % 2;
+    candidate c = any_candidate();
     if (choice >= 8) {
-        add(feed, 3, a, 0, 0);
-        say_answer("lookup", toggleash_lookup(table.at, table.n, a));
+        c.address = address();
+        add(feed, TOGGLEASH_KIND_LOOKUP, c);
+        say_answer("lookup", toggleash_lookup(table.at, table.n, c.address));
         return;
     }
-    if (length <= 32 && any() % 30)
-        a = length ? a & 0xFFFFFFFFu << (32 - length) : 0;
     if (choice >= 5) {
-        add(feed, 2, a, length, 0);
-        say_update("withdraw", toggleash_withdraw(table.at, table.n, a, length));
+        add(feed, plain && c.feed == 1 ? TOGGLEASH_KIND_WITHDRAW : TOGGLEASH_KIND_WITHDRAW_FOR, c);
+        say_update("withdraw", toggleash_withdraw(table.at, table.n, c.address, c.length, c.feed));
         return;
     }
-    add(feed, 1, a, length, hop);
-    say_update("announce", toggleash_announce(table.at, table.n, a, length, hop));
+    if (plain && c.feed == 1)
+        c.preference = 0;
+    add(feed, plain && c.feed == 1 ? TOGGLEASH_KIND_ANNOUNCE : TOGGLEASH_KIND_ANNOUNCE_FOR, c);
+    say_update("announce", toggleash_announce(table.at, table.n, c.address, c.length, c.hop, c.feed, c.preference));
 }
 
 /* The records one by one on the table, and as one run on the other. */
 static void records(words table, words other, size_t count) {
-    bytes feed = {room(8 * count + 1, 1), 0}, reply = {room(5 * count, 1), 5 * count};
+    bytes feed = {room(TOGGLEASH_RECORD_MOST * count + 1, 1), 0}, reply = {room(5 * count, 1), 5 * count};
     for (size_t i = 0; i < count; i++)
         record(table, &feed);
-    add(&feed, 0, 0, 0, 0);
+    add(&feed, TOGGLEASH_KIND_END, (candidate){0});
     toggleash_ran r = toggleash_run(other.at, other.n, feed.at, feed.n, reply.at, reply.n);
     printf("run %" PRIu32 " %" PRIu32 " %" PRIu64 " %" PRIu64 " %" PRIu64 " %" PRIu64 "\n", r.refusal, r.stop, r.consumed,
            r.written, r.accepted, r.refused);
@@ -131,7 +152,8 @@ static void records(words table, words other, size_t count) {
 /* The copy of the table's list, and what goes before it. */
 static words copied(words table) {
     toggleash_counts counts = toggleash_check(table.at, table.n);
-    bytes list = {room(8 * (size_t)counts.routes + 1, 1), 8 * (size_t)counts.routes + 1};
+    size_t size = TOGGLEASH_WRITTEN_BYTES(counts.routes);
+    bytes list = {room(size, 1), size};
     say_counts("check", counts);
     say_written("written, short", toggleash_write_out(table.at, table.n, list.at, list.n - 1));
     say_written("written", toggleash_write_out(table.at, table.n, list.at, list.n));

@@ -35,8 +35,9 @@ LAID_OUT(built, 24, markers, uint64_t);
 uint32_t proved_clear(slice *words);
 void proved_check(toggleash_counts *r, slice *words);
 void proved_lookup(toggleash_answer *r, slice *words, uint32_t address);
-void proved_announce(toggleash_update *r, slice *words, uint32_t address, uint32_t length, uint32_t hop);
-void proved_withdraw(toggleash_update *r, slice *words, uint32_t address, uint32_t length);
+void proved_announce(toggleash_update *r, slice *words, uint32_t address, uint32_t length, uint32_t hop, uint32_t feed,
+                     uint8_t preference);
+void proved_withdraw(toggleash_update *r, slice *words, uint32_t address, uint32_t length, uint32_t feed);
 void proved_write_out(toggleash_written *r, slice *words, slice *buffer);
 void proved_run(toggleash_ran *r, slice *words, slice *feed, slice *reply);
 void proved_copy_need(toggleash_needed *r, slice *bytes);
@@ -79,17 +80,18 @@ toggleash_answer toggleash_lookup(const uint32_t *words, size_t n, uint32_t addr
     return r;
 }
 
-toggleash_update toggleash_announce(uint32_t *words, size_t n, uint32_t address, uint32_t length, uint32_t hop) {
+toggleash_update toggleash_announce(uint32_t *words, size_t n, uint32_t address, uint32_t length, uint32_t hop,
+                                    uint32_t feed, uint8_t preference) {
     toggleash_update r;
     slice w = of(words, n);
-    proved_announce(&r, &w, address, length, hop);
+    proved_announce(&r, &w, address, length, hop, feed, preference);
     return r;
 }
 
-toggleash_update toggleash_withdraw(uint32_t *words, size_t n, uint32_t address, uint32_t length) {
+toggleash_update toggleash_withdraw(uint32_t *words, size_t n, uint32_t address, uint32_t length, uint32_t feed) {
     toggleash_update r;
     slice w = of(words, n);
-    proved_withdraw(&r, &w, address, length);
+    proved_withdraw(&r, &w, address, length, feed);
     return r;
 }
 

@@ -1,14 +1,14 @@
 //! The read-only copy of a list: its words for the lookups, and its need and build by themselves.
 
-use reference::RouteList;
+use reference::CandidateList;
 use toggleash::copy;
 
 use crate::clock::{measure, Way};
 use crate::lists::Load;
 use crate::{title, Scale};
 
-/// A copy of the list, which needs no more arrays than a table has.
-pub fn words(list: &RouteList) -> Vec<u32> {
+/// A copy of the list's winners, which need no more arrays than a table has.
+pub fn words(list: &CandidateList) -> Vec<u32> {
     let bytes = list.encoding();
     let mut words = vec![0; copy::need(&bytes).expect("a list of a table")];
     copy::build(&bytes, &mut words).expect("words enough");
@@ -17,7 +17,7 @@ pub fn words(list: &RouteList) -> Vec<u32> {
 
 /// The calls that read the whole list.
 pub fn whole(scale: &Scale, load: &Load) {
-    let (bytes, mut words) = (&load.list.encoding(), words(&load.list));
+    let (bytes, mut words) = (&load.candidates.encoding(), words(&load.candidates));
     let count = words.len();
     let need = || copy::need(bytes).expect("a list of a table") as u64;
     let build = || copy::build(bytes, &mut words).map_or(0, |built| (built.routes + built.markers) as u64);

@@ -3,11 +3,14 @@
 use compare::feeds::hop;
 use compare::lists::Growing;
 use compare::random::Random;
-use reference::{Prefix, RouteList};
+use reference::{Candidate, CandidateList, Prefix, RouteList};
 
 pub struct Load {
     pub name: &'static str,
+    /// The routes, each of feed 1 with preference 0.
     pub list: RouteList,
+    /// These, and what else the table holds.
+    pub candidates: CandidateList,
     /// Heads of 24 bits that have an array of their own.
     pub deepest: Vec<u32>,
 }
@@ -29,6 +32,17 @@ pub fn dense(random: &mut Random, arrays: usize, routes: usize) -> Load {
     load("denser list", &growing)
 }
 
+/// The same routes, each with a candidate of feed 2 that waits behind it.
+pub fn rivalled(load: &Load) -> Load {
+    let mut random = Random::for_case(1, "rivals", 0);
+    let mut candidates = load.candidates.candidates().to_vec();
+    for route in load.list.routes() {
+        candidates.push(Candidate { prefix: route.prefix, feed: 2, preference: 1, hop: hop(&mut random) });
+    }
+    let (list, deepest) = (load.list.clone(), load.deepest.clone());
+    Load { name: "rival list", list, candidates: candidates.into(), deepest }
+}
+
 fn filled(random: &mut Random, arrays: usize) -> Growing {
     let mut growing = Growing::default();
     while growing.need() < arrays {
@@ -40,7 +54,8 @@ fn filled(random: &mut Random, arrays: usize) -> Growing {
 
 fn load(name: &'static str, growing: &Growing) -> Load {
     let deepest = growing.heads().filter(|&(level, _)| level == 3).map(|(_, head)| head).collect();
-    Load { name, list: growing.list(), deepest }
+    let list = growing.list();
+    Load { name, candidates: (&list).into(), list, deepest }
 }
 
 pub fn random_addresses(random: &mut Random, count: usize) -> Vec<u32> {

@@ -14,8 +14,9 @@ use clock::{measure, Way};
 use compare::random::Random;
 use lists::Load;
 use lpm::Lpm;
-use reference::{layout, Route, RouteList};
+use reference::{layout, CandidateList, Route};
 use toggleash::ffi::{self, Answer, Match};
+use toggleash::Candidate;
 use trie::Trie;
 
 const ARRAYS: usize = 4_096;
@@ -57,7 +58,9 @@ fn main() {
 
 /// Each call by itself.
 fn calls(random: &mut Random, scale: &Scale, lpm: Option<&Lpm>) {
-    for load in [lists::sparse(random, ARRAYS), lists::dense(random, ARRAYS, ROUTES)] {
+    let (sparse, dense) = (lists::sparse(random, ARRAYS), lists::dense(random, ARRAYS, ROUTES));
+    let rivalled = lists::rivalled(&dense);
+    for load in [sparse, dense, rivalled] {
         lookups(random, scale, &load, lpm);
         updates(random, scale, &load, ARRAYS, lpm);
         whole(scale, &load);
@@ -71,10 +74,10 @@ fn calls(random: &mut Random, scale: &Scale, lpm: Option<&Lpm>) {
 }
 
 /// The list as a table, which the library's check must know.
-fn table(list: &RouteList, arrays: usize) -> Vec<u32> {
+fn table(list: &CandidateList, arrays: usize) -> Vec<u32> {
     let words = layout::lay(list, arrays, &(2..=arrays).collect::<Vec<_>>());
     let counts = toggleash::check(&words).expect("a table laid out is one");
-    assert_eq!(counts.routes as usize, list.routes().len());
+    assert_eq!(counts.routes as usize, list.candidates().len());
     words
 }
 
@@ -95,13 +98,13 @@ fn sum_of_copy(lookup: Lookup<Match>, words: &[u32], addresses: &[u32]) -> u64 {
 }
 
 fn lookups(random: &mut Random, scale: &Scale, load: &Load, lpm: Option<&Lpm>) {
-    let words = &table(&load.list, ARRAYS);
+    let words = &table(&load.candidates, ARRAYS);
     let (trie, boxed) = (&Trie::new(&load.list), &Boxed::new(&load.list));
     let sets = [
         ("random addresses", lists::random_addresses(random, scale.addresses)),
         ("addresses inside the deepest arrays", lists::deep_addresses(random, load, scale.addresses)),
     ];
-    let copy = &copies::words(&load.list);
+    let copy = &copies::words(&load.candidates);
     for (name, addresses) in &sets {
         let mut ways = vec![
             Way::new("toggleash_lookup", || sum_of_table(ffi::toggleash_lookup, words, addresses)),
@@ -125,7 +128,7 @@ fn title(what: &str, load: &Load, more: &str) -> String {
 
 /// Routes taken out and put back, by single calls and by a run, which is given two records for each.
 fn updates(random: &mut Random, scale: &Scale, load: &Load, arrays: usize, lpm: Option<&Lpm>) {
-    let mut words = table(&load.list, arrays);
+    let mut words = table(&load.candidates, arrays);
     let mut same_words = words.clone();
     let mut trie = Trie::new(&load.list);
     let count = (scale.addresses / 200 / arrays).clamp(4, 2_000);
@@ -148,7 +151,7 @@ fn accepted(ran: Result<toggleash::Ran, toggleash::Refusal>) -> u64 {
     ran.expect("a table stays one").accepted as u64
 }
 
-/// The records that withdraw a route and announce it again.
+/// The records that withdraw a route and announce it again, by feed 1 as it is.
 fn take_and_put(route: &Route) -> Vec<u8> {
     let (address, length) = (route.prefix.address.to_be_bytes(), [route.prefix.length as u8]);
     let hop = (route.hop as u16).to_be_bytes();
@@ -160,16 +163,16 @@ fn flap(words: &mut [u32], routes: &[Route]) -> u64 {
     let mut accepted = 0;
     for route in routes {
         let (address, length) = (route.prefix.address.into(), route.prefix.length);
-        accepted += u64::from(toggleash::withdraw(words, address, length).is_ok());
-        accepted += u64::from(toggleash::announce(words, address, length, route.hop).is_ok());
+        accepted += u64::from(toggleash::withdraw(words, address, length, 1).is_ok());
+        accepted += u64::from(toggleash::announce(words, address, length, Candidate::via(route.hop)).is_ok());
     }
     accepted
 }
 
 /// The calls that read or write the whole table.
 fn whole(scale: &Scale, load: &Load) {
-    let words = &table(&load.list, ARRAYS);
-    let mut buffer = vec![0; 8 * load.list.routes().len() + 1];
+    let words = &table(&load.candidates, ARRAYS);
+    let mut buffer = vec![0; load.candidates.encoded_size()];
     let mut cleared = words.clone();
     let check = || u64::from(toggleash::check(words).expect("a table").routes);
     let write_out = || toggleash::write_out(words, &mut buffer).expect("room enough").len() as u64;

@@ -19,8 +19,9 @@ const ADDRESSES: usize = 10;
 pub fn measure_all(random: &mut Random, scale: &Scale, lpm: Option<&Lpm>) {
     let dense = [1, 64, ARRAYS].map(|arrays| (lists::dense(random, arrays, 16 * arrays), arrays));
     let sparse = [64, ARRAYS].map(|arrays| (lists::sparse(random, arrays), arrays));
+    let rivalled = [1, 2].map(|at| (lists::rivalled(&dense[at].0), dense[at].1));
     let mut rows = Vec::new();
-    for loads in [&dense[..], &sparse[..]] {
+    for loads in [&dense[..], &sparse[..], &rivalled[..]] {
         for few in [Some(FEW), None] {
             let mut flaps: Vec<Flaps> = loads.iter().map(|load| Flaps::new(load, few, random, scale)).collect();
             let prefixes = few.map_or("all prefixes".into(), |few| format!("at most {few} prefixes"));
@@ -56,7 +57,7 @@ impl Flaps<'_> {
         let routes: Vec<Route> = (0..scale.addresses / ADDRESSES / 2).map(|_| random.pick(&spread)).collect();
         let feed = routes.iter().flat_map(take_and_put).collect();
         let reply = vec![0; 10 * routes.len()];
-        Flaps { load, arrays: *arrays, prefixes, words: table(&load.list, *arrays), routes, feed, reply }
+        Flaps { load, arrays: *arrays, prefixes, words: table(&load.candidates, *arrays), routes, feed, reply }
     }
 
     fn run(&mut self) -> u64 {

@@ -11,6 +11,7 @@ uint32_t lent(uint32_t parameter[TOGGLEASH_WORDS(1)], const uint32_t *constant) 
     toggleash_copy copy = TOGGLEASH_COPY(card);
     uint32_t *pointer = parameter;
     uint32_t refusal = toggleash_table_clear(table) + toggleash_copy_make(copy, list, sizeof list).refusal;
+    refusal += toggleash_table_announce(table, 0, 0, 1, 1, 0).refusal + toggleash_table_withdraw(table, 0, 0, 1).refusal;
     (void)pointer, (void)constant, (void)odd, (void)bytes;
 #if MISTAKE == 0
     return refusal;
@@ -39,7 +40,11 @@ uint32_t lent(uint32_t parameter[TOGGLEASH_WORDS(1)], const uint32_t *constant) 
 #elif MISTAKE == 12 /* words that cannot be changed */
     return refusal + toggleash_table_clear(TOGGLEASH_TABLE(*(const uint32_t(*)[TOGGLEASH_WORDS(1)])constant));
 #elif MISTAKE == 13 /* a refusal that nobody sees */
-    toggleash_table_announce(table, 0, 0, 1);
+    toggleash_table_announce(table, 0, 0, 1, 1, 0);
     return refusal;
+#elif MISTAKE == 14 /* a candidate without its feed and preference */
+    return refusal + toggleash_table_announce(table, 0, 0, 1).refusal;
+#elif MISTAKE == 15
+    return refusal + toggleash_table_withdraw(table, 0, 0).refusal;
 #endif
 }

@@ -73,23 +73,76 @@ static void built(const char *what, toggleash_built b, uint32_t refusal, uint64_
 
 static void updates(void) {
     same("clear", 0, toggleash_clear(words, ROOM));
-    update("announce", toggleash_announce(words, ROOM, 0x0A010180, 25, 65535), 0, 65535, 128);
-    update("announce held", toggleash_announce(words, ROOM, 0x0A010180, 25, 2), 0, 2, 128);
-    update("announce held, same hop", toggleash_announce(words, ROOM, 0x0A010180, 25, 2), 0, 2, 0);
-    update("announce held, first hop", toggleash_announce(words, ROOM, 0x0A010180, 25, 65535), 0, 65535, 128);
-    update("announce, no room", toggleash_announce(words, ROOM, 0x0A010200, 25, 2), 8, 0, 0);
-    update("announce, length", toggleash_announce(words, ROOM, 0, 33, 0), 3, 0, 0);
-    update("announce, stray bit", toggleash_announce(words, ROOM, 0x0A000001, 24, 0), 4, 0, 0);
-    update("announce, hop 0", toggleash_announce(words, ROOM, 0, 0, 0), 5, 0, 0);
-    update("announce, hop", toggleash_announce(words, ROOM, 0, 0, 65536), 5, 0, 0);
-    update("announce default", toggleash_announce(words, ROOM, 0, 0, 7), 0, 7, 256);
-    update("withdraw, not held", toggleash_withdraw(words, ROOM, 0, 1), 7, 0, 0);
-    update("withdraw, length", toggleash_withdraw(words, ROOM, 0, 4000000000u), 3, 0, 0);
+    update("announce", toggleash_announce(words, ROOM, 0x0A010180, 25, 65535, 1, 0), 0, 65535, 128);
+    update("announce held", toggleash_announce(words, ROOM, 0x0A010180, 25, 2, 1, 0), 0, 2, 128);
+    update("announce held, same hop", toggleash_announce(words, ROOM, 0x0A010180, 25, 2, 1, 0), 0, 2, 0);
+    update("announce held, first hop", toggleash_announce(words, ROOM, 0x0A010180, 25, 65535, 1, 0), 0, 65535, 128);
+    update("announce, no room", toggleash_announce(words, ROOM, 0x0A010200, 25, 2, 1, 0), 8, 0, 0);
+    update("announce, length", toggleash_announce(words, ROOM, 0, 33, 0, 1, 0), 3, 0, 0);
+    update("announce, stray bit", toggleash_announce(words, ROOM, 0x0A000001, 24, 0, 1, 0), 4, 0, 0);
+    update("announce, hop 0", toggleash_announce(words, ROOM, 0, 0, 0, 1, 0), 5, 0, 0);
+    update("announce, hop", toggleash_announce(words, ROOM, 0, 0, 65536, 1, 0), 5, 0, 0);
+    update("announce, feed 0", toggleash_announce(words, ROOM, 0, 0, 1, 0, 0), 10, 0, 0);
+    update("announce, feed", toggleash_announce(words, ROOM, 0, 0, 1, 4000000000u, 255), 10, 0, 0);
+    update("announce default", toggleash_announce(words, ROOM, 0, 0, 7, 1, 0), 0, 7, 256);
+    update("withdraw, not held", toggleash_withdraw(words, ROOM, 0, 1, 1), 7, 0, 0);
+    update("withdraw, of another feed", toggleash_withdraw(words, ROOM, 0, 0, 2), 7, 0, 0);
+    update("withdraw, feed", toggleash_withdraw(words, ROOM, 0, 0, 5), 10, 0, 0);
+    update("withdraw, length", toggleash_withdraw(words, ROOM, 0, 4000000000u, 5), 3, 0, 0);
     counts("check", toggleash_check(words, ROOM), 0, 2, 4);
     answer("lookup", toggleash_lookup(words, ROOM, 0x0A0101FF), 0, 1, 65535, 25, 25);
     answer("lookup default", toggleash_lookup(words, ROOM, 0xFFFFFFFF), 0, 1, 7, 0, 1);
-    update("withdraw", toggleash_withdraw(words, ROOM, 0, 0), 0, 7, 256);
+    update("withdraw", toggleash_withdraw(words, ROOM, 0, 0, 1), 0, 7, 256);
     answer("lookup none", toggleash_lookup(words, ROOM, 0xFFFFFFFF), 0, 0, 0, 0, 1);
+}
+
+/* A feed's candidates for 10.1.4.0/22, which covers 4 cells, and the hop that wins then. */
+static void candidates(void) {
+    toggleash_table table = TOGGLEASH_TABLE(words);
+    same("clear", 0, toggleash_table_clear(table));
+    update("first", toggleash_table_announce(table, 0x0A010400, 22, 5, 4, 10), 0, 5, 4);
+    update("worse", toggleash_table_announce(table, 0x0A010400, 22, 6, 1, 255), 0, 6, 0);
+    answer("the first wins", toggleash_table_find(table, 0x0A010509), 0, 1, 5, 22, 22);
+    update("as good, lower feed", toggleash_table_announce(table, 0x0A010400, 22, 7, 2, 10), 0, 7, 4);
+    update("as good, higher feed", toggleash_table_announce(table, 0x0A010400, 22, 8, 3, 10), 0, 8, 0);
+    answer("the lower feed wins", toggleash_table_find(table, 0x0A010509), 0, 1, 7, 22, 22);
+    update("better, same hop", toggleash_table_announce(table, 0x0A010400, 22, 7, 1, 0), 0, 7, 0);
+    counts("four candidates", toggleash_table_check(table), 0, 4, 3);
+    update("worse, same hop", toggleash_table_announce(table, 0x0A010400, 22, 7, 2, 11), 0, 7, 0);
+    update("withdraw a winner", toggleash_table_withdraw(table, 0x0A010400, 22, 1), 0, 7, 4);
+    answer("the next wins", toggleash_table_find(table, 0x0A010509), 0, 1, 8, 22, 22);
+    update("withdraw a loser", toggleash_table_withdraw(table, 0x0A010400, 22, 4), 0, 5, 0);
+    update("withdraw, not held by it", toggleash_table_withdraw(table, 0x0A010400, 22, 4), TOGGLEASH_NOT_HELD, 0, 0);
+    update("no such feed", toggleash_table_announce(table, 0, 0, 1, TOGGLEASH_MOST_FEED + 1, 0),
+           TOGGLEASH_FEED_OUT_OF_RANGE, 0, 0);
+    update("withdraw the winner", toggleash_table_withdraw(table, 0x0A010400, 22, 3), 0, 8, 4);
+    update("withdraw the last", toggleash_table_withdraw(table, 0x0A010400, 22, 2), 0, 7, 4);
+    counts("no candidate", toggleash_table_check(table), 0, 0, 1);
+}
+
+/* The same by records, with what is written out in between. */
+static void kinds(void) {
+    static const uint8_t feed[] = {
+        TOGGLEASH_KIND_ANNOUNCE_FOR, 10, 0, 0, 0, 8, 0, 6, 2, 255, /* feed 2 with preference 255 */
+        TOGGLEASH_KIND_ANNOUNCE, 10, 0, 0, 0, 8, 1, 0,             /* feed 1 with preference 0 */
+        TOGGLEASH_KIND_ANNOUNCE_FOR, 10, 0, 0, 0, 8, 0, 7, 5, 0,   /* there is no feed 5 */
+        TOGGLEASH_KIND_WITHDRAW_FOR, 10, 0, 0, 0, 8, 3, TOGGLEASH_KIND_END,
+    };
+    static const uint8_t list[TOGGLEASH_WRITTEN_BYTES(2)] = {4, 10, 0, 0, 0, 8, 1, 0, 1, 0,
+                                                             4, 10, 0, 0, 0, 8, 0, 6, 2, 255, 0};
+    static const uint8_t end[] = {TOGGLEASH_KIND_WITHDRAW, 10, 0, 0, 0, 8, TOGGLEASH_KIND_WITHDRAW_FOR, 10, 0, 0, 0, 8, 2};
+    static const uint8_t after_feed[14] = {16, 0, 6, 0, 1, 16, 1, 0, 0, 1, 19, 10, 19, 7};
+    static const uint8_t after_end[10] = {16, 1, 0, 0, 1, 16, 0, 6, 0, 1};
+    static const uint64_t four[4] = {sizeof feed, 14, 2, 2}, two[4] = {sizeof end, 10, 2, 0};
+    toggleash_table table = TOGGLEASH_TABLE(words);
+    uint8_t reply[4 * TOGGLEASH_REPLY_MOST], buffer[sizeof list];
+    same("clear", 0, toggleash_table_clear(table));
+    ran("kinds", toggleash_table_run(table, feed, sizeof feed, reply, sizeof reply), 0, TOGGLEASH_STOP_END, four);
+    same("replies to kinds", 0, (uint64_t)memcmp(reply, after_feed, sizeof after_feed));
+    written("write candidates", toggleash_table_write(table, buffer, sizeof buffer), 0, sizeof list);
+    same("list of candidates", 0, (uint64_t)memcmp(buffer, list, sizeof list));
+    ran("kinds, end", toggleash_table_run(table, end, sizeof end, reply, sizeof reply), 0, TOGGLEASH_STOP_NO_BYTE, two);
+    same("replies to the end", 0, (uint64_t)memcmp(reply, after_end, sizeof after_end));
 }
 
 /* Blocks: one announcement after another, and what is found then. */
@@ -97,8 +150,8 @@ static void blocks(void) {
     toggleash_table table = TOGGLEASH_TABLE(words);
     same("clear", 0, toggleash_table_clear(table));
     answer("block, no route", toggleash_table_find(table, 0xFFFFFFFF), 0, 0, 0, 0, 0);
-    update("block, /8", toggleash_table_announce(table, 0x0A000000, 8, 1), 0, 1, 1);
-    update("block, /22", toggleash_table_announce(table, 0x0A010400, 22, 2), 0, 2, 4);
+    update("block, /8", toggleash_table_announce(table, 0x0A000000, 8, 1, 1, 0), 0, 1, 1);
+    update("block, /22", toggleash_table_announce(table, 0x0A010400, 22, 2, 1, 0), 0, 2, 4);
     answer("block, 10.1.5.9", toggleash_table_find(table, 0x0A010509), 0, 1, 2, 22, 22);
     answer("block, 10.1.0.1", toggleash_table_find(table, 0x0A010001), 0, 1, 1, 8, 22);
     answer("block, 10.1.8.0", toggleash_table_find(table, 0x0A010800), 0, 1, 1, 8, 21);
@@ -106,16 +159,16 @@ static void blocks(void) {
     answer("block, 10.128.0.0", toggleash_table_find(table, 0x0A800000), 0, 1, 1, 8, 9);
     answer("block, 11.0.0.0", toggleash_table_find(table, 0x0B000000), 0, 0, 0, 0, 8);
     same("clear again", 0, toggleash_table_clear(table));
-    update("block, /32", toggleash_table_announce(table, 0x0A000000, 32, 1), 0, 1, 1);
+    update("block, /32", toggleash_table_announce(table, 0x0A000000, 32, 1, 1, 0), 0, 1, 1);
     answer("block, 10.0.0.0", toggleash_table_find(table, 0x0A000000), 0, 1, 1, 32, 32);
     answer("block, 10.0.0.1", toggleash_table_find(table, 0x0A000001), 0, 0, 0, 0, 32);
     answer("block, 10.0.0.2", toggleash_table_find(table, 0x0A000002), 0, 0, 0, 0, 31);
     answer("block, 10.0.0.128", toggleash_table_find(table, 0x0A000080), 0, 0, 0, 0, 25);
     answer("block, 10.0.1.0", toggleash_table_find(table, 0x0A000100), 0, 0, 0, 0, 24);
-    update("block, default", toggleash_table_announce(table, 0, 0, 2), 0, 2, 256);
+    update("block, default", toggleash_table_announce(table, 0, 0, 2, 1, 0), 0, 2, 256);
     answer("block, 10.0.0.1 now", toggleash_table_find(table, 0x0A000001), 0, 1, 2, 0, 32);
     answer("block, 255.0.0.0", toggleash_table_find(table, 0xFF000000), 0, 1, 2, 0, 1);
-    update("block, default alone", toggleash_table_withdraw(table, 0x0A000000, 32), 0, 1, 1);
+    update("block, default alone", toggleash_table_withdraw(table, 0x0A000000, 32, 1), 0, 1, 1);
     answer("block, 1.2.3.4", toggleash_table_find(table, 0x01020304), 0, 1, 2, 0, 0);
 }
 
@@ -137,18 +190,18 @@ static void replies(void) {
 }
 
 static void bytes(void) {
-    static const uint8_t list[9] = {1, 0x0A, 1, 1, 0x80, 25, 0xFF, 0xFF, 0};
+    static const uint8_t list[11] = {TOGGLEASH_KIND_ANNOUNCE_FOR, 0x0A, 1, 1, 0x80, 25, 0xFF, 0xFF, 1, 0, 0};
     static const uint8_t feed[7] = {TOGGLEASH_KIND_WITHDRAW, 0x0A, 1, 1, 0x80, 25, TOGGLEASH_KIND_END};
     static const uint8_t replied[6] = {TOGGLEASH_KIND_DONE, 0xFF, 0xFF, 0, 128, 0xEE};
     static const uint64_t taken[4] = {7, TOGGLEASH_REPLY_MOST, 1, 0}, again[4] = {7, 2, 0, 1};
-    uint8_t buffer[10], reply[6];
+    uint8_t buffer[12], reply[6];
     memset(buffer, 0xEE, sizeof buffer);
     memset(reply, 0xEE, sizeof reply);
-    written("write out, short", toggleash_write_out(words, ROOM, buffer, 8), 9, 0);
+    written("write out, short", toggleash_write_out(words, ROOM, buffer, 10), 9, 0);
     same("buffer kept", 0xEE, buffer[0]);
-    written("write out", toggleash_write_out(words, ROOM, buffer, sizeof buffer), 0, 9);
+    written("write out", toggleash_write_out(words, ROOM, buffer, sizeof buffer), 0, sizeof list);
     same("list", 0, (uint64_t)memcmp(buffer, list, sizeof list));
-    same("rest kept", 0xEE, buffer[9]);
+    same("rest kept", 0xEE, buffer[11]);
     ran("run", toggleash_run(words, ROOM, feed, sizeof feed, reply, sizeof reply), 0, TOGGLEASH_STOP_END, taken);
     same("reply", 0, (uint64_t)memcmp(reply, replied, sizeof reply));
     ran("run again", toggleash_run(words, ROOM, feed, sizeof feed, reply, sizeof reply), 0, TOGGLEASH_STOP_END, again);
@@ -161,13 +214,15 @@ static void nothing(void) {
     same("clear, null", 1, toggleash_clear(NULL, 0));
     counts("check, null", toggleash_check(NULL, 0), 1, 0, 0);
     answer("lookup, null", toggleash_lookup(NULL, 0, 1), 1, 0, 0, 0, 0);
-    update("announce, null", toggleash_announce(NULL, 0, 0, 33, 0), 1, 0, 0);
-    update("withdraw, null", toggleash_withdraw(NULL, 0, 0, 33), 1, 0, 0);
+    update("announce, null", toggleash_announce(NULL, 0, 0, 33, 0, 0, 0), 1, 0, 0);
+    update("withdraw, null", toggleash_withdraw(NULL, 0, 0, 33, 0), 1, 0, 0);
     written("write out, null words", toggleash_write_out(NULL, 0, NULL, 0), 1, 0);
     ran("run, null words", toggleash_run(NULL, 0, NULL, 0, NULL, 0), 1, 0, zeros);
     words[0]++;
     counts("check, no table", toggleash_check(words, ROOM), 2, 0, 0);
-    update("announce, no table", toggleash_announce(words, ROOM, 0, 0, 1), 2, 0, 0);
+    update("announce, no table", toggleash_announce(words, ROOM, 0, 0, 1, 1, 0), 2, 0, 0);
+    update("announce, no table and no feed", toggleash_announce(words, ROOM, 0, 0, 1, 5, 0), 10, 0, 0);
+    update("withdraw, no table and no feed", toggleash_withdraw(words, ROOM, 0, 0, 0), 10, 0, 0);
     written("write out, no table", toggleash_write_out(words, ROOM, NULL, 0), 2, 0);
     ran("run, no table", toggleash_run(words, ROOM, NULL, 0, NULL, 0), 2, 0, zeros);
 }
@@ -177,8 +232,13 @@ static const uint8_t sample[25] = {1, 10, 0, 0, 0, 8,  0,    1,    1, 10, 1, 0, 
                                    1, 10, 1, 4, 0, 22, 0xFF, 0xFF, 0};
 #define NEED 1056
 
+/* The same routes as winners: feed 2 has a better candidate for the /8, and feed 1 one for the /22. */
+static const uint8_t rivals[TOGGLEASH_WRITTEN_BYTES(5)] = {
+    4, 10, 0, 0, 0, 8,  0,    9,    1, 2, 4, 10, 0, 0, 0, 8,  0, 1, 2, 1, 4, 10, 1, 0, 0, 20, 0, 3, 4, 9,
+    4, 10, 1, 4, 0, 22, 0xFF, 0xFF, 1, 7, 4, 10, 1, 4, 0, 22, 0, 4, 3, 7, 0};
+
 /* The default route alone. */
-static const uint8_t alone[TOGGLEASH_WRITTEN_BYTES(1)] = {TOGGLEASH_KIND_ANNOUNCE, 0, 0, 0, 0, 0, 0, 7,
+static const uint8_t alone[TOGGLEASH_WRITTEN_BYTES(1)] = {TOGGLEASH_KIND_ANNOUNCE_FOR, 0, 0, 0, 0, 0, 0, 7, 1, 0,
                                                           TOGGLEASH_KIND_END};
 
 static uint32_t copy[NEED + 2];
@@ -195,11 +255,17 @@ static void kept(const char *what, size_t from) {
 }
 
 static void copies(void) {
+    static uint32_t of_routes[NEED + 2];
     needed("need", toggleash_copy_need(sample, sizeof sample), 0, NEED);
     needed("need, empty list", toggleash_copy_need(sample + 24, 1), 0, 1024);
     spoil();
     built("build", toggleash_copy_build(sample, sizeof sample, copy, NEED + 2), 0, 3, 1);
     kept("words past the need", NEED);
+    memcpy(of_routes, copy, sizeof copy);
+    spoil();
+    needed("need of winners", toggleash_copy_need(rivals, sizeof rivals), 0, NEED);
+    built("build of winners", toggleash_copy_build(rivals, sizeof rivals, copy, NEED + 2), 0, 3, 1);
+    same("the same copy", 0, (uint64_t)memcmp(of_routes, copy, sizeof copy));
     match("copy lookup", toggleash_copy_lookup(copy, NEED + 2, 0x0A010509), 0, 1, 65535, 22);
     match("copy lookup, next box out", toggleash_copy_lookup(copy, NEED + 2, 0x0A010809), 0, 1, 3, 20);
     match("copy lookup, by the marker", toggleash_copy_lookup(copy, NEED, 0x0A011000), 0, 1, 1, 8);
@@ -211,10 +277,15 @@ static void copies(void) {
 }
 
 static void no_copies(void) {
+    static const uint8_t disordered[] = {4, 10, 0, 0, 0, 8, 0, 1, 2, 1, 4, 10, 0, 0, 0, 8, 0, 9, 1, 2, 0};
+    static const uint8_t both[] = {1, 10, 0, 0, 0, 8, 0, 1, 4, 11, 0, 0, 0, 8, 0, 1, 1, 0, 0};
     spoil();
     needed("need, null", toggleash_copy_need(NULL, 0), 2, 0);
     needed("need, no end", toggleash_copy_need(sample, 24), 2, 0);
     needed("need, no record", toggleash_copy_need(sample + 1, 24), 2, 0);
+    needed("need, candidates without an end", toggleash_copy_need(rivals, 50), 2, 0);
+    needed("need, candidates out of order", toggleash_copy_need(disordered, sizeof disordered), 2, 0);
+    needed("need, both kinds", toggleash_copy_need(both, sizeof both), 2, 0);
     built("build, null", toggleash_copy_build(NULL, 0, NULL, 0), 2, 0, 0);
     built("build, null bytes", toggleash_copy_build(NULL, 0, copy, NEED), 2, 0, 0);
     built("build, no end", toggleash_copy_build(sample, 24, copy, NEED), 2, 0, 0);
@@ -234,21 +305,21 @@ static void no_copies(void) {
 
 /* Each call on a table does what the archive's does on its words. */
 static void tables(void) {
-    static const uint64_t taken[4] = {9, 5, 1, 0};
+    static const uint64_t taken[4] = {11, 5, 1, 0};
     toggleash_table table = TOGGLEASH_TABLE(words);
     uint8_t list[TOGGLEASH_WRITTEN_BYTES(2)], reply[TOGGLEASH_REPLY_MOST];
     same("words of a table", ROOM, table.n);
     same("clear table", 0, toggleash_table_clear(table));
     ran("run table", toggleash_table_run(table, alone, sizeof alone, reply, sizeof reply), 0, TOGGLEASH_STOP_END, taken);
-    update("announce table", toggleash_table_announce(table, 0x0A000000, 8, TOGGLEASH_MOST_HOP), 0, 65535, 1);
-    update("announce table, stray bit", toggleash_table_announce(table, 0x0A000001, 8, 1), TOGGLEASH_STRAY_BIT, 0, 0);
+    update("announce table", toggleash_table_announce(table, 0x0A000000, 8, TOGGLEASH_MOST_HOP, 1, 0), 0, 65535, 1);
+    update("announce table, stray bit", toggleash_table_announce(table, 0x0A000001, 8, 1, 1, 0), TOGGLEASH_STRAY_BIT, 0, 0);
     counts("check table", toggleash_table_check(table), 0, 2, 1);
     answer("find in table", toggleash_table_find(table, 0x0A010509), 0, 1, 65535, 8, 8);
     answer("find in table, default", toggleash_table_find(table, 0x0C000000), 0, 1, 7, 0, 6);
     written("write table", toggleash_table_write(table, list, sizeof list), 0, sizeof list);
     written("write table, short", toggleash_table_write(table, list, sizeof list - 1), TOGGLEASH_BUFFER_SHORT, 0);
-    update("withdraw table", toggleash_table_withdraw(table, 0x0A000000, 8), 0, 65535, 1);
-    update("withdraw table, not held", toggleash_table_withdraw(table, 0x0A000000, 8), TOGGLEASH_NOT_HELD, 0, 0);
+    update("withdraw table", toggleash_table_withdraw(table, 0x0A000000, 8, 1), 0, 65535, 1);
+    update("withdraw table, not held", toggleash_table_withdraw(table, 0x0A000000, 8, 1), TOGGLEASH_NOT_HELD, 0, 0);
     toggleash_needed need = toggleash_copy_need(list, sizeof list);
     needed("need of two", need, 0, TOGGLEASH_COPY_LEAST_WORDS + 16);
     built("make copy", toggleash_copy_make(TOGGLEASH_COPY(copy), list, sizeof list), 0, 2, 0);
@@ -271,7 +342,7 @@ static uint32_t leads(uint32_t length, uint32_t hop, uint32_t array) {
 
 /* Words that are no table: what a cell on the walk must be for an answer. There are 4 arrays. */
 static void foreign(void) {
-    uint32_t *cell = words + 1024 + 512;
+    uint32_t *cell = words + 3072 + 2048;
     const uint32_t refused[] = {
         ends(9, 0, 0),  ends(9, 1, 0),   ends(255, 1, 8), /* a length over 8, with a hop or without */
         leads(9, 1, 4), leads(14, 0, 4),                  /* beside a link too */
@@ -307,25 +378,27 @@ static void sizes(void) {
         abort();
     toggleash_table one = TOGGLEASH_TABLE(*lent);
     same("clear a whole array", 0, toggleash_table_clear(one));
-    update("one array", toggleash_table_announce(one, 0x0A000000, 9, 1), TOGGLEASH_NO_ROOM, 0, 0);
+    update("one array", toggleash_table_announce(one, 0x0A000000, 9, 1, 1, 0), TOGGLEASH_NO_ROOM, 0, 0);
     free(lent);
 }
 
 static void texts(void) {
-    same("version", TOGGLEASH_VERSION, toggleash_version_2());
-    for (uint32_t i = 0; i <= 10; i++) {
+    same("version", TOGGLEASH_VERSION, toggleash_version_3());
+    for (uint32_t i = 0; i <= 11; i++) {
         int none = strcmp(toggleash_refusal_text(i), toggleash_refusal_text(6)) == 0;
-        same("text of a refusal", i == 6 || i == 10, (uint64_t)none);
+        same("text of a refusal", i == 6 || i == 11, (uint64_t)none);
         none = strcmp(toggleash_stop_text(i), toggleash_stop_text(5)) == 0;
         same("text of a stop", i > 4, (uint64_t)none);
     }
-    same("text of no room", 0, (uint64_t)strcmp(toggleash_refusal_text(8), "the table has no room for the route"));
+    same("text of no room", 0, (uint64_t)strcmp(toggleash_refusal_text(8), "the table has no room for the prefix"));
 }
 
 int main(void) {
     updates();
     bytes();
     nothing();
+    candidates();
+    kinds();
     blocks();
     replies();
     foreign();

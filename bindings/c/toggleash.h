@@ -6,7 +6,7 @@
  *
  *     if (toggleash_table_clear(table)) ..
  *
- * Words. A table of A arrays, A from 1 to 4,096, takes 1,024 * (A + 1) words of 32 bits: TOGGLEASH_WORDS(A). The words
+ * Words. A table of A arrays, A from 1 to 4,096, takes 3,072 * (A + 1) words of 32 bits: TOGGLEASH_WORDS(A). The words
  * are the whole state: there is nothing to open or close, and they can be moved, or copied to where they go on as a
  * table of their own. They are in the byte order of the machine: to hand routes to another machine write them out,
  * which gives bytes that are the same everywhere. Start with toggleash_table_clear.
@@ -18,6 +18,12 @@
  *
  * Addresses, hops. An address is a number, a.b.c.d being a * 2^24 + b * 2^16 + c * 2^8 + d. A hop is from 1 to 65,535,
  * and what it stands for is the caller's matter.
+ *
+ * Candidates. A prefix holds up to four, one for each feed 1 to 4, each with a hop and a preference from 0 to 255. The
+ * feed's number tells from which side a candidate was heard; the records of one run may name several. The candidate with
+ * the lowest preference wins, at equal preference that of the lowest feed. The winners are the routes that lookups and
+ * copies know; the others wait until those go or get worse. A caller that hears each prefix from one side alone gives
+ * feed 1 and preference 0 throughout, which is what records of kinds 1 and 2 mean.
  *
  * Feeds. What the bytes of a feed, of its replies and of a written list are: docs/FEED.md.
  *
@@ -47,30 +53,32 @@ extern "C" {
 /* ---- Numbers */
 
 /* Refusals: the field `refusal` is 0 where the call answered. Else it is one of these, and all other fields are 0.
- * Where several apply, the first in this order is given: 1, 3, 4, 5, 2, 7, 8 or 9. There is no 6. */
+ * Where several apply, the first in this order is given: 1, 3, 4, 5, 10, 2, 7, 8 or 9. There is no 6. */
 enum {
-    TOGGLEASH_WORD_COUNT = 1,   /* the number of words is not a multiple of 1,024 from 2,048 to 4,195,328 */
+    TOGGLEASH_WORD_COUNT = 1,   /* the number of words is not a multiple of 3,072 from 6,144 to 12,585,984 */
     TOGGLEASH_NOT_A_TABLE = 2,  /* the words are not a table. A lookup does not test that; it gives 2 where a cell on its
                                    walk has a length over 8, no link and a block over 8, or a link to an array that the
                                    words do not have, as any link has at the last of the four levels (docs/LAYOUT.md).
-                                   From toggleash_copy_need and making a copy: the bytes are not one whole written-out
-                                   list of a table, of any room. From a lookup in a copy: the words are fewer than
-                                   1,024, or its walk meets a best match, the place of a hash table or the mark of an
-                                   entry that no copy has (docs/COPY.md) */
+                                   From toggleash_copy_need and making a copy: the bytes are not one whole list of a
+                                   table, of any room, in records of kind 4 or of kind 1 alone. From a lookup in a copy:
+                                   the words are fewer than 1,024, or its walk meets a best match, the place of a hash
+                                   table or the mark of an entry that no copy has (docs/COPY.md) */
     TOGGLEASH_LENGTH_OVER_32 = 3,
     TOGGLEASH_STRAY_BIT = 4,    /* a bit of the address after the first `length` is set */
     TOGGLEASH_HOP_OUT_OF_RANGE = 5, /* the hop is 0 or over 65,535 */
-    TOGGLEASH_NOT_HELD = 7,     /* no route of this prefix is there to withdraw */
-    TOGGLEASH_NO_ROOM = 8,      /* the prefix is not held, and the routes with it need more arrays than the words have */
-    TOGGLEASH_BUFFER_SHORT = 9  /* the buffer is too short for the written list; from making a copy: the words are fewer
+    TOGGLEASH_NOT_HELD = 7,     /* the feed has no candidate for this prefix that could be withdrawn */
+    TOGGLEASH_NO_ROOM = 8,      /* the prefix has no candidate, and the prefixes with it need more arrays than the words
+                                   have */
+    TOGGLEASH_BUFFER_SHORT = 9, /* the buffer is too short for the written list; from making a copy: the words are fewer
                                    than it needs */
+    TOGGLEASH_FEED_OUT_OF_RANGE = 10 /* the feed is not 1 to 4 */
 };
 
 /* Why a run stopped. */
 enum {
     TOGGLEASH_STOP_END = 0,     /* an end record */
     TOGGLEASH_STOP_NO_BYTE = 1, /* no byte of the feed left */
-    TOGGLEASH_STOP_KIND = 2,    /* a kind that is not 0 to 3 */
+    TOGGLEASH_STOP_KIND = 2,    /* a kind that is not 0 to 5 */
     TOGGLEASH_STOP_BODY = 3,    /* a record whose body is short */
     TOGGLEASH_STOP_REPLY = 4    /* fewer than TOGGLEASH_REPLY_MOST reply bytes free */
 };
@@ -78,41 +86,44 @@ enum {
 /* The first byte of a record, and of a reply. */
 enum {
     TOGGLEASH_KIND_END = 0,
-    TOGGLEASH_KIND_ANNOUNCE = 1, /* address 4 bytes, length 1, hop 2 */
-    TOGGLEASH_KIND_WITHDRAW = 2, /* address 4, length 1 */
-    TOGGLEASH_KIND_LOOKUP = 3,   /* address 4 */
-    TOGGLEASH_KIND_DONE = 16,    /* hop 2, cells 2 */
-    TOGGLEASH_KIND_FOUND = 17,   /* hop 2, length 1, block 1 */
-    TOGGLEASH_KIND_NONE = 18,    /* block 1 */
-    TOGGLEASH_KIND_REFUSED = 19  /* refusal 1 */
+    TOGGLEASH_KIND_ANNOUNCE = 1,     /* address 4 bytes, length 1, hop 2; the feed is 1 and the preference 0 */
+    TOGGLEASH_KIND_WITHDRAW = 2,     /* address 4, length 1; the feed is 1 */
+    TOGGLEASH_KIND_LOOKUP = 3,       /* address 4 */
+    TOGGLEASH_KIND_ANNOUNCE_FOR = 4, /* as kind 1, then a byte for the feed and one for the preference */
+    TOGGLEASH_KIND_WITHDRAW_FOR = 5, /* as kind 2, then a byte for the feed */
+    TOGGLEASH_KIND_DONE = 16,        /* hop 2, cells 2 */
+    TOGGLEASH_KIND_FOUND = 17,       /* hop 2, length 1, block 1 */
+    TOGGLEASH_KIND_NONE = 18,        /* block 1 */
+    TOGGLEASH_KIND_REFUSED = 19      /* refusal 1 */
 };
 
 /* Limits. */
 enum {
     TOGGLEASH_MOST_ARRAYS = 4096,
-    TOGGLEASH_LEAST_WORDS = 2048,
-    TOGGLEASH_MOST_WORDS = 4195328,
+    TOGGLEASH_LEAST_WORDS = 6144,
+    TOGGLEASH_MOST_WORDS = 12585984,
     TOGGLEASH_COPY_LEAST_WORDS = 1024, /* a copy of no route */
     TOGGLEASH_MOST_LENGTH = 32,
     TOGGLEASH_MOST_HOP = 65535,
+    TOGGLEASH_MOST_FEED = 4,
     TOGGLEASH_MOST_CELLS = 256,
-    TOGGLEASH_RECORD_MOST = 8,         /* bytes of the longest record of a feed */
+    TOGGLEASH_RECORD_MOST = 10,        /* bytes of the longest record of a feed */
     TOGGLEASH_REPLY_MOST = 5           /* bytes of the longest reply: so many a record are always enough */
 };
 
 /* The words of a table of so many arrays. */
-#define TOGGLEASH_WORDS(arrays) ((size_t)1024 * ((size_t)(arrays) + 1))
+#define TOGGLEASH_WORDS(arrays) ((size_t)3072 * ((size_t)(arrays) + 1))
 
-/* The bytes of a written-out list of so many routes. */
-#define TOGGLEASH_WRITTEN_BYTES(routes) ((size_t)8 * (size_t)(routes) + 1)
+/* The bytes of a written-out list of so many candidates, the check's `routes`. */
+#define TOGGLEASH_WRITTEN_BYTES(routes) ((size_t)10 * (size_t)(routes) + 1)
 
 /* ---- The version
  *
  * It rises with any change that a caller would not notice else, and the archive has it as the name of a function. Each
  * file that includes this header keeps a pointer to that function, four or eight bytes: so a program whose header and
  * archive are of two versions does not link, `undefined reference to toggleash_version_..`. */
-#define TOGGLEASH_VERSION 2
-uint32_t toggleash_version_2(void); /* returns 2 */
+#define TOGGLEASH_VERSION 3
+uint32_t toggleash_version_3(void); /* returns 3 */
 
 #if defined(__GNUC__) && !defined(TOGGLEASH_ARCHIVE) /* which the archive's own files define */
 #if defined(__has_attribute)
@@ -125,7 +136,7 @@ uint32_t toggleash_version_2(void); /* returns 2 */
 #endif
 #pragma GCC diagnostic push
 #pragma GCC diagnostic ignored "-Wattributes" /* a compiler may know the word and not its assembler */
-static uint32_t (*const toggleash_version_linked_)(void) TOGGLEASH_KEPT_ = toggleash_version_2;
+static uint32_t (*const toggleash_version_linked_)(void) TOGGLEASH_KEPT_ = toggleash_version_3;
 #pragma GCC diagnostic pop
 #endif
 
@@ -143,8 +154,8 @@ static uint32_t (*const toggleash_version_linked_)(void) TOGGLEASH_KEPT_ = toggl
 /* What the check counts. */
 typedef struct {
     uint32_t refusal; /* 0, 1 or 2 */
-    uint32_t routes;  /* routes held */
-    uint32_t arrays;  /* arrays that they need, the first one included */
+    uint32_t routes;  /* candidates held */
+    uint32_t arrays;  /* arrays that their prefixes need, the first one included */
 } toggleash_counts;
 
 /* What a lookup finds. The block is how many of the address's first bits the answer may be remembered for: while the table
@@ -168,15 +179,15 @@ typedef struct {
 /* What an update did. */
 typedef struct {
     uint32_t refusal;
-    uint32_t hop;   /* the hop announced, or the one that the withdrawn route had */
-    uint32_t cells; /* cells of the route's array that it covers and no longer route of that array does, 0 to 256; 0 where
-                       an announcement finds its prefix held with the same hop */
+    uint32_t hop;   /* the hop announced, or the one that the withdrawn candidate had, whichever wins */
+    uint32_t cells; /* cells of the prefix's array that it covers and no longer prefix of that array does, 0 to 256; 0 where
+                       the prefix has the same winning hop as before */
 } toggleash_update;
 
 /* What writing out wrote. */
 typedef struct {
     uint32_t refusal; /* 0, 1, 2 or 9 */
-    uint64_t bytes;   /* 8 for each route, and 1 */
+    uint64_t bytes;   /* 10 for each candidate, and 1 */
 } toggleash_written;
 
 /* What a run did. */
@@ -198,7 +209,7 @@ typedef struct {
 /* What making a copy counts. */
 typedef struct {
     uint32_t refusal; /* 0, 2 or 9 */
-    uint64_t routes;  /* routes of the list, the default route included */
+    uint64_t routes;  /* routes of the list, one for each prefix, the default route included */
     uint64_t markers; /* distinct entries beside the routes, which lead a search to longer ones */
 } toggleash_built;
 
@@ -217,16 +228,18 @@ TOGGLEASH_ANSWER toggleash_counts toggleash_check(const uint32_t *words, size_t 
  * them and gives what its walk gives, or 2. */
 TOGGLEASH_ANSWER toggleash_answer toggleash_lookup(const uint32_t *words, size_t n, uint32_t address);
 
-/* Adds a route, or gives a held prefix this hop, for which there is always room. Refuses with 1, 3, 4, 5, 2 or 8. Any length
- * and hop may be given. */
+/* Gives a feed this candidate for a prefix, in place of the one that it had. For a prefix that has a candidate, of any feed,
+ * there is always room. Refuses with 1, 3, 4, 5, 10, 2 or 8. Any length, hop and feed may be given. */
 TOGGLEASH_ANSWER toggleash_update toggleash_announce(uint32_t *words, size_t n, uint32_t address, uint32_t length,
-                                                     uint32_t hop);
+                                                     uint32_t hop, uint32_t feed, uint8_t preference);
 
-/* Removes a route. Refuses with 1, 3, 4, 2 or 7. Any length may be given. */
-TOGGLEASH_ANSWER toggleash_update toggleash_withdraw(uint32_t *words, size_t n, uint32_t address, uint32_t length);
+/* Removes a feed's candidate for a prefix. Refuses with 1, 3, 4, 10, 2 or 7. Any length and feed may be given. */
+TOGGLEASH_ANSWER toggleash_update toggleash_withdraw(uint32_t *words, size_t n, uint32_t address, uint32_t length,
+                                                     uint32_t feed);
 
-/* Writes the routes as a feed of announcements and an end to the front of the buffer; the rest stays. Refuses with 1, 2
- * or 9. TOGGLEASH_WRITTEN_BYTES(routes), by the check, are enough and no fewer. A buffer of 0 bytes is always refused. */
+/* Writes the candidates as a feed of announcements, of kind 4, and an end to the front of the buffer; the rest stays. Refuses
+ * with 1, 2 or 9. TOGGLEASH_WRITTEN_BYTES(routes), by the check, are enough and no fewer. A buffer of 0 bytes is always
+ * refused. */
 TOGGLEASH_ANSWER toggleash_written toggleash_write_out(const uint32_t *words, size_t n, uint8_t *buffer, size_t room);
 
 /* Takes the records of a feed in order and writes a reply to each but the end; reply bytes past `written` stay. Refuses
@@ -234,12 +247,13 @@ TOGGLEASH_ANSWER toggleash_written toggleash_write_out(const uint32_t *words, si
 TOGGLEASH_ANSWER toggleash_ran toggleash_run(uint32_t *words, size_t n, const uint8_t *feed, size_t feed_len,
                                              uint8_t *reply, size_t reply_len);
 
-/* Counts the words that a copy of a written-out list needs. Refuses with 2 exactly where the bytes, all of them, are not
- * what toggleash_write_out writes for some table: records of routes in order, the end, nothing after it. 0 bytes, which
- * may be null, are no list; the empty list is one byte 0. */
+/* Counts the words that a copy of a written-out list's winners needs. Refuses with 2 exactly where the bytes, all of them, are
+ * not what toggleash_write_out writes for some table: records of candidates in order, the end, nothing after it. A list of
+ * kind 1 records, one for each prefix, is taken too; one of both kinds is not. 0 bytes, which may be null, are no list; the
+ * empty list is one byte 0. */
 TOGGLEASH_ANSWER toggleash_needed toggleash_copy_need(const uint8_t *bytes, size_t bytes_len);
 
-/* Makes the words a copy of the list, whatever they hold; words past those needed stay. Refuses with 2 as
+/* Makes the words a copy of the list's winners, whatever they hold; words past those needed stay. Refuses with 2 as
  * toggleash_copy_need does, then with 9; a refused build has changed no word. The bytes are not needed afterwards. Any
  * number of words may be lent: neither this call nor the next refuses with 1. */
 TOGGLEASH_ANSWER toggleash_built toggleash_copy_build(const uint8_t *bytes, size_t bytes_len, uint32_t *words, size_t n);
@@ -266,7 +280,7 @@ typedef struct {
 /* TOGGLEASH_TABLE(array) and TOGGLEASH_COPY(array) make one of an array of uint32_t. Anything else does not compile: a
  * pointer, an array of other elements, and for a table an array of a number of words that no table has. Where p points
  * to a whole array, `uint32_t (*p)[TOGGLEASH_WORDS(7)]`, it is TOGGLEASH_TABLE(*p). */
-#define TOGGLEASH_FITS_(n) ((n) % 1024 == 0 && (n) >= TOGGLEASH_LEAST_WORDS && (n) <= TOGGLEASH_MOST_WORDS)
+#define TOGGLEASH_FITS_(n) ((n) % 3072 == 0 && (n) >= TOGGLEASH_LEAST_WORDS && (n) <= TOGGLEASH_MOST_WORDS)
 
 #ifdef __cplusplus
 extern "C++" {
@@ -324,13 +338,14 @@ TOGGLEASH_ANSWER static inline toggleash_answer toggleash_table_find(toggleash_t
 }
 
 TOGGLEASH_ANSWER static inline toggleash_update toggleash_table_announce(toggleash_table table, uint32_t address,
-                                                                         uint32_t length, uint32_t hop) {
-    return toggleash_announce(table.words, table.n, address, length, hop);
+                                                                         uint32_t length, uint32_t hop, uint32_t feed,
+                                                                         uint8_t preference) {
+    return toggleash_announce(table.words, table.n, address, length, hop, feed, preference);
 }
 
 TOGGLEASH_ANSWER static inline toggleash_update toggleash_table_withdraw(toggleash_table table, uint32_t address,
-                                                                         uint32_t length) {
-    return toggleash_withdraw(table.words, table.n, address, length);
+                                                                         uint32_t length, uint32_t feed) {
+    return toggleash_withdraw(table.words, table.n, address, length, feed);
 }
 
 TOGGLEASH_ANSWER static inline toggleash_written toggleash_table_write(toggleash_table table, uint8_t *buffer,
@@ -358,14 +373,15 @@ TOGGLEASH_ANSWER static inline toggleash_match toggleash_copy_find(toggleash_cop
 static inline const char *toggleash_refusal_text(uint32_t refusal) {
     switch (refusal) {
     case 0: return "answered";
-    case TOGGLEASH_WORD_COUNT: return "the number of words is not a multiple of 1,024 from 2,048 to 4,195,328";
+    case TOGGLEASH_WORD_COUNT: return "the number of words is not a multiple of 3,072 from 6,144 to 12,585,984";
     case TOGGLEASH_NOT_A_TABLE: return "the words are not a table or not a copy, or the bytes not a list";
     case TOGGLEASH_LENGTH_OVER_32: return "the length is over 32";
     case TOGGLEASH_STRAY_BIT: return "a bit after the length is set";
     case TOGGLEASH_HOP_OUT_OF_RANGE: return "the hop is 0 or over 65,535";
-    case TOGGLEASH_NOT_HELD: return "the prefix is not held";
-    case TOGGLEASH_NO_ROOM: return "the table has no room for the route";
+    case TOGGLEASH_NOT_HELD: return "the feed has no candidate for the prefix";
+    case TOGGLEASH_NO_ROOM: return "the table has no room for the prefix";
     case TOGGLEASH_BUFFER_SHORT: return "the buffer is too short for the written list, or the words for the copy";
+    case TOGGLEASH_FEED_OUT_OF_RANGE: return "the feed is not 1 to 4";
     default: return "no refusal has this number";
     }
 }
@@ -375,7 +391,7 @@ static inline const char *toggleash_stop_text(uint32_t stop) {
     switch (stop) {
     case TOGGLEASH_STOP_END: return "end";
     case TOGGLEASH_STOP_NO_BYTE: return "no byte left";
-    case TOGGLEASH_STOP_KIND: return "the next record's kind is not 0 to 3";
+    case TOGGLEASH_STOP_KIND: return "the next record's kind is not 0 to 5";
     case TOGGLEASH_STOP_BODY: return "the next record's body is short";
     case TOGGLEASH_STOP_REPLY: return "fewer than 5 reply bytes are free";
     default: return "no stop has this number";

@@ -8,7 +8,7 @@ use reference::memory::MOST_ARRAYS;
 use reference::{Memory, Prefix, Refusal, RouteList};
 
 use crate::guard::{begin_call, Lent, Side};
-use crate::lists::{any_list, scattered};
+use crate::lists::{any_encoding, any_list, scattered};
 use crate::pair::{left, library, same, Pair, Same};
 use crate::random::Random;
 use crate::rooms::neighbours;
@@ -17,24 +17,24 @@ use crate::tally::Tally;
 /// Boxes whose ends are looked up in one copy, and random addresses beside them.
 const BOXES: usize = 60;
 
-/// A table of about so many routes, its written-out list, and the copy of that.
-pub fn list(random: &mut Random, routes: usize, tally: &mut Tally) -> Same {
-    let list = any_list(random, routes);
+/// A table of about so many prefixes, its list, as it is written out or as plain routes, and the copy of that.
+pub fn list(random: &mut Random, prefixes: usize, tally: &mut Tally) -> Same {
+    let list = any_list(random, prefixes);
     let side = random.pick(&[Side::Front, Side::Back]);
-    let arrays = (list.need() + random.below(3)).min(MOST_ARRAYS);
+    let arrays = (list.winners().need() + random.below(3)).min(MOST_ARRAYS);
     let words = Lent::copy_of(&scattered(random, &list, arrays), side);
     let table = Pair { memory: Memory::new(words.len(), Some(list.clone())), words };
-    table.write_out(8 * list.routes().len() + 1, side)?;
-    let bytes = Lent::copy_of(&list.encoding(), side);
+    table.write_out(list.encoded_size(), side)?;
+    let bytes = Lent::copy_of(&any_encoding(random, &list), side);
     let Some(need) = need(&bytes, tally)? else { return Err("a written-out list is refused".into()) };
     let litter: Vec<u32> = (0..need + random.below(30)).map(|_| random.word()).collect();
     build(&bytes, &mut Lent::copy_of(&litter[..need - 1], side), tally)?;
     let mut words = Lent::copy_of(&litter, side);
     build(&bytes, &mut words, tally)?;
-    let addresses = addresses(random, &list);
+    let addresses = addresses(random, list.winners());
     table.lookup(&addresses)?;
     tally.lookups += addresses.len() as u64;
-    look_up(&words, &addresses, Some(&list), tally)
+    look_up(&words, &addresses, Some(list.winners()), tally)
 }
 
 /// The first and last address inside some boxes, routes' and markers', those beside, and random ones.

@@ -2,21 +2,21 @@
 
 use std::collections::VecDeque;
 
-use reference::layout::{cells, tag_below, Arrays, Cell, End, CELLS, HOPS, LINKS, UNUSED};
+use reference::layout::{cells, tag_below, winners, word, Arrays, Cell, End, CELLS, HOPS, LINKS, SLOT, UNUSED};
 use reference::memory::ARRAY_WORDS;
-use reference::{Address, RouteList};
+use reference::{Address, CandidateList};
 
-use crate::feeds::{Mood, Source, Terrain};
+use crate::feeds::{preference, Mood, Source, Terrain};
 use crate::guard::Side;
-use crate::lists::{filling, scattered};
+use crate::lists::{filling, litter, scattered};
 use crate::pair::{Pair, Same};
 use crate::random::Random;
 use crate::tally::Tally;
 
 /// Numbers of words that no table has, but for two, and the nearest to those that some has.
-pub const SIZES: [usize; 18] = [
-    0, 1, 2, 511, 1_023, 1_024, 1_025, 2_047, 2_048, 2_049, 3_071, 3_073, 5_000, 4_194_304, 4_195_327, 4_195_328,
-    4_195_329, 4_196_352,
+pub const SIZES: [usize; 17] = [
+    0, 1, 2, 1_024, 2_048, 3_071, 3_072, 3_073, 6_143, 6_144, 6_145, 7_168, 4_195_328, 12_585_983, 12_585_984,
+    12_585_985, 12_589_056,
 ];
 
 /// Lookups on one memory.
@@ -27,6 +27,9 @@ const BORDERS: [u32; 16] =
     [0, 1, 2, 31, 32, 33, 4_095, 4_096, 8_191, 8_192, 65_535, 65_536, (1 << 28) - 1, 1 << 28, 1 << 31, u32::MAX];
 /// The same in a cell: blocks, a length with a block, a length, and lengths beside a link.
 const CELL_BORDERS: [u32; 6] = [8, 9, 8 * 16 + 8, 9 * 16, 9 << 28, 10 << 28];
+/// The same in a slot: preferences with a hop and without.
+const SLOT_BORDERS: [u32; 6] =
+    [HOPS + 1, 255 * HOPS, 255 * HOPS + 1, 255 * HOPS + 65_535, 256 * HOPS + 1, 256 * HOPS + 65_535];
 
 /// A table of so many arrays with some damage, and every call on it.
 pub fn memory(random: &mut Random, arrays: usize, tally: &mut Tally) -> Same {
@@ -46,18 +49,19 @@ pub fn size(random: &mut Random, count: usize, tally: &mut Tally) -> Same {
     let alike = border(random);
     let any = random.chance(50);
     let words: Vec<u32> = (0..count).map(|_| if any { random.word() } else { alike }).collect();
-    every_call(random, &terrain, &RouteList::default(), &words, tally)
+    every_call(random, &terrain, &CandidateList::default(), &words, tally)
 }
 
 fn border(random: &mut Random) -> u32 {
-    match random.chance(70) {
-        true => random.pick(&BORDERS),
-        false => random.pick(&CELL_BORDERS),
+    match random.below(10) {
+        0..=5 => random.pick(&BORDERS),
+        6 | 7 => random.pick(&CELL_BORDERS),
+        _ => random.pick(&SLOT_BORDERS),
     }
 }
 
 /// The calls that change no word first, on words that cannot be written, then updates in a row, a run and clearing.
-fn every_call(random: &mut Random, terrain: &Terrain, list: &RouteList, words: &[u32], tally: &mut Tally) -> Same {
+fn every_call(random: &mut Random, terrain: &Terrain, list: &CandidateList, words: &[u32], tally: &mut Tally) -> Same {
     tally.damaged += 1;
     let side = random.pick(&[Side::Front, Side::Back]);
     let mut pair = Pair::seen(words, side);
@@ -65,7 +69,7 @@ fn every_call(random: &mut Random, terrain: &Terrain, list: &RouteList, words: &
     let addresses = every_cell(random, words);
     pair.lookup(&addresses)?;
     tally.lookups += addresses.len() as u64;
-    let full = 8 * list.routes().len() + 1;
+    let full = list.encoded_size();
     for room in [0, full - 1, full, full + random.below(30)] {
         pair.write_out(room, side)?;
     }
@@ -105,14 +109,15 @@ fn every_cell(random: &mut Random, words: &[u32]) -> Vec<u32> {
 }
 
 fn damage(random: &mut Random, words: &mut [u32]) {
-    match random.below(14) {
+    match random.below(16) {
         0..=3 => one_word(random, words),
         4 => whole_pages(random, words),
         5 | 6 => hang_another(random, words),
-        7 => change_a_route(random, words),
+        7 => change_a_slot(random, words),
         8 | 9 => border_best(random, words),
         10 => other_link(random, words),
         11 | 12 => other_block(random, words),
+        13 | 14 => other_candidates(random, words),
         _ => unused_words(random, words),
     }
 }
@@ -144,19 +149,19 @@ fn one_word(random: &mut Random, words: &mut [u32]) {
     let at = match random.below(9) {
         0 => random.below(words.len()),
         1 => random.within(0..=2),
-        2 => random.within(500..=1_023),
+        2 => random.pick(&[512, 513, 1_023, 1_024, 3_071]),
         3 => page,
-        4 => page + random.within(1..=511),
-        5 => page + random.pick(&[1, 2, 3, 256, 511]),
-        6 => page + random.within(UNUSED..=1_023),
+        4 => page + random.within(SLOT..=CELLS - 1),
+        5 => page + SLOT * random.pick(&[1, 2, 3, 256, 511]) + random.below(SLOT),
+        6 => page + some_unused(random),
         _ => some_cell(random, words),
     };
     words[at] = match random.below(6) {
         0 => random.word(),
         1 => border(random),
         2 => words[at] ^ 1 << random.below(32),
-        // One more or less, or one more of what stands higher in a tag or a cell.
-        3 => words[at].wrapping_add(random.pick(&[1, u32::MAX, 16, 32, 8192, LINKS, LINKS * HOPS])),
+        // One more or less, or one more of what stands higher in a tag, a slot or a cell.
+        3 => words[at].wrapping_add(random.pick(&[1, u32::MAX, 16, 32, 8192, LINKS, HOPS, LINKS * HOPS])),
         4 => random.below(arrays as usize + 3) as u32,
         _ => arrays + 1,
     };
@@ -198,14 +203,34 @@ fn other_block(random: &mut Random, words: &mut [u32]) {
     }
 }
 
+/// A word of an array without a use.
+fn some_unused(random: &mut Random) -> usize {
+    match random.chance(30) {
+        true => random.within(1..=SLOT - 1),
+        false => random.within(UNUSED..=ARRAY_WORDS - 1),
+    }
+}
+
+/// The words of one slot, mostly a taken one, change places, or one of them gets another candidate or none, and no cell
+/// follows: another table where the same hop wins.
+fn other_candidates(random: &mut Random, words: &mut [u32]) {
+    let page = ARRAY_WORDS * some_array(random, words);
+    let taken: Vec<usize> = (page + SLOT..page + CELLS).filter(|&at| words[at] != 0).collect();
+    let at = if taken.is_empty() { page + 2 * SLOT } else { random.pick(&taken) };
+    let slot = &mut words[at / SLOT * SLOT..][..SLOT];
+    match random.below(3) {
+        0 => slot.swap(random.below(SLOT), random.below(SLOT)),
+        1 => slot[random.below(SLOT)] = 0,
+        _ => slot[random.below(SLOT)] = word(preference(random), 1 + random.below(65_535) as u32),
+    }
+}
+
 /// Anything in the words without a use, of one array or of all: what was a table stays the same one.
 fn unused_words(random: &mut Random, words: &mut [u32]) {
     let arrays = words.len() / ARRAY_WORDS - 1;
     let any = random.within(1..=arrays);
     let (first, last) = random.pick(&[(any, any), (1, arrays)]);
-    for a in first..=last {
-        words[ARRAY_WORDS * a + UNUSED..ARRAY_WORDS * (a + 1)].fill_with(|| random.word());
-    }
+    (first..=last).for_each(|a| litter(random, words, a));
 }
 
 fn whole_pages(random: &mut Random, words: &mut [u32]) {
@@ -233,7 +258,7 @@ fn hang_another(random: &mut Random, words: &mut [u32]) {
     words[0] = words[0].wrapping_add(1);
     words[1 + (free - 1) / 8] = words[1 + (free - 1) / 8].wrapping_add(1);
     if random.chance(50) {
-        words[ARRAY_WORDS * free + 256 + cell] = 9;
+        words[ARRAY_WORDS * free + SLOT * (256 + cell) + random.below(SLOT)] = 9;
     }
     follow(words, free);
     // As often as not the blocks beside the new link are left as they were.
@@ -242,12 +267,13 @@ fn hang_another(random: &mut Random, words: &mut [u32]) {
     }
 }
 
-/// A slot gets another hop, or none, and all cells follow: another table, an array left empty, a route of length 0
-/// below the root, a hop that is none, or a route in a free array.
-fn change_a_route(random: &mut Random, words: &mut [u32]) {
+/// A word of a slot gets another candidate, or none, and all cells follow: another table, an array left empty, a candidate of
+/// length 0 below the root, a preference without a hop or over its range, or a candidate in a free array.
+fn change_a_slot(random: &mut Random, words: &mut [u32]) {
     let a = some_array(random, words);
     let any = random.within(1..=511);
-    words[ARRAY_WORDS * a + random.pick(&[1, any, any, any])] = random.pick(&[0, 1, 65_535, 65_536]);
+    let at = SLOT * random.pick(&[1, any, any, any]) + random.below(SLOT);
+    words[ARRAY_WORDS * a + at] = random.pick(&[0, 1, 65_535, 65_536, word(255, 1), 256 * HOPS + 1]);
     follow(words, a);
 }
 
@@ -255,8 +281,7 @@ fn change_a_route(random: &mut Random, words: &mut [u32]) {
 fn follow(words: &mut [u32], a: usize) {
     let page = &mut words[ARRAY_WORDS * a..ARRAY_WORDS * (a + 1)];
     let links: Vec<_> = page[CELLS..UNUSED].iter().map(|&word| Cell::of(word).link()).collect();
-    for (at, cell) in cells(&page[..CELLS], &links).into_iter().enumerate() {
-        // A slot damaged before need not fit into a best.
-        page[CELLS + at] = Cell { hop: cell.hop % HOPS, ..cell }.word();
+    for (at, cell) in cells(&winners(page), &links).into_iter().enumerate() {
+        page[CELLS + at] = cell.word();
     }
 }

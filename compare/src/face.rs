@@ -8,8 +8,8 @@ use toggleash::ffi::{self, Answer, Built, Counts, Match, Needed, Ran, Update, Wr
 use crate::guard::{begin_call, Lent, Side};
 use crate::pair::{same, Same};
 
-/// Lengths that no memory has; none may be read.
-const FAR: [usize; 6] = [1 << 23, 1 << 32, (1 << 32) + 2_048, 1 << 60, usize::MAX - 1_023, usize::MAX];
+/// Lengths that no memory has, some of them multiples of an array's; none may be read.
+const FAR: [usize; 6] = [3 << 23, 1 << 32, (3 << 32) + 6_144, 1 << 60, usize::MAX - 1_023, usize::MAX];
 
 pub fn compare() -> Same {
     nothing_lent()?;
@@ -28,8 +28,8 @@ fn refused_by_size(words: *mut u32, n: usize) -> Same {
         let answer = Answer { refusal: 1, ..Answer::default() };
         same(|| format!("lookup {n}"), ffi::toggleash_lookup(words, n, 0), answer)?;
         let update = Update { refusal: 1, ..Update::default() };
-        same(|| format!("announce {n}"), ffi::toggleash_announce(words, n, 1, 33, 0), update)?;
-        same(|| format!("withdraw {n}"), ffi::toggleash_withdraw(words, n, 1, 33), update)?;
+        same(|| format!("announce {n}"), ffi::toggleash_announce(words, n, 1, 33, 0, 0, 0), update)?;
+        same(|| format!("withdraw {n}"), ffi::toggleash_withdraw(words, n, 1, 33, 0), update)?;
         let written = Written { refusal: 1, ..Written::default() };
         same(|| format!("write out {n}"), ffi::toggleash_write_out(words, n, null_mut(), 0), written)?;
         let ran = Ran { refusal: 1, ..Ran::default() };
@@ -39,7 +39,7 @@ fn refused_by_size(words: *mut u32, n: usize) -> Same {
 
 fn nothing_lent() -> Same {
     refused_by_size(null_mut(), 0)?;
-    let mut words = Lent::copy_of(&[0; 2_048], Side::Back);
+    let mut words = Lent::copy_of(&[0; 6_144], Side::Back);
     begin_call("a call of C with null beside words");
     let (first, n) = (words.as_mut_ptr(), words.len());
     unsafe {
@@ -61,37 +61,50 @@ fn far_lengths(n: usize) -> Same {
 
 /// The fields of refusals by other numbers, and of a lookup that finds none.
 fn refused_fields() -> Same {
-    let mut words = Lent::copy_of(&[0; 2_048], Side::Back);
+    let mut words = Lent::copy_of(&[0; 6_144], Side::Back);
     begin_call("a refused call of C");
     let (first, n) = (words.as_mut_ptr(), words.len());
     let update = |refusal| Update { refusal, ..Update::default() };
     unsafe {
         same(|| "check".into(), ffi::toggleash_check(first, n), Counts { refusal: 2, ..Counts::default() })?;
-        same(|| "announce".into(), ffi::toggleash_announce(first, n, 0, 0, 1), update(2))?;
+        same(|| "announce".into(), ffi::toggleash_announce(first, n, 0, 0, 1, 4, 255), update(2))?;
+        same(|| "withdraw".into(), ffi::toggleash_withdraw(first, n, 0, 0, 4), update(2))?;
+        for feed in [0, 5, 256 + 1, u32::MAX] {
+            let got = ffi::toggleash_announce(first, n, 0, 0, 1, feed, 0);
+            same(|| format!("announce by {feed}"), got, update(10))?;
+            same(|| format!("withdraw by {feed}"), ffi::toggleash_withdraw(first, n, 0, 0, feed), update(10))?;
+        }
         let ran = ffi::toggleash_run(first, n, [0].as_ptr(), 1, null_mut(), 0);
         same(|| "run".into(), ran, Ran { refusal: 2, ..Ran::default() })?;
         ffi::toggleash_clear(first, n);
         same(|| "lookup".into(), ffi::toggleash_lookup(first, n, 7), Answer::default())?;
-        same(|| "withdraw".into(), ffi::toggleash_withdraw(first, n, 0, 0), update(7))?;
+        same(|| "withdraw none".into(), ffi::toggleash_withdraw(first, n, 0, 0, 1), update(7))?;
         let held = Update { hop: 5, cells: 256, ..update(0) };
-        same(|| "announce".into(), ffi::toggleash_announce(first, n, 0, 0, 5), held)?;
+        same(|| "announce".into(), ffi::toggleash_announce(first, n, 0, 0, 5, 2, 254), held)?;
         let again = Update { cells: 0, ..held };
-        same(|| "announce again".into(), ffi::toggleash_announce(first, n, 0, 0, 5), again)?;
+        same(|| "announce again".into(), ffi::toggleash_announce(first, n, 0, 0, 5, 2, 254), again)?;
+        let worse = Update { hop: 9, ..again };
+        same(|| "announce a loser".into(), ffi::toggleash_announce(first, n, 0, 0, 9, 1, 255), worse)?;
         let found = Answer { found: 1, hop: 5, ..Answer::default() };
         same(|| "lookup".into(), ffi::toggleash_lookup(first, n, 7), found)?;
         same(
             || "announce".into(),
-            ffi::toggleash_announce(first, n, 1 << 31, 8, 6),
+            ffi::toggleash_announce(first, n, 1 << 31, 8, 6, 3, 0),
             Update { hop: 6, cells: 1, ..held },
         )?;
         let beside = Answer { block: 1, ..found };
         same(|| "lookup beside a route".into(), ffi::toggleash_lookup(first, n, 7), beside)?;
         let inside = Answer { hop: 6, length: 8, block: 8, ..found };
         same(|| "lookup in a route".into(), ffi::toggleash_lookup(first, n, 1 << 31), inside)?;
-        for (refusal, address, length, hop) in [(3, 1, 33, 0), (4, 1, 0, 0), (5, 0, 0, 0), (8, 0, 9, 1)] {
-            let got = ffi::toggleash_announce(first, n, address, length, hop);
+        let refusals = [(3, 1, 33, 0, 0), (4, 1, 0, 0, 0), (5, 0, 0, 0, 0), (10, 0, 9, 1, 0), (8, 0, 9, 1, 1)];
+        for (refusal, address, length, hop, feed) in refusals {
+            let got = ffi::toggleash_announce(first, n, address, length, hop, feed, 0);
             same(|| format!("announce refused {refusal}"), got, update(refusal))?;
         }
+        let gone = Update { hop: 5, cells: 256 - 1, ..update(0) };
+        same(|| "withdraw a winner".into(), ffi::toggleash_withdraw(first, n, 0, 0, 2), gone)?;
+        let left = Answer { hop: 9, ..beside };
+        same(|| "lookup of what waited".into(), ffi::toggleash_lookup(first, n, 7), left)?;
     }
     Ok(())
 }
@@ -99,7 +112,7 @@ fn refused_fields() -> Same {
 /// The calls on copies with nothing lent, and all fields of their answers for the default route alone and for no route.
 fn copy_fields() -> Same {
     let mut words = Lent::copy_of(&[7; 1_032], Side::Back);
-    let default: [u8; 9] = [1, 0, 0, 0, 0, 0, 0, 5, 0];
+    let default: [u8; 11] = [4, 0, 0, 0, 0, 0, 0, 5, 4, 255, 0];
     begin_call("a call of C on a copy");
     let (first, n, bytes) = (words.as_mut_ptr(), words.len(), default.as_ptr());
     let needed = |refusal, words| Needed { refusal, words };
@@ -109,12 +122,12 @@ fn copy_fields() -> Same {
     unsafe {
         same(|| "copy need of null".into(), ffi::toggleash_copy_need(null(), 0), needed(2, 0))?;
         same(|| "copy build from null".into(), ffi::toggleash_copy_build(null(), 0, first, n), built(2, 0))?;
-        same(|| "copy build to null".into(), ffi::toggleash_copy_build(bytes, 9, null_mut(), 0), built(9, 0))?;
+        same(|| "copy build to null".into(), ffi::toggleash_copy_build(bytes, 11, null_mut(), 0), built(9, 0))?;
         same(|| "copy lookup in null".into(), ffi::toggleash_copy_lookup(null(), 0, 0), refused)?;
-        same(|| "copy need".into(), ffi::toggleash_copy_need(bytes, 9), needed(0, 1_032))?;
-        same(|| "copy build".into(), ffi::toggleash_copy_build(bytes, 9, first, n), built(0, 1))?;
+        same(|| "copy need".into(), ffi::toggleash_copy_need(bytes, 11), needed(0, 1_032))?;
+        same(|| "copy build".into(), ffi::toggleash_copy_build(bytes, 11, first, n), built(0, 1))?;
         same(|| "copy lookup".into(), ffi::toggleash_copy_lookup(first, n, u32::MAX), found)?;
-        same(|| "copy build of none".into(), ffi::toggleash_copy_build(bytes.add(8), 1, first, 1_024), built(0, 0))?;
+        same(|| "copy build of none".into(), ffi::toggleash_copy_build(bytes.add(10), 1, first, 1_024), built(0, 0))?;
         same(|| "copy lookup of none".into(), ffi::toggleash_copy_lookup(first, 1_024, 0), Match::default())?;
         same(|| "copy lookup in too few".into(), ffi::toggleash_copy_lookup(first, 1_023, 0), refused)
     }

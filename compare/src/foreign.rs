@@ -4,7 +4,7 @@ use reference::copy::HEADER;
 
 use crate::copies::{addresses, look_up};
 use crate::guard::{Lent, Side};
-use crate::lists::any_list;
+use crate::lists::{any_encoding, any_list};
 use crate::pair::Same;
 use crate::random::Random;
 use crate::tally::Tally;
@@ -27,15 +27,15 @@ const HIGH: [u32; 5] = [1, 1 << 16, 1 << 28, 1 << 29, u32::MAX];
 
 /// A copy with some damage.
 pub fn damaged(random: &mut Random, tally: &mut Tally) -> Same {
-    let routes = random.within(1..=30);
-    let list = any_list(random, routes);
-    let bytes = list.encoding();
+    let prefixes = random.within(1..=30);
+    let list = any_list(random, prefixes);
+    let bytes = any_encoding(random, &list);
     let mut words = vec![0; reference::copy::need(&bytes).expect("a list is one") + random.below(20)];
     toggleash::copy::build(&bytes, &mut words).map_err(|refusal| format!("copy::build of a list: {refusal}"))?;
     for _ in 0..random.pick(&[1, 1, 1, 2, 3, 8]) {
         damage(random, &mut words);
     }
-    let addresses = addresses(random, &list);
+    let addresses = addresses(random, list.winners());
     looked_up(random, &words, &addresses, tally)
 }
 

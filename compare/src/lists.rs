@@ -1,11 +1,13 @@
-//! Random lists that need a given number of arrays, and tables of them with scattered array numbers.
+//! Random lists that need a given number of arrays, with several candidates for some prefixes, and tables of them with
+//! scattered array numbers.
 
 use std::collections::{BTreeMap, BTreeSet};
 
-use reference::memory::MOST_ARRAYS;
-use reference::{layout, Address, Prefix, RouteList};
+use reference::layout::{self, SLOT, UNUSED};
+use reference::memory::{ARRAY_WORDS, MOST_ARRAYS};
+use reference::{Address, Candidate, CandidateList, Prefix, RouteList};
 
-use crate::feeds::{hop, Terrain};
+use crate::feeds::{hop, preference, Terrain};
 use crate::random::Random;
 
 /// A list that grows, with the heads of the arrays that it needs, so that each step costs little.
@@ -50,8 +52,22 @@ impl Growing {
     }
 }
 
+/// The prefixes of the list, each with one candidate or several, of any feeds. Some have the route's hop.
+pub fn rivalled(random: &mut Random, list: &RouteList) -> CandidateList {
+    let mut candidates = Vec::new();
+    for route in list.routes() {
+        let mut feeds = [1, 2, 3, 4];
+        random.shuffle(&mut feeds);
+        for &feed in &feeds[..random.pick(&[1, 1, 1, 2, 2, 3, 4])] {
+            let hop = if random.chance(40) { route.hop } else { hop(random) };
+            candidates.push(Candidate { prefix: route.prefix, feed, preference: preference(random), hop });
+        }
+    }
+    candidates.into()
+}
+
 /// A list that needs at most so many arrays, and just as many unless its terrain is too small.
-pub fn filling(random: &mut Random, terrain: &Terrain, most: usize) -> RouteList {
+pub fn filling(random: &mut Random, terrain: &Terrain, most: usize) -> CandidateList {
     let mut growing = Growing::default();
     for _ in 0..20 + 30 * most {
         growing.grow(terrain.prefix(random), hop(random), most);
@@ -59,14 +75,23 @@ pub fn filling(random: &mut Random, terrain: &Terrain, most: usize) -> RouteList
             break;
         }
     }
-    growing.list()
+    rivalled(random, &growing.list())
 }
 
-/// A list of so many routes, or hardly fewer: of all lengths, or a short one of few.
-pub fn any_list(random: &mut Random, routes: usize) -> RouteList {
-    match routes < 1_000 && random.chance(25) {
-        true => of_few_lengths(random, routes),
-        false => crowded(random, routes),
+/// A list of so many prefixes, or hardly fewer: of all lengths, or a short one of few.
+pub fn any_list(random: &mut Random, prefixes: usize) -> CandidateList {
+    let routes = match prefixes < 1_000 && random.chance(25) {
+        true => of_few_lengths(random, prefixes),
+        false => crowded(random, prefixes),
+    };
+    rivalled(random, &routes)
+}
+
+/// Bytes that a copy of the list's winners can be made from: as it is written out, or as plain routes.
+pub fn any_encoding(random: &mut Random, list: &CandidateList) -> Vec<u8> {
+    match random.chance(70) {
+        true => list.encoding(),
+        false => list.winners().encoding(),
     }
 }
 
@@ -114,9 +139,20 @@ fn crowd(random: &mut Random, growing: &mut Growing, routes: usize) {
     }
 }
 
-/// The list as a table whose arrays stand anywhere.
-pub fn scattered(random: &mut Random, list: &RouteList, arrays: usize) -> Vec<u32> {
+/// The list as a table whose arrays stand anywhere, as often as not with litter in the words without a use.
+pub fn scattered(random: &mut Random, list: &CandidateList, arrays: usize) -> Vec<u32> {
     let mut numbers: Vec<usize> = (2..=arrays).collect();
     random.shuffle(&mut numbers);
-    layout::lay(list, arrays, &numbers)
+    let mut words = layout::lay(list, arrays, &numbers);
+    if random.chance(50) {
+        (1..=arrays).for_each(|a| litter(random, &mut words, a));
+    }
+    words
+}
+
+/// Puts anything into an array's words without a use.
+pub fn litter(random: &mut Random, words: &mut [u32], a: usize) {
+    let page = &mut words[ARRAY_WORDS * a..ARRAY_WORDS * (a + 1)];
+    page[1..SLOT].fill_with(|| random.word());
+    page[UNUSED..].fill_with(|| random.word());
 }

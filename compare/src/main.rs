@@ -143,14 +143,14 @@ fn damaged(options: &Options, tally: &mut Tally) {
 /// Few large lists: a build goes over the bytes about 130 times.
 fn all_copies(options: &Options, tally: &mut Tally) {
     cases(options, tally, ("copies", COPIES), |random, case, tally| {
-        let routes = match case {
+        let prefixes = match case {
             0 => 50_000,
             1 => random.within(6_000..=50_000),
             2..=11 => random.within(1_000..=6_000),
             12..=99 => random.within(60..=1_000),
             _ => case as usize % 60,
         };
-        copies::list(random, routes, tally).map_err(|text| format!("{text} (for {routes} routes)"))
+        copies::list(random, prefixes, tally).map_err(|text| format!("{text} (for {prefixes} prefixes)"))
     });
 }
 

@@ -4,11 +4,12 @@
 use std::net::Ipv4Addr;
 
 use reference::feed::Answer;
-use reference::layout::{self, Arrays, Walked, UNUSED};
-use reference::{Lookup, Memory, Prefix, Refusal};
+use reference::layout::{self, Arrays, Walked, SLOT, UNUSED};
+use reference::memory::ARRAY_WORDS;
+use reference::{Candidate, CandidateList, Lookup, Memory, Prefix, Refusal};
 
 use crate::guard::{begin_call, Lent, Side};
-use crate::tally::{saw_odd, saw_refusal, saw_stop};
+use crate::tally::{saw_odd, saw_refusal, saw_stop, saw_winner};
 
 /// Nothing differs, or the text of what does.
 pub type Same = Result<(), String>;
@@ -57,15 +58,15 @@ impl Pair {
         Pair { words: Lent::copy_of(words, side), memory: layout::read(words) }
     }
 
+    /// Clearing leaves the one table of no candidate whose words without a use are 0; the words stay where it refuses.
     pub fn clear(&mut self) -> Same {
         let before = self.words.to_vec();
         begin_call("clear");
         let told = library(toggleash::clear(&mut self.words));
         same(|| "clear".into(), told, list(self.memory.clear()))?;
-        match told {
-            Ok(()) => self.stands(),
-            Err(_) => left(|| "words refused by clear".into(), &before, &self.words),
-        }
+        let cleared = |arrays| layout::lay(&CandidateList::default(), arrays, &[]);
+        let expected = self.memory.room().map_or(before, cleared);
+        left(|| "words after clear".into(), &expected, &self.words)
     }
 
     /// The words stand for the reference's memory, by its own reading of the layout.
@@ -102,29 +103,47 @@ impl Pair {
         })
     }
 
-    pub fn announce(&mut self, address: u32, length: u32, hop: u32) -> Same {
-        let what = || format!("announce {}/{length} via {hop}", Ipv4Addr::from(address));
+    /// A feed announces a candidate, whose prefix and feed may be any numbers.
+    pub fn announce(&mut self, candidate: Candidate) -> Same {
+        let Candidate { prefix, feed, preference, hop } = candidate;
+        let Prefix { address, length } = prefix;
+        let sent = || format!("{}/{length} via {hop}", Ipv4Addr::from(address));
+        let what = || format!("announce {} by {feed} with {preference}", sent());
         let before = self.words.to_vec();
-        let prefix = Prefix { address, length };
-        let again = self.memory.list().is_ok_and(|list| list.hop(prefix) == Some(hop));
+        let again = self.memory.list().is_ok_and(|list| list.held(prefix, feed) == Some(candidate));
+        let won = self.winning(prefix);
         begin_call("announce");
-        let told = library(toggleash::announce(&mut self.words, address.into(), length, hop));
-        let expected = list(self.memory.announce(address, length, hop));
+        let announced = toggleash::Candidate { hop, feed, preference };
+        let told = library(toggleash::announce(&mut self.words, address.into(), length, announced));
+        let expected = list(self.memory.announce(address, length, hop, feed, preference));
         same_update(what, told, expected)?;
+        if told.is_ok() {
+            saw_winner(won, self.winning(prefix));
+        }
         self.changed(what, (told.is_ok() && !again).then_some(prefix), &before)
     }
 
-    pub fn withdraw(&mut self, address: u32, length: u32) -> Same {
-        let what = || format!("withdraw {}/{length}", Ipv4Addr::from(address));
+    pub fn withdraw(&mut self, prefix: Prefix, feed: u32) -> Same {
+        let Prefix { address, length } = prefix;
+        let what = || format!("withdraw {}/{length} by {feed}", Ipv4Addr::from(address));
         let before = self.words.to_vec();
+        let won = self.winning(prefix);
         begin_call("withdraw");
-        let told = library(toggleash::withdraw(&mut self.words, address.into(), length));
-        let expected = list(self.memory.withdraw(address, length));
+        let told = library(toggleash::withdraw(&mut self.words, address.into(), length, feed));
+        let expected = list(self.memory.withdraw(address, length, feed));
         same_update(what, told, expected)?;
-        self.changed(what, told.is_ok().then_some(Prefix { address, length }), &before)
+        if told.is_ok() {
+            saw_winner(won, self.winning(prefix));
+        }
+        self.changed(what, told.is_ok().then_some(prefix), &before)
     }
 
-    /// Only the words changed that the update of this prefix may change; none if it was refused or the hop held already.
+    /// The hop that wins at the prefix.
+    fn winning(&self, prefix: Prefix) -> Option<u32> {
+        self.memory.list().ok()?.winners().hop(prefix)
+    }
+
+    /// Only the words changed that the update of this prefix may change; none if it was refused or the candidate held already.
     fn changed(&self, what: impl Fn() -> String, updated: Option<Prefix>, before: &[u32]) -> Same {
         match updated {
             Some(prefix) => {
@@ -192,8 +211,9 @@ fn same_update(what: impl Fn() -> String, told: Told<toggleash::Update>, expecte
 
 /// The words without a use, which only clearing writes, are as they were.
 fn unused_left(what: impl Fn() -> String, before: &[u32], after: &[u32]) -> Same {
-    let pages = before.chunks(1024).zip(after.chunks(1024)).enumerate();
+    let pages = before.chunks(ARRAY_WORDS).zip(after.chunks(ARRAY_WORDS)).enumerate();
     for (a, (before, after)) in pages.skip(1) {
+        left(|| format!("{}, array {a} after its tag", what()), &before[1..SLOT], &after[1..SLOT])?;
         left(|| format!("{}, array {a} from word {UNUSED} on", what()), &before[UNUSED..], &after[UNUSED..])?;
     }
     Ok(())
@@ -210,10 +230,10 @@ fn confined(what: impl Fn() -> String, prefix: Prefix, before: &[u32], after: &[
         let below = arrays.below(path[level as usize], cell).and_then(|number| arrays.held(number));
         path.push(below.ok_or_else(|| format!("{}: no array for it", what()))?);
     }
-    let comes_or_goes = |a: &usize| lean[1024 * a] == 0;
+    let comes_or_goes = |a: &usize| lean[ARRAY_WORDS * a] == 0;
     let from = path.iter().position(comes_or_goes).unwrap_or(path.len()).saturating_sub(1);
     let allowed = &path[from..];
-    let pages = full.chunks(1024).zip(lean.chunks(1024)).enumerate();
+    let pages = full.chunks(ARRAY_WORDS).zip(lean.chunks(ARRAY_WORDS)).enumerate();
     for (a, (one, other)) in pages.skip(1) {
         if one != other && !allowed.contains(&a) {
             return Err(format!("{}: array {a} changed, which has no part in it", what()));

@@ -3,7 +3,7 @@
 
 use reference::feed::Record;
 use reference::memory::ARRAY_WORDS;
-use reference::{Prefix, RouteList};
+use reference::{Candidate, CandidateList, Prefix};
 
 use crate::feeds::{Mood, Source, Terrain};
 use crate::guard::Side;
@@ -13,7 +13,7 @@ use crate::random::Random;
 use crate::tally::Tally;
 
 /// Words that the check may read over and over for one round trip; beyond that it would take too long.
-const ROUND_TRIP_WORDS: usize = 40_000_000;
+const ROUND_TRIP_WORDS: usize = 120_000_000;
 
 /// A room of so many arrays and about so many records.
 pub fn room(random: &mut Random, arrays: usize, records: u64, tally: &mut Tally) -> Same {
@@ -43,18 +43,18 @@ fn start(random: &mut Random, terrain: &Terrain, arrays: usize) -> Result<Pair, 
     Ok(pair)
 }
 
-fn held(pair: &Pair) -> RouteList {
+fn held(pair: &Pair) -> CandidateList {
     pair.memory.list().expect("a room's words stay a table").clone()
 }
 
 fn run_feed(random: &mut Random, terrain: &Terrain, pair: &mut Pair, tally: &mut Tally) -> Result<Vec<Prefix>, String> {
     let mood = Mood::any(random);
-    let count = if pair.words.len() > 500_000 { random.within(1..=12) } else { random.within(0..=60) };
+    let count = if pair.words.len() > 1_500_000 { random.within(1..=12) } else { random.within(0..=60) };
     let side = random.pick(&[Side::Front, Side::Back]);
     let starved = random.chance(12).then(|| random.below(5 * count + 10));
     let mut source = Source::new(random, terrain, &held(pair));
     let feed = source.feed(mood, count);
-    let known = source.known().to_vec();
+    let known = source.known();
     tally.records += pair.run(&feed, starved.unwrap_or(5 * feed.len()), side)?;
     tally.feeds += 1;
     Ok(known)
@@ -67,11 +67,11 @@ fn update_directly(
     tally: &mut Tally,
 ) -> Result<Vec<Prefix>, String> {
     let mood = Mood::any(random);
-    let count = if pair.words.len() > 500_000 { random.within(1..=4) } else { random.within(1..=30) };
+    let count = if pair.words.len() > 1_500_000 { random.within(1..=4) } else { random.within(1..=30) };
     let wide = random.pick(&[256, 65_536, 1 << 31]);
     let mut source = Source::new(random, terrain, &held(pair));
     let records: Vec<Record> = (0..count).map(|_| source.record(mood)).collect();
-    let known = source.known().to_vec();
+    let known = source.known();
     for record in records {
         tally.updates += 1;
         // No feed can send these numbers; a caller can.
@@ -82,11 +82,16 @@ fn update_directly(
     Ok(known)
 }
 
-/// Makes one record's call directly, its length and hop perhaps widened.
+/// Makes one record's call directly, its length, hop and feed perhaps widened.
 pub fn update(pair: &mut Pair, record: Record, mut wider: impl FnMut(u32) -> u32) -> Same {
     match record {
-        Record::Announce { address, length, hop } => pair.announce(address, wider(length), wider(hop)),
-        Record::Withdraw { address, length } => pair.withdraw(address, wider(length)),
+        Record::Announce { address, length, hop, feed, preference } => {
+            let prefix = Prefix { address, length: wider(length) };
+            pair.announce(Candidate { prefix, feed: wider(feed), preference, hop: wider(hop) })
+        }
+        Record::Withdraw { address, length, feed } => {
+            pair.withdraw(Prefix { address, length: wider(length) }, wider(feed))
+        }
         Record::Lookup { address } => pair.lookup(&[address]),
         Record::End => Ok(()),
     }
@@ -96,18 +101,17 @@ fn after_burst(random: &mut Random, terrain: &Terrain, pair: &Pair, known: &[Pre
     pair.check()?;
     let mut addresses: Vec<u32> = (0..12).map(|_| random.word()).collect();
     addresses.extend((0..12).map(|_| terrain.address(random)));
-    let routes = held(pair);
-    let routes = routes.routes();
+    let list = held(pair);
     for _ in 0..12 {
         addresses.extend(neighbours(random.pick(known)));
-        if !routes.is_empty() {
-            addresses.extend(neighbours(random.pick(routes).prefix));
+        if !list.candidates().is_empty() {
+            addresses.extend(neighbours(random.pick(list.candidates()).prefix));
         }
     }
     pair.lookup(&addresses)?;
     tally.lookups += addresses.len() as u64;
     tally.tables += 1;
-    let full = 8 * routes.len() + 1;
+    let full = list.encoded_size();
     let (more, fewer) = (full + random.below(40), random.below(full));
     let room = random.pick(&[full, full, full - 1, more, fewer]);
     pair.write_out(room, random.pick(&[Side::Front, Side::Back]))
@@ -122,13 +126,14 @@ pub fn neighbours(prefix: Prefix) -> [u32; 4] {
 /// The written list, run into a cleared table of the same room, gives the list again.
 fn round_trip(pair: &Pair) -> Same {
     let list = held(pair);
-    if list.routes().len() * pair.words.len() > ROUND_TRIP_WORDS {
+    let count = list.candidates().len();
+    if count * pair.words.len() > ROUND_TRIP_WORDS {
         return Ok(());
     }
-    pair.write_out(8 * list.routes().len() + 1, Side::Back)?;
+    pair.write_out(list.encoded_size(), Side::Back)?;
     let mut copy = Pair::seen(&pair.words, Side::Back);
     copy.clear()?;
-    copy.run(&list.encoding(), 5 * list.routes().len(), Side::Back)?;
+    copy.run(&list.encoding(), 5 * count, Side::Back)?;
     match held(&copy) == list {
         true => Ok(()),
         false => Err("the written list gives another list".into()),

@@ -37,10 +37,13 @@ pub struct Copies {
 }
 
 /// How often each refusal, by its number, and each stop was the right answer.
-static REFUSALS: [AtomicU64; 10] = [const { AtomicU64::new(0) }; 10];
+static REFUSALS: [AtomicU64; 11] = [const { AtomicU64::new(0) }; 11];
 static STOPS: [AtomicU64; 5] = [const { AtomicU64::new(0) }; 5];
 /// How often a lookup's walk ended at what no table has: lengths, then blocks, then links, by level.
 static ODD: [AtomicU64; 3 * LEVELS as usize] = [const { AtomicU64::new(0) }; 3 * LEVELS as usize];
+
+/// How often a direct update made a hop win at its prefix, changed it, left it, and left none.
+static WINNERS: [AtomicU64; 4] = [const { AtomicU64::new(0) }; 4];
 
 pub fn saw_refusal(number: u8) {
     REFUSALS[usize::from(number)].fetch_add(1, Relaxed);
@@ -48,6 +51,17 @@ pub fn saw_refusal(number: u8) {
 
 pub fn saw_stop(number: u8) {
     STOPS[usize::from(number)].fetch_add(1, Relaxed);
+}
+
+/// Notes the hops that win at an accepted update's prefix before and after it.
+pub fn saw_winner(before: Option<u32>, after: Option<u32>) {
+    let which = match (before, after) {
+        (None, _) => 0,
+        (Some(_), None) => 3,
+        _ if before == after => 2,
+        _ => 1,
+    };
+    WINNERS[which].fetch_add(1, Relaxed);
 }
 
 pub fn saw_odd(odd: Odd, level: u32) {
@@ -67,13 +81,15 @@ impl Tally {
         // there is no 0 and no 6
         refusals.remove(6);
         refusals.remove(0);
-        println!("refusals 1, 2, 3, 4, 5, 7, 8, 9 met {refusals:?} times, stops 0 to 4 {stops:?} times");
+        println!("refusals 1, 2, 3, 4, 5, 7, 8, 9, 10 met {refusals:?} times, stops 0 to 4 {stops:?} times");
+        let winners = counts(&WINNERS);
+        println!("direct updates by which a winning hop comes, changes, stays and goes {winners:?} times");
         let odd = counts(&ODD);
         let by_level: Vec<_> = odd.chunks(LEVELS as usize).collect();
         println!("lookups refused with 2 for a length, a block and a link, on each level {by_level:?} times");
         let copies = [self.copies.bytes_refused, self.copies.words_refused, self.copies.lookups_refused];
         println!("for copies, bytes refused with 2, words by 9 and lookups by 2 {copies:?} times");
-        if !self.enough() && [&refusals[..], &stops, &odd, &copies].concat().contains(&0) {
+        if !self.enough() && [&refusals[..], &stops, &winners, &odd, &copies].concat().contains(&0) {
             println!("difference: one of them was never met");
             self.differences += 1;
         }

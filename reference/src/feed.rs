@@ -6,12 +6,12 @@ use crate::refusal::Refusal;
 /// The free reply bytes that every record but end asks for, whatever its reply takes.
 const REPLY_ROOM: usize = 5;
 
-/// One record of a feed.
+/// One record of a feed: what it asks for, which kinds 1 and 4 say in two ways, and kinds 2 and 5.
 #[derive(Clone, Copy, Debug, PartialEq, Eq)]
 pub enum Record {
     End,
-    Announce { address: u32, length: u32, hop: u32 },
-    Withdraw { address: u32, length: u32 },
+    Announce { address: u32, length: u32, hop: u32, feed: u32, preference: u8 },
+    Withdraw { address: u32, length: u32, feed: u32 },
     Lookup { address: u32 },
 }
 
@@ -51,6 +51,8 @@ pub fn record_size(kind: u8) -> Option<usize> {
         1 => Some(8),
         2 => Some(6),
         3 => Some(5),
+        4 => Some(10),
+        5 => Some(7),
         _ => None,
     }
 }
@@ -59,15 +61,28 @@ pub fn record_size(kind: u8) -> Option<usize> {
 fn first_record(feed: &[u8]) -> Result<(Record, usize), Stop> {
     let &kind = feed.first().ok_or(Stop::NoByteLeft)?;
     let size = record_size(kind).ok_or(Stop::UnknownKind)?;
-    let body = feed.get(1..size).ok_or(Stop::BodyShort)?;
-    let number = |from: usize, to: usize| body[from..to].iter().fold(0, |n, &byte| n << 8 | u32::from(byte));
-    let record = match kind {
-        0 => Record::End,
-        1 => Record::Announce { address: number(0, 4), length: number(4, 5), hop: number(5, 7) },
-        2 => Record::Withdraw { address: number(0, 4), length: number(4, 5) },
-        _ => Record::Lookup { address: number(0, 4) },
+    let bytes = feed.get(..size).ok_or(Stop::BodyShort)?;
+    Ok((record(bytes), size))
+}
+
+/// The record that the bytes of just one are. Kinds 1 and 2 are of feed 1, kind 1 with preference 0.
+fn record(bytes: &[u8]) -> Record {
+    let prefix = |a, b, c, d, length: u8| (u32::from_be_bytes([a, b, c, d]), u32::from(length));
+    let announce = |(address, length), hop: [u8; 2], feed: u8, preference| {
+        let hop = u32::from(u16::from_be_bytes(hop));
+        Record::Announce { address, length, hop, feed: feed.into(), preference }
     };
-    Ok((record, size))
+    let withdraw = |(address, length), feed: u8| Record::Withdraw { address, length, feed: feed.into() };
+    match *bytes {
+        [1, a, b, c, d, length, high, low] => announce(prefix(a, b, c, d, length), [high, low], 1, 0),
+        [2, a, b, c, d, length] => withdraw(prefix(a, b, c, d, length), 1),
+        [3, a, b, c, d] => Record::Lookup { address: u32::from_be_bytes([a, b, c, d]) },
+        [4, a, b, c, d, length, high, low, feed, preference] => {
+            announce(prefix(a, b, c, d, length), [high, low], feed, preference)
+        }
+        [5, a, b, c, d, length, feed] => withdraw(prefix(a, b, c, d, length), feed),
+        _ => Record::End,
+    }
 }
 
 impl Answer {
@@ -91,8 +106,10 @@ impl Memory {
         let done = |result: Result<Update, Refusal>| result.map_or_else(Answer::Refused, Answer::Done);
         match record {
             Record::End => None,
-            Record::Announce { address, length, hop } => Some(done(self.announce(address, length, hop))),
-            Record::Withdraw { address, length } => Some(done(self.withdraw(address, length))),
+            Record::Announce { address, length, hop, feed, preference } => {
+                Some(done(self.announce(address, length, hop, feed, preference)))
+            }
+            Record::Withdraw { address, length, feed } => Some(done(self.withdraw(address, length, feed))),
             Record::Lookup { address } => Some(self.lookup(address).map_or_else(Answer::Refused, Answer::Looked)),
         }
     }

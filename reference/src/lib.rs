@@ -1,10 +1,11 @@
 //! A plain implementation of the rules that docs/FEED.md and docs/COPY.md give, written from the rules alone, to compare the
 //! proved one with.
 //!
-//! Routes are a plain sorted list, over any [`Address`]; feeds, words and copies are of IPv4. Nothing here knows the words
+//! Candidates and routes are plain sorted lists, over any [`Address`]; feeds, words and copies are of IPv4. Nothing here knows the words
 //! of a table but [`layout`], which reads docs/LAYOUT.md, nor those of a copy but [`copy`], which reads docs/COPY.md.
 
 pub mod address;
+pub mod candidates;
 pub mod copy;
 pub mod feed;
 pub mod layout;
@@ -14,6 +15,7 @@ pub mod program;
 pub mod refusal;
 
 pub use address::Address;
+pub use candidates::{Candidate, CandidateList, FEEDS};
 pub use feed::Ran;
 pub use list::{Prefix, Route, RouteList};
 pub use memory::{Counts, Lookup, Memory, Update};

@@ -152,7 +152,7 @@ impl<A: Address> RouteList<A> {
 }
 
 impl RouteList {
-    /// The list as a feed of announcements and an end.
+    /// The list as a feed of announcements that name no feed, and an end.
     pub fn encoding(&self) -> Vec<u8> {
         let mut bytes = Vec::with_capacity(8 * self.routes.len() + 1);
         for route in &self.routes {

@@ -1,23 +1,25 @@
-//! The lent words as a caller sees them, a size and perhaps a route list, with the calls on them.
+//! The lent words as a caller sees them, a size and perhaps a list of candidates, with the calls on them.
 
 use crate::address::Address;
-use crate::list::{Prefix, Route, RouteList};
+use crate::candidates::{Candidate, CandidateList, FEEDS};
+use crate::list::{Prefix, Route};
 use crate::refusal::Refusal;
 
 /// The words of one array, and of the part before the first.
-pub const ARRAY_WORDS: usize = 1024;
+pub const ARRAY_WORDS: usize = 3072;
 /// The most arrays that a table can have.
 pub const MOST_ARRAYS: usize = 4096;
 
 /// The number of arrays in a run of so many words, if a table can have that size.
 pub fn arrays_in(words: usize) -> Option<usize> {
-    let fits = words % ARRAY_WORDS == 0 && (2_048..=4_195_328).contains(&words);
+    let fits = words % ARRAY_WORDS == 0 && (6_144..=12_585_984).contains(&words);
     fits.then(|| words / ARRAY_WORDS - 1)
 }
 
 /// What an accepted update reports.
 #[derive(Clone, Copy, Debug, PartialEq, Eq)]
 pub struct Update {
+    /// The candidate's own, whichever wins.
     pub hop: u32,
     pub cells: u32,
 }
@@ -25,7 +27,7 @@ pub struct Update {
 /// What a lookup answers.
 #[derive(Clone, Copy, Debug, PartialEq, Eq)]
 pub struct Lookup<A = u32> {
-    /// The longest match.
+    /// The longest match among the winners.
     pub route: Option<Route<A>>,
     /// How many of the address's first bits the answer may be remembered for.
     pub block: u32,
@@ -34,7 +36,9 @@ pub struct Lookup<A = u32> {
 /// What the check answers.
 #[derive(Clone, Copy, Debug, PartialEq, Eq)]
 pub struct Counts {
+    /// Candidates.
     pub routes: u32,
+    /// Needed by the prefixes that have one.
     pub arrays: u32,
 }
 
@@ -42,12 +46,12 @@ pub struct Counts {
 #[derive(Clone, Debug, PartialEq, Eq)]
 pub struct Memory<A = u32> {
     words: usize,
-    list: Option<RouteList<A>>,
+    list: Option<CandidateList<A>>,
 }
 
 impl<A: Address> Memory<A> {
     /// Words that stand for the list, or for none.
-    pub fn new(words: usize, list: Option<RouteList<A>>) -> Self {
+    pub fn new(words: usize, list: Option<CandidateList<A>>) -> Self {
         Memory { words, list }
     }
 
@@ -57,57 +61,65 @@ impl<A: Address> Memory<A> {
     }
 
     /// The list, or refusal 1 or 2.
-    pub fn list(&self) -> Result<&RouteList<A>, Refusal> {
+    pub fn list(&self) -> Result<&CandidateList<A>, Refusal> {
         self.room()?;
         self.list.as_ref().ok_or(Refusal::NotATable)
     }
 
-    fn list_mut(&mut self) -> Result<&mut RouteList<A>, Refusal> {
+    fn list_mut(&mut self) -> Result<&mut CandidateList<A>, Refusal> {
         self.room()?;
         self.list.as_mut().ok_or(Refusal::NotATable)
     }
 
     pub fn clear(&mut self) -> Result<(), Refusal> {
         self.room()?;
-        self.list = Some(RouteList::default());
+        self.list = Some(CandidateList::default());
         Ok(())
     }
 
     pub fn check(&self) -> Result<Counts, Refusal> {
         let list = self.list()?;
-        Ok(Counts { routes: list.routes().len() as u32, arrays: list.need() as u32 })
+        Ok(Counts { routes: list.candidates().len() as u32, arrays: list.winners().need() as u32 })
     }
 
     /// Longest match and block. Refused by 2 on words that are no table; what the calls answer there is for the layout's
     /// walk to say.
     pub fn lookup(&self, address: A) -> Result<Lookup<A>, Refusal> {
-        let list = self.list()?;
+        let list = self.list()?.winners();
         Ok(Lookup { route: list.longest_match(address), block: list.block(address) })
     }
 
-    pub fn announce(&mut self, address: A, length: u32, hop: u32) -> Result<Update, Refusal> {
+    pub fn announce(
+        &mut self,
+        address: A,
+        length: u32,
+        hop: u32,
+        feed: u32,
+        preference: u8,
+    ) -> Result<Update, Refusal> {
         let room = self.room()?;
         let prefix = well_formed(address, length)?;
         if hop == 0 || hop > 65_535 {
             return Err(Refusal::HopOutOfRange);
         }
+        known(feed)?;
         let list = self.list_mut()?;
-        if list.hop(prefix).is_none() && list.need_with(prefix) > room {
+        let before = list.winners().hop(prefix);
+        if before.is_none() && list.winners().need_with(prefix) > room {
             return Err(Refusal::NoRoom);
         }
-        let cells = match list.set(prefix, hop) {
-            Some(before) if before == hop => 0,
-            _ => list.open_cells(prefix),
-        };
-        Ok(Update { hop, cells: cells as u32 })
+        list.set(Candidate { prefix, feed, preference, hop });
+        Ok(Update { hop, cells: reloaded(list, prefix, before) })
     }
 
-    pub fn withdraw(&mut self, address: A, length: u32) -> Result<Update, Refusal> {
+    pub fn withdraw(&mut self, address: A, length: u32, feed: u32) -> Result<Update, Refusal> {
         self.room()?;
         let prefix = well_formed(address, length)?;
+        known(feed)?;
         let list = self.list_mut()?;
-        let hop = list.remove(prefix).ok_or(Refusal::NotHeld)?;
-        Ok(Update { hop, cells: list.open_cells(prefix) as u32 })
+        let before = list.winners().hop(prefix);
+        let removed = list.remove(prefix, feed).ok_or(Refusal::NotHeld)?;
+        Ok(Update { hop: removed.hop, cells: reloaded(list, prefix, before) })
     }
 }
 
@@ -130,4 +142,19 @@ fn well_formed<A: Address>(address: A, length: u32) -> Result<Prefix<A>, Refusal
         return Err(Refusal::StrayBit);
     }
     Ok(prefix)
+}
+
+fn known(feed: u32) -> Result<(), Refusal> {
+    match feed {
+        1..=FEEDS => Ok(()),
+        _ => Err(Refusal::FeedOutOfRange),
+    }
+}
+
+/// The cells that an update of the prefix reports: none where the hop that wins there is what it was before.
+fn reloaded<A: Address>(list: &CandidateList<A>, prefix: Prefix<A>, before: Option<u32>) -> u32 {
+    match list.winners().hop(prefix) == before {
+        true => 0,
+        false => list.winners().open_cells(prefix) as u32,
+    }
 }

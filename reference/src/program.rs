@@ -9,7 +9,7 @@ use crate::memory::{Lookup, Memory, ARRAY_WORDS};
 /// The longest feed that the program takes.
 pub const MOST_INPUT: usize = 4_096;
 const REPLY_BYTES: usize = 4_096;
-const ARRAYS: usize = 7;
+const ARRAYS: usize = 3;
 
 /// All that the program prints for an input.
 pub fn output(input: &[u8]) -> String {
@@ -17,7 +17,7 @@ pub fn output(input: &[u8]) -> String {
         return "too long\n".to_string();
     }
     let mut memory = Memory::new(ARRAY_WORDS * (ARRAYS + 1), None);
-    memory.clear().expect("seven arrays are a right size");
+    memory.clear().expect("three arrays are a right size");
     let mut text = String::new();
     let mut reply = [0; REPLY_BYTES];
     let ran = memory
@@ -38,7 +38,7 @@ fn sent(record: Record) -> String {
     match record {
         Record::End => "end".to_string(),
         Record::Announce { address, length, .. } => format!("announce {}/{length}", Ipv4Addr::from(address)),
-        Record::Withdraw { address, length } => format!("withdraw {}/{length}", Ipv4Addr::from(address)),
+        Record::Withdraw { address, length, .. } => format!("withdraw {}/{length}", Ipv4Addr::from(address)),
         Record::Lookup { address } => format!("lookup {}", Ipv4Addr::from(address)),
     }
 }

@@ -4,7 +4,7 @@
 #[derive(Clone, Copy, Debug, PartialEq, Eq)]
 #[repr(u8)]
 pub enum Refusal {
-    /// The number of words is not a multiple of 1,024 from 2,048 to 4,195,328.
+    /// The number of words is not a multiple of 3,072 from 6,144 to 12,585,984.
     WordCount = 1,
     /// The words are not a table, or the bytes not a list.
     NotATable = 2,
@@ -14,12 +14,14 @@ pub enum Refusal {
     StrayBit = 4,
     /// The hop is 0 or over 65,535.
     HopOutOfRange = 5,
-    /// The prefix is not held.
+    /// The feed has no candidate for the prefix.
     NotHeld = 7,
-    /// The list with the route added needs more arrays than there are.
+    /// The prefix has no candidate, and the list with it needs more arrays than there are.
     NoRoom = 8,
     /// The buffer is too short for the written list, or the words are fewer than the copy needs.
     BufferShort = 9,
+    /// The feed's number is not 1 to 4.
+    FeedOutOfRange = 10,
 }
 
 impl Refusal {

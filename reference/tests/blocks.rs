@@ -1,11 +1,12 @@
 //! The block of an address: the worked cases, and the definition tried on every address of small lists.
 
 use reference::feed::Stop;
+use reference::memory::ARRAY_WORDS;
 use reference::{Memory, Prefix, RouteList};
 
 /// A cleared table of 7 arrays takes a feed with so many reply bytes. Each line has a record and its reply, in hexadecimal.
 fn replied(reply_bytes: usize, lines: &[(&str, &str)]) -> (Stop, usize, usize) {
-    let mut memory: Memory = Memory::new(1024 * 8, None);
+    let mut memory: Memory = Memory::new(ARRAY_WORDS * 8, None);
     memory.clear().unwrap();
     let (feed, expected): (Vec<_>, Vec<_>) = lines.iter().map(|line| (bytes(line.0), bytes(line.1))).unzip();
     let mut reply = vec![0xEE; reply_bytes];

@@ -105,6 +105,83 @@ fn bytes_that_are_none() {
     }
 }
 
+/// A kind 4 record.
+fn by_feed(address: u32, length: u8, hop: u16, feed: u8, preference: u8) -> Vec<u8> {
+    [&[4][..], &address.to_be_bytes(), &[length], &hop.to_be_bytes(), &[feed, preference]].concat()
+}
+
+fn ended(records: &[&[u8]]) -> Vec<u8> {
+    [&records.concat()[..], &[0]].concat()
+}
+
+const TEN_8: u32 = 0x0A00_0000;
+
+#[test]
+fn a_list_of_candidates_is_its_winners() {
+    let one = by_feed(TEN_8, 8, 5, 1, 10);
+    let two = by_feed(TEN_8, 8, 6, 2, 5);
+    let four = by_feed(TEN_8, 8, 7, 4, 5);
+    let longer = by_feed(0x0A01_0200, 24, 8, 3, 255);
+    let of = |records: &[&[u8]]| listed(&ended(records));
+    assert_eq!(of(&[&one]), Ok(list(&[(TEN_8, 8, 5)])));
+    assert_eq!(of(&[&one, &two]), Ok(list(&[(TEN_8, 8, 6)])));
+    assert_eq!(of(&[&one, &two, &four, &longer]), Ok(list(&[(TEN_8, 8, 6), (0x0A01_0200, 24, 8)])));
+    // One route a prefix is needed and counted: the /24 has a marker of 16 bits.
+    let bytes = ended(&[&one, &two, &four, &longer]);
+    assert_eq!(need(&bytes), Ok(8 * 3 + 1_024));
+    assert_eq!(build(&bytes, 1_048), Ok(Built { routes: 2, markers: 1 }));
+    assert_eq!(build(&bytes, 1_047), Err(Refusal::BufferShort));
+}
+
+#[test]
+fn lists_of_candidates_that_are_none() {
+    let (one, two) = (by_feed(TEN_8, 8, 5, 1, 10), by_feed(TEN_8, 8, 6, 2, 5));
+    let (nine, longer) = (by_feed(0x0900_0000, 8, 5, 4, 0), by_feed(TEN_8, 9, 5, 1, 0));
+    assert!(listed(&ended(&[&nine, &one, &two, &longer])).is_ok());
+    let plain = [1, 11, 0, 0, 0, 8, 0, 1];
+    let before = [1, 9, 0, 0, 0, 8, 0, 1];
+    // Out of order by feed, length or address, doubled, and of both kinds.
+    let orders: [&[&[u8]]; 7] = [
+        &[&two, &one],
+        &[&longer, &one],
+        &[&one, &nine],
+        &[&one, &one],
+        &[&one, &plain],
+        &[&before, &one],
+        &[&plain, &one],
+    ];
+    for records in orders {
+        assert_eq!(listed(&ended(records)), Err(NO), "{records:?}");
+    }
+    // Five of one kind are as many bytes as four of the other.
+    let mixed = [&[plain; 5].concat()[..], &one].concat();
+    assert_eq!(listed(&ended(&[&mixed])), Err(NO));
+    let changed = |at: usize, byte| {
+        let mut bytes = ended(&[&one]);
+        bytes[at] = byte;
+        listed(&bytes).is_ok()
+    };
+    for (at, byte) in [(0, 1), (0, 5), (4, 1), (5, 6), (5, 33), (7, 0), (8, 0), (8, 5), (8, 255), (10, 1), (10, 4)] {
+        assert!(!changed(at, byte), "{at} {byte}");
+    }
+    for (at, byte) in [(1, 11), (5, 9), (6, 255), (8, 2), (8, 4), (9, 0), (9, 255)] {
+        assert!(changed(at, byte), "{at} {byte}");
+    }
+    for cut in 0..one.len() + 1 {
+        assert_eq!(listed(&ended(&[&one])[..cut]), Err(NO), "{cut}");
+    }
+    assert_eq!(listed(&ended(&[&one, &[0]])), Err(NO));
+}
+
+/// The heads of arrays count once however many candidates their prefixes have.
+#[test]
+fn room_of_a_list_of_candidates() {
+    let heads = |count: u32| (0..count).flat_map(|head| (1..3).map(move |feed| by_feed(head << 16, 17, 1, feed, 0)));
+    let list_of = |count: u32| heads(count).chain([vec![0]]).collect::<Vec<_>>().concat();
+    assert_eq!(need(&list_of(4_079)), Ok(8 * 2 * 4_079 + 1_024));
+    assert_eq!(need(&list_of(4_080)), Err(NO));
+}
+
 /// A route of length 17 for each of so many first 16 bits, from 0.0 on.
 fn halves(count: u32) -> Vec<u8> {
     let mut halves = RouteList::default();

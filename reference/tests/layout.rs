@@ -1,25 +1,41 @@
 //! The reading of docs/LAYOUT.md: a table laid out is read again, its walk is the longest match, and each condition of
 //! the definition is missed when it alone is broken.
 
-use reference::layout::{check, lay, read, walk, Cell, End, Walked};
-use reference::{Counts, Lookup, Memory, Prefix, Refusal, RouteList};
+use reference::layout::{check, lay, read, walk, winner, word, Cell, End, Walked};
+use reference::{Candidate, CandidateList, Counts, Lookup, Memory, Prefix, Refusal, RouteList};
 
-fn sample() -> RouteList {
-    let mut list = RouteList::default();
-    let routes = [
-        (0x0000_0000, 0, 65_535),
-        (0x0A00_0000, 7, 1),
-        (0x0A00_0000, 8, 2),
-        (0x0A01_0000, 16, 3),
-        (0x0A01_0400, 22, 4),
-        (0x0A01_0400, 23, 5),
-        (0x0A01_0180, 25, 6),
-        (0xFFFF_FFFF, 32, 7),
+/// The words of an array, and where in it the cells and what follows them begin.
+const ARRAY: usize = 3072;
+const CELLS: usize = 2048;
+const AFTER: usize = 2304;
+
+fn sample() -> CandidateList {
+    let candidates = [
+        (0x0000_0000, 0, 1, 0, 65_535),
+        (0x0A00_0000, 7, 4, 255, 1),
+        // Feed 3 wins, with as low a preference as feed 4.
+        (0x0A00_0000, 8, 1, 200, 9),
+        (0x0A00_0000, 8, 3, 7, 2),
+        (0x0A00_0000, 8, 4, 7, 65_535),
+        (0x0A01_0000, 16, 2, 0, 3),
+        (0x0A01_0400, 22, 1, 0, 4),
+        (0x0A01_0400, 23, 1, 1, 8),
+        (0x0A01_0400, 23, 2, 0, 5),
+        (0x0A01_0180, 25, 1, 0, 6),
+        (0xFFFF_FFFF, 32, 1, 0, 7),
     ];
-    for (address, length, hop) in routes {
-        assert_eq!(list.set(Prefix { address, length }, hop), None);
-    }
-    list
+    let candidate = |(address, length, feed, preference, hop)| Candidate {
+        prefix: Prefix { address, length },
+        feed,
+        preference,
+        hop,
+    };
+    candidates.map(candidate).to_vec().into()
+}
+
+/// Its winners: one route for each of eight prefixes.
+fn winners() -> RouteList {
+    sample().winners().clone()
 }
 
 /// The sample in 12 arrays, scattered: 10/8 is 9, 10.1/16 is 5, 10.1.1/24 is 12, and 2, 11, 7 lead to the last address.
@@ -41,19 +57,20 @@ fn leads(length: u32, hop: u32, number: u32) -> u32 {
 fn laid_out_is_read_again() {
     let words = words();
     assert_eq!(read(&words), Memory::new(words.len(), Some(sample())));
-    assert_eq!(check(&words), Ok(Counts { routes: 8, arrays: 7 }));
-    let empty = lay(&RouteList::default(), 1, &[]);
+    assert_eq!(check(&words), Ok(Counts { routes: 11, arrays: 7 }));
+    let empty = lay(&CandidateList::default(), 1, &[]);
     assert_eq!(check(&empty), Ok(Counts { routes: 0, arrays: 1 }));
 }
 
 #[test]
 fn the_walk_is_the_longest_match_and_the_block() {
-    let (words, list) = (words(), sample());
+    let (words, list) = (words(), winners());
+    assert_eq!(list.routes().len(), 8);
     let near = |r: &reference::Route| {
         [r.prefix.address.wrapping_sub(1), r.prefix.address, r.prefix.last(), r.prefix.last().wrapping_add(1)]
     };
     for address in list.routes().iter().flat_map(near) {
-        let Lookup { route, block } = Memory::new(words.len(), Some(list.clone())).lookup(address).unwrap();
+        let Lookup { route, block } = Memory::new(words.len(), Some(sample())).lookup(address).unwrap();
         let found = route.map(|route| (route.hop, route.prefix.length));
         assert_eq!(walk(&words, address), Ok(Walked { found, block }), "{address:08x}");
     }
@@ -67,7 +84,7 @@ fn the_words_of_cells() {
     let in_the_root = [(1, 0, ends(0, 65_535, 5)), (1, 11, ends(7, 1, 8)), (1, 255, leads(0, 65_535, 2))];
     let below = [(5, 4, ends(7, 5, 7)), (5, 6, ends(6, 4, 7)), (12, 0, ends(0, 0, 1)), (12, 255, ends(1, 6, 1))];
     for (a, i, word) in [&on_the_way_to_12[..], &in_the_root, &below].concat() {
-        assert_eq!(words[1024 * a + 512 + i], word, "cell {i} of array {a}");
+        assert_eq!(words[ARRAY * a + CELLS + i], word, "cell {i} of array {a}");
     }
 }
 
@@ -76,10 +93,12 @@ fn each_single_word_with_a_use_matters() {
     let mut words = words();
     let seen = read(&words);
     for at in 0..words.len() {
-        // In a cell these are bits of its block or link, of its hop, and of its length or whether it has a link.
-        for bit in [0, 12, 28] {
+        let used = at < ARRAY || at % ARRAY == 0 || (4..AFTER).contains(&(at % ARRAY));
+        // In a cell these are bits of its block or link, of its hop, and of its length or whether it has a link; in a slot
+        // of the hop, the preference, and above it. A word without a use is read no other way whatever its bits.
+        let bits = if used { &[0, 12, 16, 28][..] } else { &[31] };
+        for &bit in bits {
             words[at] ^= 1 << bit;
-            let used = at < 1024 || at % 1024 < 768;
             assert_eq!(read(&words) != seen, used, "bit {bit} of word {at}");
             words[at] ^= 1 << bit;
         }
@@ -88,13 +107,14 @@ fn each_single_word_with_a_use_matters() {
 
 #[test]
 fn sizes() {
-    for count in [0, 1, 1023, 1024, 2047, 2049, 3000, 4_195_329, 4_196_352] {
+    for count in [0, 1, 1024, 2048, 3072, 6143, 6145, 7168, 4_195_328, 12_585_983, 12_585_985, 12_589_056] {
         let words = vec![0; count];
         assert_eq!(check(&words), Err(Refusal::WordCount), "{count}");
         assert_eq!(walk(&words, 0), Err(Refusal::WordCount), "{count}");
     }
-    assert_eq!(check(&vec![0; 2048]), Err(Refusal::NotATable));
-    assert_eq!(check(&vec![0; 4_195_328]), Err(Refusal::NotATable));
+    for count in [6_144, 9_216, 12_288, 12_585_984] {
+        assert_eq!(check(&vec![0; count]), Err(Refusal::NotATable), "{count}");
+    }
 }
 
 /// Sets words and tells whether a table is left.
@@ -109,12 +129,12 @@ fn after(changes: &[(usize, u32)]) -> bool {
 #[test]
 fn an_array_must_hold_something() {
     // Array 12 holds the /25 alone; with its slot and bests gone it is empty but still hangs.
-    let mut changes = vec![(12 * 1024 + 3, 0)];
-    changes.extend((0..256).map(|i| (12 * 1024 + 512 + i, 0)));
+    let mut changes = vec![(12 * ARRAY + 4 * 3, 0)];
+    changes.extend((0..256).map(|i| (12 * ARRAY + CELLS + i, 0)));
     assert!(!after(&changes));
     // Taken off its parent as well, it is free and the table is right again: the /22 and the /23 inside it are left there.
-    changes.extend([(12 * 1024, 0), (0, 6), (2, 2)]);
-    changes.extend((0..4).map(|i| (5 * 1024 + 512 + i, ends(0, 0, 6))));
+    changes.extend([(12 * ARRAY, 0), (0, 6), (2, 2)]);
+    changes.extend((0..4).map(|i| (5 * ARRAY + CELLS + i, ends(0, 0, 6))));
     assert!(after(&changes));
 }
 
@@ -122,44 +142,83 @@ fn an_array_must_hold_something() {
 fn a_level_below_the_last() {
     // Array 10 below cell 200 of array 12, with a slot and its best: all in order but the level.
     let hangs = [
-        (12 * 1024 + 512 + 200, leads(1, 6, 10)),
-        (10 * 1024, 12 * 8192 + 200 * 32 + 5),
-        (10 * 1024 + 256, 1),
-        (10 * 1024 + 512, ends(8, 1, 8)),
+        (12 * ARRAY + CELLS + 200, leads(1, 6, 10)),
+        (10 * ARRAY, 12 * 8192 + 200 * 32 + 5),
+        (10 * ARRAY + 4 * 256, 1),
+        (10 * ARRAY + CELLS, ends(8, 1, 8)),
         (0, 8),
         (2, 4),
     ];
     // Cells leave cell 200 after so many bits, or 0 after as many.
     let leaves = |from: u32, i: u32| (from ^ i).leading_zeros() - 23;
-    let above = (128..256).filter(|&i| i != 200).map(|i| (12 * 1024 + 512 + i as usize, ends(1, 6, leaves(200, i))));
-    let inside = (1..256).map(|i| (10 * 1024 + 512 + i as usize, ends(0, 0, leaves(0, i))));
+    let above = (128..256).filter(|&i| i != 200).map(|i| (12 * ARRAY + CELLS + i as usize, ends(1, 6, leaves(200, i))));
+    let inside = (1..256).map(|i| (10 * ARRAY + CELLS + i as usize, ends(0, 0, leaves(0, i))));
     assert!(!after(&hangs.into_iter().chain(above).chain(inside).collect::<Vec<_>>()));
 }
 
 #[test]
 fn slot_one_is_the_roots() {
-    let mut changes = vec![(9 * 1024 + 1, 8)];
-    let words = words();
-    changes.extend((0..256).filter(|&i| i != 1).map(|i| (9 * 1024 + 512 + i, words[9 * 1024 + 512 + i] | 8 << 12)));
-    assert!(!after(&changes));
+    // Below the root the route of length 0 in the array would be the best of all cells but that of the /16.
+    let (words, cells) = (words(), 9 * ARRAY + CELLS);
+    let bests = (0..256).filter(|&i| i != 1).map(|i| (cells + i, words[cells + i] | 8 << 12));
+    let bests: Vec<(usize, u32)> = bests.collect();
+    for feed in 0..4 {
+        assert!(!after(&[&bests[..], &[(9 * ARRAY + 4 + feed, 8)]].concat()), "{feed}");
+    }
+    // In the root a loser may join the default route.
+    assert!(after(&[(ARRAY + 4 + 3, word(9, 1))]));
+}
+
+/// The four words of the slot of 255.255.255.255/32, and its cell.
+fn last_slot(words: [u32; 4], cell: u32) -> bool {
+    let slot = (0..).zip(words).map(|(feed, word)| (7 * ARRAY + 4 * 511 + feed, word));
+    after(&slot.chain([(7 * ARRAY + CELLS + 255, cell)]).collect::<Vec<_>>())
 }
 
 #[test]
-fn a_hop_over_its_range() {
-    // In the best it carries over to where a link says so.
-    assert!(!after(&[(7 * 1024 + 511, 65_536), (7 * 1024 + 767, (65_536 << 12) + ends(8, 0, 8))]));
-    assert!(after(&[(7 * 1024 + 511, 65_535), (7 * 1024 + 767, ends(8, 65_535, 8))]));
+fn hops_and_preferences_in_their_range() {
+    let best = |hop| ends(8, hop, 8);
+    assert!(last_slot([word(0, 65_535), 0, 0, 0], best(65_535)));
+    assert!(last_slot([word(255, 65_535), 0, 0, 0], best(65_535)));
+    assert!(last_slot([0, 0, 0, word(255, 1)], best(1)));
+    // A preference without a hop, one over its range, and both: whatever the cell says.
+    for odd in [1 << 16, 255 << 16, 256 << 16, 256 << 16 | 7, u32::MAX] {
+        assert!(!last_slot([odd, 0, 0, 0], best(odd % 65_536)), "{odd:08x}");
+        assert!(!last_slot([word(0, 7), 0, 0, odd], best(7)), "{odd:08x}");
+    }
+}
+
+#[test]
+fn the_best_is_the_winners() {
+    let (a, b, c) = (word(9, 1), word(5, 2), word(5, 3));
+    for (slot, hop) in [([a, b, c, 0], 2), ([a, c, 0, b], 3), ([a, 0, 0, 0], 1), ([0, 0, b, a], 2), ([c, a, b, a], 3)] {
+        assert_eq!(winner(&slot), Some(hop));
+        for told in 0..4 {
+            assert_eq!(last_slot(slot, ends(8, told, 8)), told == hop, "{told} for {slot:?}");
+        }
+    }
+    assert_eq!(winner(&[0; 4]), None);
+}
+
+/// Words without a use hold anything, in a free array too.
+#[test]
+fn words_without_a_use() {
+    let unused = |a: usize| (1..4).chain(AFTER..ARRAY).map(move |at| (a * ARRAY + at, u32::MAX));
+    let mut words = words();
+    let seen = read(&words);
+    (1..=12).flat_map(unused).for_each(|(at, word)| words[at] = word);
+    assert_eq!(read(&words), seen);
 }
 
 #[test]
 fn two_arrays_that_hang_on_each_other() {
     let leaves = |i: u32| ends(0, 0, i.leading_zeros() - 23);
-    let cells = |a: usize| (1..256).map(move |i| (a * 1024 + 512 + i as usize, leaves(i)));
+    let cells = |a: usize| (1..256).map(move |i| (a * ARRAY + CELLS + i as usize, leaves(i)));
     let ring = [
-        (3 * 1024, 4 * 8192 + 2),
-        (3 * 1024 + 512, leads(0, 0, 4)),
-        (4 * 1024, 3 * 8192 + 3),
-        (4 * 1024 + 512, leads(0, 0, 3)),
+        (3 * ARRAY, 4 * 8192 + 2),
+        (3 * ARRAY + CELLS, leads(0, 0, 4)),
+        (4 * ARRAY, 3 * 8192 + 3),
+        (4 * ARRAY + CELLS, leads(0, 0, 3)),
         (0, 9),
         (1, 5),
     ];
@@ -179,7 +238,7 @@ fn every_word_is_a_cell_of_its_own() {
 /// The walk to an address with one cell changed, by its array and number: hop, length and block.
 fn walk_with(a: usize, i: usize, word: u32, address: u32) -> Result<Walked, Refusal> {
     let mut words = words();
-    words[1024 * a + 512 + i] = word;
+    words[ARRAY * a + CELLS + i] = word;
     walk(&words, address)
 }
 

@@ -1,16 +1,26 @@
 //! The small cases of the rules, the worked feed of docs/FEED.md, and the stops and refusals of the run.
 
 use reference::feed::Stop;
+use reference::memory::ARRAY_WORDS;
 use reference::{program, Counts, Lookup, Memory, Refusal, Update};
 
 fn table(arrays: usize) -> Memory {
-    let mut memory = Memory::new(1024 * (arrays + 1), None);
+    let mut memory = Memory::new(ARRAY_WORDS * (arrays + 1), None);
     memory.clear().unwrap();
     memory
 }
 
 fn ip(a: u8, b: u8, c: u8, d: u8) -> u32 {
     u32::from_be_bytes([a, b, c, d])
+}
+
+/// By feed 1 with preference 0, as kinds 1 and 2 do.
+fn announce(memory: &mut Memory, address: u32, length: u32, hop: u32) -> Result<Update, Refusal> {
+    memory.announce(address, length, hop, 1, 0)
+}
+
+fn withdraw(memory: &mut Memory, address: u32, length: u32) -> Result<Update, Refusal> {
+    memory.withdraw(address, length, 1)
 }
 
 fn cells(update: Result<Update, Refusal>) -> u32 {
@@ -29,7 +39,7 @@ fn p1_empty_finds_none() {
 #[test]
 fn p2_default_route() {
     let mut memory = table(7);
-    assert_eq!(cells(memory.announce(0, 0, 9)), 256);
+    assert_eq!(cells(announce(&mut memory, 0, 0, 9)), 256);
     assert_eq!(arrays(&memory), 1);
     let Lookup { route, block } = memory.lookup(u32::MAX).unwrap();
     let route = route.unwrap();
@@ -38,99 +48,101 @@ fn p2_default_route() {
 
 #[test]
 fn p3_half() {
-    assert_eq!(cells(table(7).announce(ip(128, 0, 0, 0), 1, 1)), 128);
+    assert_eq!(cells(announce(&mut table(7), ip(128, 0, 0, 0), 1, 1)), 128);
 }
 
 #[test]
 fn p4_p5_shorter_after_longer() {
     let mut memory = table(7);
-    memory.announce(ip(10, 0, 0, 0), 8, 1).unwrap();
-    assert_eq!(cells(memory.clone().announce(ip(10, 0, 0, 0), 7, 2)), 1);
-    memory.announce(ip(11, 0, 0, 0), 8, 1).unwrap();
-    assert_eq!(cells(memory.announce(ip(10, 0, 0, 0), 7, 2)), 0);
+    announce(&mut memory, ip(10, 0, 0, 0), 8, 1).unwrap();
+    assert_eq!(cells(announce(&mut memory.clone(), ip(10, 0, 0, 0), 7, 2)), 1);
+    announce(&mut memory, ip(11, 0, 0, 0), 8, 1).unwrap();
+    assert_eq!(cells(announce(&mut memory, ip(10, 0, 0, 0), 7, 2)), 0);
 }
 
 #[test]
 fn p6_p7_four_arrays() {
     let mut memory = table(7);
-    assert_eq!(cells(memory.announce(ip(10, 1, 1, 128), 25, 1)), 128);
+    assert_eq!(cells(announce(&mut memory, ip(10, 1, 1, 128), 25, 1)), 128);
     assert_eq!(arrays(&memory), 4);
-    memory.announce(ip(10, 1, 4, 0), 22, 1).unwrap();
+    announce(&mut memory, ip(10, 1, 4, 0), 22, 1).unwrap();
     assert_eq!(arrays(&memory), 4);
 }
 
 #[test]
 fn p8_one_address() {
     let mut memory = table(7);
-    assert_eq!(cells(memory.announce(u32::MAX, 32, 1)), 1);
+    assert_eq!(cells(announce(&mut memory, u32::MAX, 32, 1)), 1);
     assert_eq!(arrays(&memory), 4);
 }
 
 #[test]
 fn p9_around_a_longer() {
     let mut memory = table(7);
-    memory.announce(ip(10, 1, 4, 0), 22, 2).unwrap();
-    assert_eq!(cells(memory.announce(ip(10, 1, 0, 0), 20, 3)), 12);
+    announce(&mut memory, ip(10, 1, 4, 0), 22, 2).unwrap();
+    assert_eq!(cells(announce(&mut memory, ip(10, 1, 0, 0), 20, 3)), 12);
 }
 
 #[test]
 fn p10_p11_order_of_refusals() {
-    assert_eq!(table(7).announce(0, 33, 0), Err(Refusal::TooLong));
-    assert_eq!(table(7).announce(ip(10, 0, 0, 1), 24, 0), Err(Refusal::StrayBit));
-    let mut foreign: Memory = Memory::new(2048, None);
-    assert_eq!(foreign.announce(0, 0, 0), Err(Refusal::HopOutOfRange));
-    assert_eq!(foreign.announce(0, 0, 65_536), Err(Refusal::HopOutOfRange));
-    assert_eq!(foreign.announce(0, 0, 1), Err(Refusal::NotATable));
-    assert_eq!(foreign.withdraw(1, 0), Err(Refusal::StrayBit));
-    let mut misfit: Memory = Memory::new(2047, None);
-    assert_eq!(misfit.announce(0, 33, 0), Err(Refusal::WordCount));
-    assert_eq!(misfit.withdraw(0, 33), Err(Refusal::WordCount));
+    assert_eq!(announce(&mut table(7), 0, 33, 0), Err(Refusal::TooLong));
+    assert_eq!(announce(&mut table(7), ip(10, 0, 0, 1), 24, 0), Err(Refusal::StrayBit));
+    let mut foreign: Memory = Memory::new(6_144, None);
+    assert_eq!(announce(&mut foreign, 0, 0, 0), Err(Refusal::HopOutOfRange));
+    assert_eq!(announce(&mut foreign, 0, 0, 65_536), Err(Refusal::HopOutOfRange));
+    assert_eq!(announce(&mut foreign, 0, 0, 1), Err(Refusal::NotATable));
+    assert_eq!(withdraw(&mut foreign, 1, 0), Err(Refusal::StrayBit));
+    let mut misfit: Memory = Memory::new(6_143, None);
+    assert_eq!(announce(&mut misfit, 0, 33, 0), Err(Refusal::WordCount));
+    assert_eq!(withdraw(&mut misfit, 0, 33), Err(Refusal::WordCount));
 }
 
 #[test]
 fn p12_one_array() {
     let mut memory = table(1);
-    assert!(memory.announce(ip(10, 0, 0, 0), 8, 1).is_ok());
-    assert_eq!(memory.announce(ip(10, 0, 0, 0), 9, 1), Err(Refusal::NoRoom));
+    assert!(announce(&mut memory, ip(10, 0, 0, 0), 8, 1).is_ok());
+    assert_eq!(announce(&mut memory, ip(10, 0, 0, 0), 9, 1), Err(Refusal::NoRoom));
 }
 
 #[test]
 fn four_arrays_are_used_again() {
     let mut memory = table(4);
-    memory.announce(ip(10, 1, 1, 128), 25, 1).unwrap();
-    assert_eq!(memory.announce(ip(10, 1, 2, 0), 25, 1), Err(Refusal::NoRoom));
-    assert_eq!(memory.withdraw(ip(10, 1, 1, 128), 25), Ok(Update { hop: 1, cells: 128 }));
-    assert!(memory.announce(ip(10, 1, 2, 0), 25, 1).is_ok());
+    announce(&mut memory, ip(10, 1, 1, 128), 25, 1).unwrap();
+    assert_eq!(announce(&mut memory, ip(10, 1, 2, 0), 25, 1), Err(Refusal::NoRoom));
+    assert_eq!(withdraw(&mut memory, ip(10, 1, 1, 128), 25), Ok(Update { hop: 1, cells: 128 }));
+    assert!(announce(&mut memory, ip(10, 1, 2, 0), 25, 1).is_ok());
 }
 
 #[test]
 fn a_second_announcement_replaces() {
     let mut memory = table(3);
-    memory.announce(ip(10, 1, 0, 0), 20, 1).unwrap();
-    memory.announce(ip(10, 1, 4, 0), 22, 2).unwrap();
-    assert_eq!(memory.announce(ip(11, 0, 0, 0), 9, 1), Err(Refusal::NoRoom));
-    assert_eq!(memory.announce(ip(10, 1, 0, 0), 20, 3), Ok(Update { hop: 3, cells: 12 }));
-    assert_eq!(memory.announce(ip(10, 1, 0, 0), 20, 3), Ok(Update { hop: 3, cells: 0 }));
-    assert_eq!(memory.announce(ip(10, 1, 0, 0), 20, 0), Err(Refusal::HopOutOfRange));
+    announce(&mut memory, ip(10, 1, 0, 0), 20, 1).unwrap();
+    announce(&mut memory, ip(10, 1, 4, 0), 22, 2).unwrap();
+    assert_eq!(announce(&mut memory, ip(11, 0, 0, 0), 9, 1), Err(Refusal::NoRoom));
+    assert_eq!(announce(&mut memory, ip(10, 1, 0, 0), 20, 3), Ok(Update { hop: 3, cells: 12 }));
+    assert_eq!(announce(&mut memory, ip(10, 1, 0, 0), 20, 3), Ok(Update { hop: 3, cells: 0 }));
+    assert_eq!(announce(&mut memory, ip(10, 1, 0, 0), 20, 0), Err(Refusal::HopOutOfRange));
     let hop = |address| memory.lookup(address).unwrap().route.unwrap().hop;
     assert_eq!((hop(ip(10, 1, 5, 9)), hop(ip(10, 1, 8, 1))), (2, 3));
     assert_eq!(memory.check(), Ok(Counts { routes: 2, arrays: 3 }));
-    assert_eq!(memory.withdraw(ip(10, 1, 0, 0), 20), Ok(Update { hop: 3, cells: 12 }));
-    assert_eq!(memory.withdraw(ip(10, 1, 0, 0), 20), Err(Refusal::NotHeld));
+    assert_eq!(withdraw(&mut memory, ip(10, 1, 0, 0), 20), Ok(Update { hop: 3, cells: 12 }));
+    assert_eq!(withdraw(&mut memory, ip(10, 1, 0, 0), 20), Err(Refusal::NotHeld));
 }
 
 #[test]
 fn writing_out() {
     let mut memory = table(7);
-    let mut buffer = [0xEE; 20];
+    let mut buffer = [0xEE; 24];
     assert_eq!(memory.write_out(&mut buffer[..0]), Err(Refusal::BufferShort));
     assert_eq!(memory.write_out(&mut buffer), Ok(1));
     assert_eq!(buffer[..2], [0, 0xEE]);
-    memory.announce(ip(10, 0, 0, 0), 8, 258).unwrap();
-    memory.announce(ip(10, 0, 0, 0), 7, 3).unwrap();
-    assert_eq!(memory.write_out(&mut buffer[..16]), Err(Refusal::BufferShort));
-    assert_eq!(memory.write_out(&mut buffer), Ok(17));
-    assert_eq!(buffer, [1, 10, 0, 0, 0, 7, 0, 3, 1, 10, 0, 0, 0, 8, 1, 2, 0, 0xEE, 0xEE, 0xEE]);
+    announce(&mut memory, ip(10, 0, 0, 0), 8, 258).unwrap();
+    announce(&mut memory, ip(10, 0, 0, 0), 7, 3).unwrap();
+    assert_eq!(memory.write_out(&mut buffer[..20]), Err(Refusal::BufferShort));
+    assert_eq!(memory.write_out(&mut buffer), Ok(21));
+    let list = [4, 10, 0, 0, 0, 7, 0, 3, 1, 0, 4, 10, 0, 0, 0, 8, 1, 2, 1, 0, 0];
+    assert_eq!(buffer[..21], list);
+    assert_eq!(buffer[21..], [0xEE; 3]);
 }
 
 #[test]
@@ -140,14 +152,18 @@ fn stops_in_their_order() {
         (ran.stop, ran.consumed, ran.written)
     };
     assert_eq!(stop(&[], 0), (Stop::NoByteLeft, 0, 0));
-    assert_eq!(stop(&[4], 0), (Stop::UnknownKind, 0, 0));
+    assert_eq!(stop(&[6], 0), (Stop::UnknownKind, 0, 0));
     assert_eq!(stop(&[16, 0, 1, 0, 1], 9), (Stop::UnknownKind, 0, 0));
     assert_eq!(stop(&[3, 0, 0, 0], 0), (Stop::BodyShort, 0, 0));
+    assert_eq!(stop(&[4, 0, 0, 0, 0, 0, 0, 1, 1], 0), (Stop::BodyShort, 0, 0));
+    assert_eq!(stop(&[5, 0, 0, 0, 0, 0], 0), (Stop::BodyShort, 0, 0));
+    assert_eq!(stop(&[4, 0, 0, 0, 0, 0, 0, 1, 1, 0], 4), (Stop::ReplyFull, 0, 0));
+    assert_eq!(stop(&[5, 0, 0, 0, 0, 0, 1], 4), (Stop::ReplyFull, 0, 0));
     assert_eq!(stop(&[3, 0, 0, 0, 0], 4), (Stop::ReplyFull, 0, 0));
     assert_eq!(stop(&[3, 0, 0, 0, 0, 0, 9], 5), (Stop::End, 6, 2));
     assert_eq!(stop(&[0, 0], 0), (Stop::End, 1, 0));
     assert_eq!(stop(&[3, 0, 0, 0, 0, 3, 0, 0, 0, 0], 5), (Stop::ReplyFull, 5, 2));
-    assert_eq!(Memory::new(2048, None).run(&[0], &mut []), Err(Refusal::NotATable));
+    assert_eq!(Memory::new(6_144, None).run(&[0], &mut []), Err(Refusal::NotATable));
     assert_eq!(Memory::new(0, None).run(&[0], &mut []), Err(Refusal::WordCount));
 }
 
@@ -177,7 +193,7 @@ fn the_example_feed() {
     let feed = bytes(EXAMPLE);
     assert_eq!(feed.len(), 52);
     assert_eq!(program::output(&feed), EXAMPLE_OUTPUT);
-    let ran = table(7).run(&feed, &mut [0; 4096]).unwrap();
+    let ran = table(3).run(&feed, &mut [0; 4096]).unwrap();
     assert_eq!((ran.written, ran.accepted, ran.refused), (34, 4, 1));
 }
 

@@ -5,19 +5,20 @@ use core::fmt;
 
 /// Why a call refused. A refused call has changed nothing that was lent to it.
 ///
-/// Where several apply, the first in this order is given: 1, 3, 4, 5, 2, 7, 8 or 9. There is no 6.
+/// Where several apply, the first in this order is given: 1, 3, 4, 5, 10, 2, 7, 8 or 9. There is no 6.
 #[derive(Clone, Copy, Debug, PartialEq, Eq, Hash)]
 #[repr(u8)]
 pub enum Refusal {
-    /// 1: the number of words is not a multiple of 1,024 from 2,048 to 4,195,328.
+    /// 1: the number of words is not a multiple of 3,072 from 6,144 to 12,585,984.
     WordCount = 1,
     /// 2: the words are not a table. [`lookup`](crate::lookup) does not test that; it gives 2 where a cell on its walk has a
     /// length over 8, no link and a block over 8, or a link to an array that the words do not have, as any link has at the
     /// last of the four levels.
     ///
-    /// From [`copy::need`](crate::copy::need) and [`copy::build`](crate::copy::build): the bytes are not one whole
-    /// written-out list of a table, of any room. From [`copy::lookup`](crate::copy::lookup): the words are fewer than
-    /// 1,024, or its walk meets a best match, the place of a hash table or the mark of an entry that no copy has.
+    /// From [`copy::need`](crate::copy::need) and [`copy::build`](crate::copy::build): the bytes are not one whole list of
+    /// a table, of any room, in records of kind 4 or of kind 1 alone. From [`copy::lookup`](crate::copy::lookup): the words
+    /// are fewer than 1,024, or its walk meets a best match, the place of a hash table or the mark of an entry that no copy
+    /// has.
     NotATable = 2,
     /// 3: the length is over 32.
     LengthOver32 = 3,
@@ -25,17 +26,19 @@ pub enum Refusal {
     StrayBit = 4,
     /// 5: the hop is 0 or over 65,535.
     HopOutOfRange = 5,
-    /// 7: the prefix is not held.
+    /// 7: the feed has no candidate for the prefix.
     NotHeld = 7,
-    /// 8: the prefix is not held, and the list with the route added needs more arrays than the words have.
+    /// 8: the prefix has no candidate, and the list with it needs more arrays than the words have.
     NoRoom = 8,
     /// 9: the buffer is too short for the written list; from [`copy::build`](crate::copy::build): the words are fewer
     /// than the copy needs.
     BufferShort = 9,
+    /// 10: the feed is not 1 to 4.
+    FeedOutOfRange = 10,
 }
 
 impl Refusal {
-    const ALL: [Refusal; 8] = [
+    const ALL: [Refusal; 9] = [
         Refusal::WordCount,
         Refusal::NotATable,
         Refusal::LengthOver32,
@@ -44,9 +47,10 @@ impl Refusal {
         Refusal::NotHeld,
         Refusal::NoRoom,
         Refusal::BufferShort,
+        Refusal::FeedOutOfRange,
     ];
 
-    /// The number, from 1 to 9, that replies and the calls of C give.
+    /// The number, from 1 to 10, that replies and the calls of C give.
     pub fn number(self) -> u8 {
         self as u8
     }
@@ -67,14 +71,15 @@ impl Refusal {
 impl fmt::Display for Refusal {
     fn fmt(&self, f: &mut fmt::Formatter<'_>) -> fmt::Result {
         let reason = match self {
-            Refusal::WordCount => "the number of words is not a multiple of 1,024 from 2,048 to 4,195,328",
+            Refusal::WordCount => "the number of words is not a multiple of 3,072 from 6,144 to 12,585,984",
             Refusal::NotATable => "the words are not a table or not a copy, or the bytes not a list",
             Refusal::LengthOver32 => "the length is over 32",
             Refusal::StrayBit => "a bit after the length is set",
             Refusal::HopOutOfRange => "the hop is 0 or over 65,535",
-            Refusal::NotHeld => "the prefix is not held",
-            Refusal::NoRoom => "the table has no room for the route",
+            Refusal::NotHeld => "the feed has no candidate for the prefix",
+            Refusal::NoRoom => "the table has no room for the prefix",
             Refusal::BufferShort => "the buffer is too short for the written list, or the words for the copy",
+            Refusal::FeedOutOfRange => "the feed is not 1 to 4",
         };
         write!(f, "refused {}: {reason}", self.number())
     }
@@ -85,9 +90,9 @@ impl Error for Refusal {}
 /// What [`check`](crate::check) counts.
 #[derive(Clone, Copy, Debug, PartialEq, Eq, Hash)]
 pub struct Counts {
-    /// Routes held.
+    /// Candidates held.
     pub routes: u32,
-    /// Arrays that they need, the first one included.
+    /// Arrays that their prefixes need, the first one included.
     pub arrays: u32,
 }
 
@@ -113,10 +118,10 @@ pub struct Match {
 /// What an accepted update reports.
 #[derive(Clone, Copy, Debug, PartialEq, Eq, Hash)]
 pub struct Update {
-    /// The hop announced, or the one that the withdrawn route had.
+    /// The hop announced, or the one that the withdrawn candidate had, whichever wins.
     pub hop: u32,
-    /// The cells of the route's array that it covers and no longer route of that array does, from 0 to 256; 0 where an
-    /// announcement finds its prefix held with the same hop.
+    /// The cells of the prefix's array that it covers and no longer prefix of that array does, from 0 to 256; 0 where the
+    /// prefix has the same winning hop as before.
     pub cells: u32,
 }
 
@@ -128,7 +133,7 @@ pub enum Stop {
     End = 0,
     /// 1: no byte was left.
     NoByteLeft = 1,
-    /// 2: the next record's kind is not 0 to 3.
+    /// 2: the next record's kind is not 0 to 5.
     UnknownKind = 2,
     /// 3: the next record's body is short.
     BodyShort = 3,
@@ -154,7 +159,7 @@ impl fmt::Display for Stop {
         let reason = match self {
             Stop::End => "end",
             Stop::NoByteLeft => "no byte left",
-            Stop::UnknownKind => "the next record's kind is not 0 to 3",
+            Stop::UnknownKind => "the next record's kind is not 0 to 5",
             Stop::BodyShort => "the next record's body is short",
             Stop::ReplyFull => "fewer than 5 reply bytes are free",
         };

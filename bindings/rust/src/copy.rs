@@ -1,16 +1,16 @@
 //! A read-only copy of a route list, for a line card that only looks up.
 //!
-//! A copy is built from the bytes of a list that [`write_out`](crate::write_out) wrote, in words of its own. They are
-//! no table: their number is at least what [`need`] tells, and what stands in words past these does not matter. A copy
+//! A copy is built from the bytes of a list that [`write_out`](crate::write_out) wrote, in words of its own, and holds the
+//! winners of its candidates. The words are no table: their number is at least what [`need`] tells, and what stands in words past these does not matter. A copy
 //! answers every address as the table does that the list came from, but tells no block.
 //!
 //! ```
-//! use toggleash::{copy, words_for, ListCopy, Match, Table};
+//! use toggleash::{copy, words_for, Candidate, ListCopy, Match, Table};
 //!
 //! # fn main() -> Result<(), Box<dyn std::error::Error>> {
 //! let mut table = Table::new(vec![0; words_for(7).unwrap()])?;
-//! table.announce("10.0.0.0/8".parse()?, 1)?;
-//! table.announce("10.1.4.0/22".parse()?, 2)?;
+//! table.announce("10.0.0.0/8".parse()?, Candidate::via(1))?;
+//! table.announce("10.1.4.0/22".parse()?, Candidate::via(2))?;
 //!
 //! let mut buffer = [0; toggleash::written_bytes(2)];
 //! let list = table.write_out(&mut buffer)?;
@@ -31,7 +31,7 @@ use crate::{accepted, count, ffi, matched, Match, Refusal};
 /// What [`build`] counts.
 #[derive(Clone, Copy, Debug, PartialEq, Eq, Hash)]
 pub struct Built {
-    /// Routes of the list, the default route included.
+    /// Routes of the list, one for each prefix, the default route included.
     pub routes: usize,
     /// Distinct entries beside the routes, which lead a search to longer ones.
     pub markers: usize,
@@ -43,27 +43,30 @@ pub struct Built {
 /// use toggleash::{copy, Refusal};
 ///
 /// assert_eq!(copy::need(&[0]), Ok(1_024));
+/// assert_eq!(copy::need(&[4, 10, 1, 2, 0, 24, 0, 1, 1, 0, 0]), Ok(8 * 2 + 1_024));
+/// assert_eq!(copy::need(&[4, 10, 1, 2, 0, 24, 0, 1, 1, 0]), Err(Refusal::NotATable));
+///
+/// // The same route in a record of kind 1.
 /// assert_eq!(copy::need(&[1, 10, 1, 2, 0, 24, 0, 1, 0]), Ok(8 * 2 + 1_024));
-/// assert_eq!(copy::need(&[1, 10, 1, 2, 0, 24, 0, 1]), Err(Refusal::NotATable));
 /// ```
 ///
 /// # Errors
 /// [`Refusal::NotATable`] exactly where the bytes, all of them, are not what [`write_out`](crate::write_out) writes for
-/// some table.
+/// some table. A list of kind 1 records, one for each prefix, is taken too; one of both kinds is not.
 pub fn need(bytes: &[u8]) -> Result<usize, Refusal> {
     let needed = unsafe { ffi::toggleash_copy_need(bytes.as_ptr(), bytes.len()) };
     accepted(needed.refusal)?;
     Ok(count(needed.words))
 }
 
-/// Makes the words a copy of a written-out list, whatever they hold. Words past those needed stay.
+/// Makes the words a copy of a written-out list's winners, whatever they hold. Words past those needed stay.
 ///
 /// ```
 /// use toggleash::copy::{build, Built};
 /// use toggleash::Refusal;
 ///
 /// // 10.1.2.0/24, which a marker at 10.1.0.0/16 leads to.
-/// let list = [1, 10, 1, 2, 0, 24, 0, 1, 0];
+/// let list = [4, 10, 1, 2, 0, 24, 0, 1, 1, 0, 0];
 /// let mut words = [7; 1_050];
 /// assert_eq!(build(&list, &mut words[..1_039]), Err(Refusal::BufferShort));
 /// assert_eq!(words, [7; 1_050]);

@@ -6,7 +6,7 @@ use crate::{Prefix, Refusal, Stop};
 
 /// A record of a feed.
 ///
-/// Any address, length and hop can be sent; those that no route has are replied to by a [`Refusal`].
+/// Any address, length, hop and feed can be sent; those that no candidate has are replied to by a [`Refusal`].
 ///
 /// ```
 /// use toggleash::{Prefix, Record, Stop};
@@ -21,16 +21,16 @@ use crate::{Prefix, Refusal, Stop};
 pub enum Record {
     /// Kind 0: the end.
     End,
-    /// Kind 1: add a route, or give a held prefix this hop.
+    /// Kind 1: what kind 4 is for feed 1 with preference 0.
     Announce {
         /// The prefix's address.
         address: Ipv4Addr,
         /// The prefix's length.
         length: u8,
-        /// The route's hop.
+        /// The candidate's hop.
         hop: u16,
     },
-    /// Kind 2: remove a route.
+    /// Kind 2: what kind 5 is for feed 1.
     Withdraw {
         /// The prefix's address.
         address: Ipv4Addr,
@@ -42,33 +42,75 @@ pub enum Record {
         /// The address.
         address: Ipv4Addr,
     },
+    /// Kind 4: give a feed this candidate for a prefix, in place of the one that it had.
+    AnnounceFor {
+        /// The prefix's address.
+        address: Ipv4Addr,
+        /// The prefix's length.
+        length: u8,
+        /// The candidate's hop.
+        hop: u16,
+        /// The feed's number.
+        feed: u8,
+        /// The candidate's preference.
+        preference: u8,
+    },
+    /// Kind 5: remove a feed's candidate for a prefix.
+    WithdrawFor {
+        /// The prefix's address.
+        address: Ipv4Addr,
+        /// The prefix's length.
+        length: u8,
+        /// The feed's number.
+        feed: u8,
+    },
 }
 
 impl Record {
     /// The bytes of the longest record.
-    pub const MOST: usize = 8;
+    pub const MOST: usize = 10;
 
-    /// An announcement of a route.
+    /// An announcement by feed 1 with preference 0, of kind 1.
     pub fn announce(prefix: Prefix, hop: u16) -> Record {
         Record::Announce { address: prefix.address(), length: prefix.length(), hop }
     }
 
-    /// A withdrawal of a route.
+    /// A withdrawal by feed 1, of kind 2.
     pub fn withdraw(prefix: Prefix) -> Record {
         Record::Withdraw { address: prefix.address(), length: prefix.length() }
     }
 
+    /// An announcement by a feed, of kind 4.
+    pub fn announce_for(prefix: Prefix, hop: u16, feed: u8, preference: u8) -> Record {
+        Record::AnnounceFor { address: prefix.address(), length: prefix.length(), hop, feed, preference }
+    }
+
+    /// A withdrawal by a feed, of kind 5.
+    pub fn withdraw_for(prefix: Prefix, feed: u8) -> Record {
+        Record::WithdrawFor { address: prefix.address(), length: prefix.length(), feed }
+    }
+
     /// The record's bytes: its kind and its body, the high byte of a number first.
     pub fn bytes(self) -> impl ExactSizeIterator<Item = u8> + Clone {
-        let body = |kind, address: Ipv4Addr, length, hop: u16| {
-            let ([a, b, c, d], [high, low]) = (address.octets(), hop.to_be_bytes());
-            [kind, a, b, c, d, length, high, low]
-        };
         match self {
-            Record::End => front([0; 8], 1),
-            Record::Announce { address, length, hop } => front(body(1, address, length, hop), 8),
-            Record::Withdraw { address, length } => front(body(2, address, length, 0), 6),
-            Record::Lookup { address } => front(body(3, address, 0, 0), 5),
+            Record::End => record(0, []),
+            Record::Announce { address, length, hop } => {
+                let ([a, b, c, d], [high, low]) = (address.octets(), hop.to_be_bytes());
+                record(1, [a, b, c, d, length, high, low])
+            }
+            Record::Withdraw { address, length } => {
+                let [a, b, c, d] = address.octets();
+                record(2, [a, b, c, d, length])
+            }
+            Record::Lookup { address } => record(3, address.octets()),
+            Record::AnnounceFor { address, length, hop, feed, preference } => {
+                let ([a, b, c, d], [high, low]) = (address.octets(), hop.to_be_bytes());
+                record(4, [a, b, c, d, length, high, low, feed, preference])
+            }
+            Record::WithdrawFor { address, length, feed } => {
+                let [a, b, c, d] = address.octets();
+                record(5, [a, b, c, d, length, feed])
+            }
         }
     }
 
@@ -92,6 +134,13 @@ impl Record {
             3 => take(rest)
                 .map_err(short)
                 .map(|(address, rest): ([u8; 4], _)| (Record::Lookup { address: address.into() }, rest)),
+            4 => take(rest).map_err(short).map(|([a, b, c, d, length, high, low, feed, preference], rest)| {
+                let (address, hop) = (Ipv4Addr::new(a, b, c, d), u16::from_be_bytes([high, low]));
+                (Record::AnnounceFor { address, length, hop, feed, preference }, rest)
+            }),
+            5 => take(rest).map_err(short).map(|([a, b, c, d, length, feed], rest)| {
+                (Record::WithdrawFor { address: Ipv4Addr::new(a, b, c, d), length, feed }, rest)
+            }),
             _ => Err(Stop::UnknownKind),
         }
     }
@@ -159,10 +208,10 @@ impl Iterator for Records<'_> {
 pub enum Reply {
     /// Kind 16: an update was accepted.
     Done {
-        /// The hop announced, or the one that the withdrawn route had.
+        /// The hop announced, or the one that the withdrawn candidate had, whichever wins.
         hop: u16,
-        /// The cells of the route's array that it covers and no longer route of that array does; 0 where an
-        /// announcement finds its prefix held with the same hop.
+        /// The cells of the prefix's array that it covers and no longer prefix of that array does; 0 where the prefix has
+        /// the same winning hop as before.
         cells: u16,
     },
     /// Kind 17: a route matches.
@@ -256,6 +305,14 @@ impl Iterator for Replies<'_> {
         self.rest = rest;
         Some(reply)
     }
+}
+
+/// A record's kind and body, of N bytes.
+fn record<const N: usize>(kind: u8, body: [u8; N]) -> core::iter::Take<core::array::IntoIter<u8, { Record::MOST }>> {
+    let mut bytes = [0; Record::MOST];
+    bytes[0] = kind;
+    bytes[1..=N].copy_from_slice(&body);
+    front(bytes, 1 + N)
 }
 
 fn front<const N: usize>(bytes: [u8; N], count: usize) -> core::iter::Take<core::array::IntoIter<u8, N>> {

@@ -72,15 +72,23 @@ pub struct Built {
 
 /// Kept in each program, so that an archive of another version does not link.
 #[used]
-static VERSION: unsafe extern "C" fn() -> u32 = toggleash_version_2;
+static VERSION: unsafe extern "C" fn() -> u32 = toggleash_version_3;
 
 extern "C" {
-    pub fn toggleash_version_2() -> u32;
+    pub fn toggleash_version_3() -> u32;
     pub fn toggleash_clear(words: *mut u32, n: usize) -> u32;
     pub fn toggleash_check(words: *const u32, n: usize) -> Counts;
     pub fn toggleash_lookup(words: *const u32, n: usize, address: u32) -> Answer;
-    pub fn toggleash_announce(words: *mut u32, n: usize, address: u32, length: u32, hop: u32) -> Update;
-    pub fn toggleash_withdraw(words: *mut u32, n: usize, address: u32, length: u32) -> Update;
+    pub fn toggleash_announce(
+        words: *mut u32,
+        n: usize,
+        address: u32,
+        length: u32,
+        hop: u32,
+        feed: u32,
+        preference: u8,
+    ) -> Update;
+    pub fn toggleash_withdraw(words: *mut u32, n: usize, address: u32, length: u32, feed: u32) -> Update;
     pub fn toggleash_write_out(words: *const u32, n: usize, buffer: *mut u8, room: usize) -> Written;
     pub fn toggleash_run(
         words: *mut u32,

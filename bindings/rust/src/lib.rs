@@ -1,16 +1,16 @@
 //! Safe calls to Toggleash, a proved IPv4 route table in 32-bit words that the caller lends. `no_std`, no dependencies.
 //!
 //! The words are the whole state, in the machine's byte order. A table of A arrays, A from 1 to 4,096, takes
-//! 1,024 × (A + 1) of them: [`words_for`] tells. Each call checks the words and its other input for itself, and answers
+//! 3,072 × (A + 1) of them: [`words_for`] tells. Each call checks the words and its other input for itself, and answers
 //! or gives a [`Refusal`]; a refused call has changed nothing.
 //!
 //! ```
-//! use toggleash::{words_for, Lookup, Match, Table};
+//! use toggleash::{words_for, Candidate, Lookup, Match, Table};
 //!
 //! # fn main() -> Result<(), Box<dyn std::error::Error>> {
 //! let mut table = Table::new(vec![0; words_for(7).unwrap()])?;
-//! table.announce("10.0.0.0/8".parse()?, 1)?;
-//! table.announce("10.1.4.0/22".parse()?, 2)?;
+//! table.announce("10.0.0.0/8".parse()?, Candidate::via(1))?;
+//! table.announce("10.1.4.0/22".parse()?, Candidate::via(2))?;
 //! let found = Some(Match { hop: 2, length: 22 });
 //! assert_eq!(table.lookup([10, 1, 5, 9].into())?, Lookup { found, block: 22 });
 //!
@@ -22,8 +22,8 @@
 //! # }
 //! ```
 //!
-//! [`Table`] keeps words that are a table, [`ListCopy`] those of a read-only copy of its routes for a line card that only
-//! looks up. [`Record`] and [`Reply`] are the records of a feed and the replies to it. The calls that take slices of words,
+//! A prefix holds a [`Candidate`] for each of up to four feeds, of which one wins. [`Table`] keeps words that are a table,
+//! [`ListCopy`] those of a read-only copy of its winners for a line card that only looks up. [`Record`] and [`Reply`] are the records of a feed and the replies to it. The calls that take slices of words,
 //! here and in [`copy`], are the same ones without these types: any words can be handed to them.
 //!
 //! The archive libtoggleash.a is looked for where `./build` of the repository writes it, or in the folder that the
@@ -35,6 +35,7 @@
 use core::net::Ipv4Addr;
 
 mod answers;
+mod candidate;
 pub mod copy;
 mod feed;
 pub mod ffi;
@@ -42,6 +43,7 @@ mod prefix;
 mod table;
 
 pub use answers::{Counts, Lookup, Match, Ran, Refusal, Stop, Update};
+pub use candidate::Candidate;
 pub use copy::ListCopy;
 pub use feed::{records, replies, Record, Records, Replies, Reply};
 pub use prefix::{Prefix, PrefixError};
@@ -53,22 +55,22 @@ pub const MOST_ARRAYS: usize = 4_096;
 /// The number of words in a table of so many arrays; none unless they are 1 to 4,096.
 ///
 /// ```
-/// assert_eq!(toggleash::words_for(1), Some(2_048));
-/// assert_eq!(toggleash::words_for(4_096), Some(4_195_328));
+/// assert_eq!(toggleash::words_for(1), Some(6_144));
+/// assert_eq!(toggleash::words_for(4_096), Some(12_585_984));
 /// assert_eq!(toggleash::words_for(0), None);
 /// ```
 pub fn words_for(arrays: usize) -> Option<usize> {
-    (1..=MOST_ARRAYS).contains(&arrays).then(|| 1_024 * (arrays + 1))
+    (1..=MOST_ARRAYS).contains(&arrays).then(|| 3_072 * (arrays + 1))
 }
 
-/// The number of bytes in a written-out list of so many routes.
+/// The number of bytes in a written-out list of so many candidates, the routes of [`Counts`].
 ///
 /// ```
 /// assert_eq!(toggleash::written_bytes(0), 1);
-/// assert_eq!(toggleash::written_bytes(3), 25);
+/// assert_eq!(toggleash::written_bytes(3), 31);
 /// ```
 pub const fn written_bytes(routes: usize) -> usize {
-    8 * routes + 1
+    10 * routes + 1
 }
 
 // SAFETY of all calls below and in `copy`: a slice's pointer is aligned and leads to as many elements as its length
@@ -80,7 +82,7 @@ pub const fn written_bytes(routes: usize) -> usize {
 /// ```
 /// use toggleash::{check, clear, Counts, Refusal};
 ///
-/// let mut words = vec![7; 2_048];
+/// let mut words = vec![7; 6_144];
 /// assert_eq!(check(&words), Err(Refusal::NotATable));
 /// assert_eq!(clear(&mut words), Ok(()));
 /// assert_eq!(check(&words), Ok(Counts { routes: 0, arrays: 1 }));
@@ -93,7 +95,7 @@ pub fn clear(words: &mut [u32]) -> Result<(), Refusal> {
     accepted(unsafe { ffi::toggleash_clear(words.as_mut_ptr(), words.len()) })
 }
 
-/// Tests whether the words are a table, and counts its routes and the arrays that they need.
+/// Tests whether the words are a table, and counts its candidates and the arrays that their prefixes need.
 ///
 /// # Errors
 /// [`Refusal::WordCount`], [`Refusal::NotATable`].
@@ -116,58 +118,64 @@ pub fn lookup(words: &[u32], address: Ipv4Addr) -> Result<Lookup, Refusal> {
     Ok(Lookup { found: matched(answer.found, answer.hop, answer.length), block: answer.block })
 }
 
-/// Adds a route, or gives a held prefix this hop, for which there is always room. Any length and hop may be given; those
-/// that no route has are refused.
+/// Gives a feed this candidate for a prefix, in place of the one that it had. For a prefix that has a candidate, of any feed,
+/// there is always room. Any length, hop and feed may be given; those out of their range are refused.
 ///
 /// ```
 /// use std::net::Ipv4Addr;
-/// use toggleash::{announce, clear, Refusal, Update};
+/// use toggleash::{announce, clear, Candidate, Refusal, Update};
 ///
 /// # fn main() -> Result<(), Refusal> {
-/// let mut words = vec![0; 2_048];
+/// let mut words = vec![0; 6_144];
 /// clear(&mut words)?;
-/// assert_eq!(announce(&mut words, Ipv4Addr::UNSPECIFIED, 0, 9), Ok(Update { hop: 9, cells: 256 }));
-/// assert_eq!(announce(&mut words, Ipv4Addr::UNSPECIFIED, 0, 8), Ok(Update { hop: 8, cells: 256 }));
-/// assert_eq!(announce(&mut words, Ipv4Addr::UNSPECIFIED, 0, 8), Ok(Update { hop: 8, cells: 0 }));
-/// assert_eq!(announce(&mut words, Ipv4Addr::new(10, 0, 0, 0), 9, 9), Err(Refusal::NoRoom));
-/// assert_eq!(announce(&mut words, Ipv4Addr::new(10, 0, 0, 0), 33, 9), Err(Refusal::LengthOver32));
+/// let default = Ipv4Addr::UNSPECIFIED;
+/// assert_eq!(announce(&mut words, default, 0, Candidate::via(9)), Ok(Update { hop: 9, cells: 256 }));
+/// assert_eq!(announce(&mut words, default, 0, Candidate::via(8)), Ok(Update { hop: 8, cells: 256 }));
+/// assert_eq!(announce(&mut words, default, 0, Candidate::via(8)), Ok(Update { hop: 8, cells: 0 }));
+/// let other = Candidate { hop: 7, feed: 4, preference: 1 };
+/// assert_eq!(announce(&mut words, default, 0, other), Ok(Update { hop: 7, cells: 0 }));
+/// assert_eq!(announce(&mut words, default, 0, Candidate { feed: 5, ..other }), Err(Refusal::FeedOutOfRange));
+/// assert_eq!(announce(&mut words, Ipv4Addr::new(10, 0, 0, 0), 9, other), Err(Refusal::NoRoom));
+/// assert_eq!(announce(&mut words, Ipv4Addr::new(10, 0, 0, 0), 33, other), Err(Refusal::LengthOver32));
 /// # Ok(())
 /// # }
 /// ```
 ///
 /// # Errors
-/// In this order [`Refusal::WordCount`], [`Refusal::LengthOver32`], [`Refusal::StrayBit`],
-/// [`Refusal::HopOutOfRange`], [`Refusal::NotATable`], [`Refusal::NoRoom`].
-pub fn announce(words: &mut [u32], address: Ipv4Addr, length: u32, hop: u32) -> Result<Update, Refusal> {
-    updated(unsafe { ffi::toggleash_announce(words.as_mut_ptr(), words.len(), address.into(), length, hop) })
+/// In this order [`Refusal::WordCount`], [`Refusal::LengthOver32`], [`Refusal::StrayBit`], [`Refusal::HopOutOfRange`],
+/// [`Refusal::FeedOutOfRange`], [`Refusal::NotATable`], [`Refusal::NoRoom`].
+pub fn announce(words: &mut [u32], address: Ipv4Addr, length: u32, candidate: Candidate) -> Result<Update, Refusal> {
+    let (words, n) = (words.as_mut_ptr(), words.len());
+    let Candidate { hop, feed, preference } = candidate;
+    updated(unsafe { ffi::toggleash_announce(words, n, address.into(), length, hop, feed, preference) })
 }
 
-/// Removes a route and gives the hop that it had.
+/// Removes a feed's candidate for a prefix and gives the hop that it had.
 ///
 /// # Errors
-/// In this order [`Refusal::WordCount`], [`Refusal::LengthOver32`], [`Refusal::StrayBit`], [`Refusal::NotATable`],
-/// [`Refusal::NotHeld`].
-pub fn withdraw(words: &mut [u32], address: Ipv4Addr, length: u32) -> Result<Update, Refusal> {
-    updated(unsafe { ffi::toggleash_withdraw(words.as_mut_ptr(), words.len(), address.into(), length) })
+/// In this order [`Refusal::WordCount`], [`Refusal::LengthOver32`], [`Refusal::StrayBit`], [`Refusal::FeedOutOfRange`],
+/// [`Refusal::NotATable`], [`Refusal::NotHeld`].
+pub fn withdraw(words: &mut [u32], address: Ipv4Addr, length: u32, feed: u32) -> Result<Update, Refusal> {
+    updated(unsafe { ffi::toggleash_withdraw(words.as_mut_ptr(), words.len(), address.into(), length, feed) })
 }
 
-/// Writes the routes as a feed of announcements and an end, and gives the part of the buffer that it filled: 8 bytes
-/// for each route and 1. The rest of the buffer stays.
+/// Writes the candidates as a feed of announcements, of kind 4, and an end, and gives the part of the buffer that it filled:
+/// 10 bytes for each candidate and 1. The rest of the buffer stays.
 ///
 /// ```
 /// use std::net::Ipv4Addr;
-/// use toggleash::{announce, clear, run, write_out, Refusal};
+/// use toggleash::{announce, clear, run, write_out, Candidate, Refusal};
 ///
 /// # fn main() -> Result<(), Refusal> {
-/// let mut words = vec![0; 2_048];
+/// let mut words = vec![0; 6_144];
 /// clear(&mut words)?;
-/// announce(&mut words, Ipv4Addr::new(10, 0, 0, 0), 8, 258)?;
+/// announce(&mut words, Ipv4Addr::new(10, 0, 0, 0), 8, Candidate { hop: 258, feed: 3, preference: 7 })?;
 /// let mut buffer = [0; 100];
 /// let list = write_out(&words, &mut buffer)?;
-/// assert_eq!(list, [1, 10, 0, 0, 0, 8, 1, 2, 0]);
+/// assert_eq!(list, [4, 10, 0, 0, 0, 8, 1, 2, 3, 7, 0]);
 ///
-/// // The list is a feed that fills another table with the same routes.
-/// let mut copy = vec![0; 2_048];
+/// // The list is a feed that fills another table with the same candidates.
+/// let mut copy = vec![0; 6_144];
 /// clear(&mut copy)?;
 /// run(&mut copy, list, &mut [0; 5])?;
 /// # Ok(())
@@ -189,7 +197,7 @@ pub fn write_out<'a>(words: &[u32], buffer: &'a mut [u8]) -> Result<&'a mut [u8]
 /// use toggleash::{clear, run, Refusal, Stop};
 ///
 /// # fn main() -> Result<(), Refusal> {
-/// let mut words = vec![0; 2_048];
+/// let mut words = vec![0; 6_144];
 /// clear(&mut words)?;
 /// let feed = [1, 10, 0, 0, 0, 8, 0, 1, 3, 10, 1, 5, 9, 0];
 /// let mut reply = [0; 64];

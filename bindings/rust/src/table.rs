@@ -3,7 +3,8 @@
 use core::fmt;
 use core::net::Ipv4Addr;
 
-use crate::{announce, check, clear, lookup, run, withdraw, write_out, Counts, Lookup, Prefix, Ran, Refusal, Update};
+use crate::{announce, check, clear, lookup, run, withdraw, write_out};
+use crate::{Candidate, Counts, Lookup, Prefix, Ran, Refusal, Update};
 
 /// Words that are a table.
 ///
@@ -24,16 +25,16 @@ use crate::{announce, check, clear, lookup, run, withdraw, write_out, Counts, Lo
 /// Many updates go faster as one [`run`](Table::run).
 ///
 /// ```
-/// use toggleash::{words_for, Match, Table};
+/// use toggleash::{words_for, Candidate, Match, Table};
 ///
 /// # fn main() -> Result<(), Box<dyn std::error::Error>> {
 /// let mut table = Table::new(vec![0; words_for(7).unwrap()])?;
-/// table.announce("10.0.0.0/8".parse()?, 1)?;
-/// table.announce("10.1.4.0/22".parse()?, 2)?;
+/// table.announce("10.0.0.0/8".parse()?, Candidate::via(1))?;
+/// table.announce("10.1.4.0/22".parse()?, Candidate::via(2))?;
 /// assert_eq!(table.lookup([10, 1, 5, 9].into())?.found, Some(Match { hop: 2, length: 22 }));
 ///
 /// // Withdraw one box and its addresses belong to the next box out.
-/// table.withdraw("10.1.4.0/22".parse()?)?;
+/// table.withdraw("10.1.4.0/22".parse()?, 1)?;
 /// assert_eq!(table.lookup([10, 1, 5, 9].into())?.found, Some(Match { hop: 1, length: 8 }));
 /// # Ok(())
 /// # }
@@ -63,7 +64,7 @@ impl<W: AsRef<[u32]>> Table<W> {
         self.words
     }
 
-    /// Counts its routes and the arrays that they need, having tested the words.
+    /// Counts its candidates and the arrays that their prefixes need, having tested the words.
     ///
     /// # Errors
     /// [`Refusal::NotATable`] where something else has changed the words.
@@ -79,10 +80,10 @@ impl<W: AsRef<[u32]>> Table<W> {
         lookup(self.words(), address)
     }
 
-    /// Writes the routes as a feed of announcements and an end, and gives the part of the buffer that it filled.
+    /// Writes the candidates as a feed of announcements and an end, and gives the part of the buffer that it filled.
     ///
     /// # Errors
-    /// [`Refusal::BufferShort`] for a buffer of fewer bytes than [`written_bytes`](crate::written_bytes) of its routes.
+    /// [`Refusal::BufferShort`] for a buffer of fewer bytes than [`written_bytes`](crate::written_bytes) of its candidates.
     pub fn write_out<'a>(&self, buffer: &'a mut [u8]) -> Result<&'a mut [u8], Refusal> {
         write_out(self.words(), buffer)
     }
@@ -98,20 +99,21 @@ impl<W: AsRef<[u32]> + AsMut<[u32]>> Table<W> {
         Ok(Table { words })
     }
 
-    /// Adds a route, or gives a held prefix this hop, for which there is always room.
+    /// Gives a feed this candidate for a prefix, in place of the one that it had. For a prefix that has a candidate, of any
+    /// feed, there is always room.
     ///
     /// # Errors
-    /// [`Refusal::HopOutOfRange`], [`Refusal::NoRoom`].
-    pub fn announce(&mut self, prefix: Prefix, hop: u32) -> Result<Update, Refusal> {
-        announce(self.words.as_mut(), prefix.address(), prefix.length().into(), hop)
+    /// [`Refusal::HopOutOfRange`], [`Refusal::FeedOutOfRange`], [`Refusal::NoRoom`].
+    pub fn announce(&mut self, prefix: Prefix, candidate: Candidate) -> Result<Update, Refusal> {
+        announce(self.words.as_mut(), prefix.address(), prefix.length().into(), candidate)
     }
 
-    /// Removes a route and gives the hop that it had.
+    /// Removes a feed's candidate for a prefix and gives the hop that it had.
     ///
     /// # Errors
-    /// [`Refusal::NotHeld`].
-    pub fn withdraw(&mut self, prefix: Prefix) -> Result<Update, Refusal> {
-        withdraw(self.words.as_mut(), prefix.address(), prefix.length().into())
+    /// [`Refusal::FeedOutOfRange`], [`Refusal::NotHeld`].
+    pub fn withdraw(&mut self, prefix: Prefix, feed: u32) -> Result<Update, Refusal> {
+        withdraw(self.words.as_mut(), prefix.address(), prefix.length().into(), feed)
     }
 
     /// Takes the records of a feed in order and writes a reply to each but the end, see [`run`]. The table is tested once.

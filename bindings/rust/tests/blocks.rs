@@ -2,12 +2,12 @@
 
 use std::net::Ipv4Addr;
 
-use toggleash::{lookup, replies, words_for, Lookup, Match, Record, Refusal, Reply, Stop, Table};
+use toggleash::{lookup, replies, words_for, Candidate, Lookup, Match, Record, Refusal, Reply, Stop, Table};
 
 fn table(routes: &[(&str, u32)]) -> Table<Vec<u32>> {
     let mut table = Table::new(vec![0; words_for(7).unwrap()]).unwrap();
     for (prefix, hop) in routes {
-        table.announce(prefix.parse().unwrap(), *hop).unwrap();
+        table.announce(prefix.parse().unwrap(), Candidate::via(*hop)).unwrap();
     }
     table
 }
@@ -67,7 +67,7 @@ fn the_last_bits() {
     ];
     let mut table = table(&[("10.0.0.0/32", 1)]);
     looked_up(&mut table, &expected);
-    table.announce("0.0.0.0/0".parse().unwrap(), 2).unwrap();
+    table.announce("0.0.0.0/0".parse().unwrap(), Candidate::via(2)).unwrap();
     looked_up(&mut table, &[([10, 0, 0, 1], found(2, 0, 32)), ([255, 0, 0, 0], found(2, 0, 1))]);
 }
 
@@ -94,7 +94,7 @@ fn cells_that_no_table_has() {
     let leads = |length: u32, hop: u32, array: u32| (length + 1) << 28 | hop << 12 | (array - 1);
     let mut words = vec![0; words_for(3).unwrap()];
     let mut with = |cell: u32| {
-        words[1_024 + 512] = cell;
+        words[3_072 + 2_048] = cell;
         lookup(&words, Ipv4Addr::UNSPECIFIED)
     };
     assert_eq!(with(0), none(0));

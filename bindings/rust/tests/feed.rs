@@ -9,9 +9,13 @@ fn bytes(hex: &str) -> Vec<u8> {
     (0..digits.len()).step_by(2).map(|at| u8::from_str_radix(&digits[at..at + 2], 16).unwrap()).collect()
 }
 
-/// The section's rows of record, reply and line.
-fn rows() -> Vec<[&'static str; 3]> {
-    let section = PAGE.split("## A worked feed").nth(1).unwrap().split("## ").next().unwrap();
+/// A section of the page, by its title.
+fn section(title: &str) -> &'static str {
+    PAGE.split(&format!("## {title}\n")).nth(1).unwrap().split("\n## ").next().unwrap()
+}
+
+/// A section's rows of record, reply and line.
+fn rows(section: &'static str) -> Vec<[&'static str; 3]> {
     let row = |line: &'static str| -> [&str; 3] {
         let fields: Vec<_> = line.trim_matches('|').split('|').map(str::trim).collect();
         fields.try_into().unwrap()
@@ -19,10 +23,20 @@ fn rows() -> Vec<[&'static str; 3]> {
     section.lines().filter(|line| line.starts_with("| `")).map(row).collect()
 }
 
+/// The list that a section shows at its end.
+fn list(section: &str) -> Vec<u8> {
+    let left = section.split("table gives\n").nth(1).unwrap();
+    bytes(&left.lines().skip(1).take_while(|line| line.starts_with("    ")).collect::<String>())
+}
+
 fn line(record: Record, reply: Reply) -> String {
     let sent = match record {
-        Record::Announce { address, length, .. } => format!("announce {address}/{length}"),
-        Record::Withdraw { address, length } => format!("withdraw {address}/{length}"),
+        Record::Announce { address, length, .. } | Record::AnnounceFor { address, length, .. } => {
+            format!("announce {address}/{length}")
+        }
+        Record::Withdraw { address, length } | Record::WithdrawFor { address, length, .. } => {
+            format!("withdraw {address}/{length}")
+        }
         Record::Lookup { address } => format!("lookup {address}"),
         Record::End => unreachable!("an end has no reply"),
     };
@@ -34,30 +48,40 @@ fn line(record: Record, reply: Reply) -> String {
     }
 }
 
-#[test]
-fn the_worked_feed() {
-    let rows = rows();
+/// Runs a section's feed on a cleared table of 3 arrays: replies, counts, lines and the list that is left. Gives the feed
+/// and the lines.
+fn worked(section: &'static str, accepted: usize, refused: usize) -> (Vec<u8>, Vec<String>) {
+    let rows = rows(section);
     let feed: Vec<u8> = rows.iter().flat_map(|row| bytes(row[0])).collect();
     let expected: Vec<u8> = rows.iter().flat_map(|row| bytes(row[1])).collect();
-    assert_eq!(feed, include_bytes!("../../../crates/router/stdin"));
-    assert_eq!((feed.len(), expected.len()), (52, 34));
+    let (consumed, written) = (feed.len(), expected.len());
+    assert!(section.contains(&format!("These are {consumed} feed bytes and {written} reply bytes: stop 0,")));
 
-    let mut table = Table::new(vec![0; words_for(7).unwrap()]).unwrap();
+    let mut table = Table::new(vec![0; words_for(3).unwrap()]).unwrap();
     let mut reply = [0xEE; 64];
     let ran = table.run(&feed, &mut reply).unwrap();
-    assert_eq!(ran, Ran { stop: Stop::End, consumed: 52, written: 34, accepted: 4, refused: 1 });
-    assert_eq!(reply[..34], expected);
-    assert_eq!(reply[34..], [0xEE; 30]);
+    assert_eq!(ran, Ran { stop: Stop::End, consumed, written, accepted, refused });
+    assert_eq!(reply[..written], expected);
+    assert!(reply[written..].iter().all(|&byte| byte == 0xEE));
 
     let lines: Vec<_> = records(&feed).zip(replies(&expected)).map(|(record, reply)| line(record, reply)).collect();
     let shown: Vec<_> = rows.iter().map(|row| row[2].trim_matches('`')).filter(|line| !line.is_empty()).collect();
     assert_eq!(lines, shown);
-    assert!(include_str!("../../../crates/router/stdout").starts_with(&lines.join("\n")));
-
-    let left = PAGE.split("table gives\n").nth(1).unwrap();
-    let left: String = left.lines().skip(1).take_while(|line| line.starts_with("    ")).collect();
     let mut buffer = [0; written_bytes(2)];
-    assert_eq!(table.write_out(&mut buffer).unwrap(), bytes(&left));
+    assert_eq!(table.write_out(&mut buffer).unwrap(), list(section));
+    (feed, lines)
+}
+
+#[test]
+fn the_worked_feed() {
+    let (feed, lines) = worked(section("A worked feed"), 4, 1);
+    assert_eq!(feed, include_bytes!("../../../crates/router/stdin"));
+    assert!(include_str!("../../../crates/router/stdout").starts_with(&lines.join("\n")));
+}
+
+#[test]
+fn the_worked_feed_of_several_sides() {
+    worked(section("A worked feed of several sides"), 5, 2);
 }
 
 #[test]
@@ -69,6 +93,9 @@ fn every_record_is_read_as_it_was_written() {
         Record::Announce { address, length: 0, hop: 65_535 },
         Record::Withdraw { address, length: 33 },
         Record::Lookup { address },
+        Record::AnnounceFor { address, length: 33, hop: 0, feed: 255, preference: 7 },
+        Record::AnnounceFor { address, length: 24, hop: 65_535, feed: 4, preference: 255 },
+        Record::WithdrawFor { address, length: 255, feed: 0 },
     ];
     for record in all {
         let bytes: Vec<u8> = record.bytes().chain([9]).collect();
@@ -80,7 +107,7 @@ fn every_record_is_read_as_it_was_written() {
         }
     }
     assert_eq!(Record::decode(&[]), Err(Stop::NoByteLeft));
-    (4..=255).for_each(|kind| assert_eq!(Record::decode(&[kind, 0, 0, 0, 0, 0, 0, 0]), Err(Stop::UnknownKind)));
+    (6..=255).for_each(|kind| assert_eq!(Record::decode(&[kind; 10]), Err(Stop::UnknownKind)));
 }
 
 #[test]
@@ -105,14 +132,14 @@ fn every_reply_is_read_as_it_was_written() {
 fn records_end_as_a_run_does() {
     let route = Record::announce(Prefix::DEFAULT, 1);
     for (tail, stop) in
-        [(&[][..], Stop::NoByteLeft), (&[0, 3], Stop::End), (&[4], Stop::UnknownKind), (&[3, 1], Stop::BodyShort)]
+        [(&[][..], Stop::NoByteLeft), (&[0, 3], Stop::End), (&[6], Stop::UnknownKind), (&[3, 1], Stop::BodyShort)]
     {
         let feed: Vec<u8> = route.bytes().chain(tail.iter().copied()).collect();
         let mut left = records(&feed);
         assert_eq!(left.stop(), None);
         assert!(left.by_ref().eq([route]));
         assert_eq!((left.stop(), left.next()), (Some(stop), None));
-        let mut table = Table::new(vec![0; 2_048]).unwrap();
+        let mut table = Table::new(vec![0; 6_144]).unwrap();
         assert_eq!(table.run(&feed, &mut [0; 9]).unwrap().stop, stop);
         assert_eq!(Stop::from_number(stop.number().into()), Some(stop));
         assert!(stop.to_string().starts_with(&format!("stopped {}: ", stop.number())));

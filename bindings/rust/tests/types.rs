@@ -3,7 +3,8 @@
 use std::net::Ipv4Addr;
 
 use toggleash::{
-    copy, replies, words_for, Counts, ListCopy, Lookup, Match, Prefix, PrefixError, Record, Refusal, Reply, Table,
+    copy, replies, words_for, Candidate, Counts, ListCopy, Lookup, Match, Prefix, PrefixError, Record, Refusal, Reply,
+    Table, Update,
 };
 
 fn prefix(text: &str) -> Prefix {
@@ -52,35 +53,37 @@ fn what_a_prefix_matches() {
 
 #[test]
 fn tables_own_or_borrow_their_words() {
-    let mut words = [0; 2_048];
+    let mut words = [0; 6_144];
     let mut table = Table::new(&mut words[..]).unwrap();
-    table.announce(Prefix::DEFAULT, 7).unwrap();
-    assert_eq!(table.announce(Prefix::DEFAULT, 0), Err(Refusal::HopOutOfRange));
-    assert_eq!(table.announce(prefix("10.0.0.0/9"), 1), Err(Refusal::NoRoom));
-    assert_eq!(table.withdraw(prefix("10.0.0.0/8")), Err(Refusal::NotHeld));
-    assert_eq!(table.write_out(&mut [0; 8]), Err(Refusal::BufferShort));
+    table.announce(Prefix::DEFAULT, Candidate::via(7)).unwrap();
+    assert_eq!(table.announce(Prefix::DEFAULT, Candidate::via(0)), Err(Refusal::HopOutOfRange));
+    assert_eq!(table.announce(prefix("10.0.0.0/9"), Candidate::via(1)), Err(Refusal::NoRoom));
+    assert_eq!(table.withdraw(prefix("10.0.0.0/8"), 1), Err(Refusal::NotHeld));
+    assert_eq!(table.write_out(&mut [0; 10]), Err(Refusal::BufferShort));
 
     let reader = Table::from_words(&words[..]).unwrap();
     let found = Some(Match { hop: 7, length: 0 });
     assert_eq!(reader.lookup(Ipv4Addr::BROADCAST), Ok(Lookup { found, block: 0 }));
     assert_eq!(reader.check().unwrap().routes, 1);
     let mut owner = Table::from_words(words.to_vec()).unwrap();
-    assert_eq!(owner.withdraw(Prefix::DEFAULT).unwrap().hop, 7);
+    assert_eq!(owner.withdraw(Prefix::DEFAULT, 1).unwrap().hop, 7);
     assert_eq!(reader.words(), words);
     assert_ne!(owner.into_words(), words);
-    assert_eq!(format!("{reader:?}"), "Table of 2048 words");
+    assert_eq!(format!("{reader:?}"), "Table of 6144 words");
 
-    assert_eq!(Table::new(vec![0; 2_047]).unwrap_err(), Refusal::WordCount);
-    assert_eq!(Table::from_words(vec![7; 2_048]).unwrap_err(), Refusal::NotATable);
+    assert_eq!(Table::new(vec![0; 6_143]).unwrap_err(), Refusal::WordCount);
+    assert_eq!(Table::from_words(vec![7; 6_144]).unwrap_err(), Refusal::NotATable);
 }
 
 #[test]
 fn copies_of_a_list() {
     let mut table = Table::new(vec![0; words_for(7).unwrap()]).unwrap();
     for (text, hop) in [("0.0.0.0/0", 9), ("10.0.0.0/8", 1), ("10.1.4.0/22", 2)] {
-        table.announce(prefix(text), hop).unwrap();
+        table.announce(prefix(text), Candidate::via(hop)).unwrap();
     }
-    let mut buffer = [0; toggleash::written_bytes(3)];
+    // A loser, which the list has and the copy has not.
+    table.announce(prefix("10.0.0.0/8"), Candidate { hop: 3, feed: 2, preference: 1 }).unwrap();
+    let mut buffer = [0; toggleash::written_bytes(4)];
     let list = table.write_out(&mut buffer).unwrap();
     let need = copy::need(list).unwrap();
     let card = ListCopy::build(list, vec![0; need]).unwrap();
@@ -90,8 +93,36 @@ fn copies_of_a_list() {
     let sent = ListCopy::from_words(card.words());
     assert_eq!(sent.lookup([10, 1, 5, 9].into()), Ok(Some(Match { hop: 2, length: 22 })));
     assert_eq!(ListCopy::build(list, vec![0; need - 1]).unwrap_err(), Refusal::BufferShort);
-    assert_eq!(ListCopy::build(&list[..8], vec![0; need]).unwrap_err(), Refusal::NotATable);
+    assert_eq!(ListCopy::build(&list[..10], vec![0; need]).unwrap_err(), Refusal::NotATable);
     assert_eq!(ListCopy::from_words([0; 3]).lookup([1; 4].into()), Err(Refusal::NotATable));
+}
+
+/// The lowest preference wins, then the lowest feed; cells are told where the winning hop changes.
+#[test]
+fn candidates_of_a_prefix() {
+    let mut table = Table::new(vec![0; words_for(3).unwrap()]).unwrap();
+    let net = prefix("10.1.4.0/22");
+    let update = |hop, cells| Ok(Update { hop, cells });
+    let winner = |table: &Table<Vec<u32>>| table.lookup([10, 1, 5, 9].into()).unwrap().found.map(|found| found.hop);
+    for (candidate, cells, wins) in [
+        (Candidate { hop: 5, feed: 4, preference: 10 }, 4, 5),
+        (Candidate { hop: 6, feed: 1, preference: 255 }, 0, 5),
+        (Candidate { hop: 7, feed: 2, preference: 10 }, 4, 7),
+        (Candidate { hop: 8, feed: 3, preference: 10 }, 0, 7),
+        (Candidate { hop: 7, feed: 1, preference: 0 }, 0, 7),
+        (Candidate { hop: 7, feed: 2, preference: 11 }, 0, 7),
+    ] {
+        assert_eq!(table.announce(net, candidate), update(candidate.hop, cells), "{candidate:?}");
+        assert_eq!(winner(&table), Some(wins), "{candidate:?}");
+    }
+    assert_eq!(table.check(), Ok(Counts { routes: 4, arrays: 3 }));
+    // There is room for a prefix that has a candidate, and for no other array.
+    assert_eq!(table.announce(prefix("11.0.0.0/9"), Candidate::via(1)), Err(Refusal::NoRoom));
+    for (feed, hop, cells, wins) in [(1, 7, 4, Some(8)), (4, 5, 0, Some(8)), (3, 8, 4, Some(7)), (2, 7, 4, None)] {
+        assert_eq!(table.withdraw(net, feed), update(hop, cells), "{feed}");
+        assert_eq!(winner(&table), wins, "{feed}");
+    }
+    assert_eq!(table.check(), Ok(Counts { routes: 0, arrays: 1 }));
 }
 
 /// What README says of 1,919 routes anywhere, and of 3,839 that are no longer than 24 bits.

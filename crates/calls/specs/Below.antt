@@ -11,11 +11,11 @@ use mathlib.Core.List.{List, _++_}
 use Prim.Native.Nat.{ℕ}
 use native.Mathlib.Omega.{arith}
 use lib.ListN.{length, drop}
-use Rattle.routes.specs.Answers.{Update, Reply, done, found, none, refused}
-use Rattle.routes.specs.Answers.{answer, isRefused}
-use Rattle.routes.specs.Runs.{Ran as Outcome}
+use Rattle.routes.specs.Answers.{Reply, done, found, none, refused, isRefused}
 use Rattle.routes.specs.Seen.{Answer, gives, refuses, Counts}
-use Rattle.routes.specs.Seen.{answerOn, lookupOn, clearOn, checkOn, countOn, frontOn, runOn}
+use Rattle.candidates.specs.Answers.{Update}
+use Rattle.candidates.specs.Runs.{Ran as Outcome}
+use Rattle.candidates.specs.Seen.{answerOn, lookupOn, clearOn, checkOn, countOn, frontOn, runOn}
 use Rattle.words.specs.Table.{seen}
 use Rattle.audit.specs.Answer as audit
 use Rattle.audit.specs.declared.Cleared.{Cleared}

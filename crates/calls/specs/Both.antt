@@ -10,14 +10,15 @@ use mathlib.Core.List.{List, []}
 use Prim.Native.Nat.{ℕ, _+_, _*_, _≤_}
 use lib.ListN.{length}
 use borrow.Author.Tests.{le-ltb}
-use Rattle.routes.specs.Route.{Route}
 use Rattle.routes.specs.Room.{need}
-use Rattle.routes.specs.Match.{longest}
-use Rattle.routes.specs.Block.{block}
-use Rattle.routes.specs.Answers.{Update, records, Reply, matched}
-use Rattle.routes.specs.Bytes.{written, AllFit}
-use Rattle.routes.specs.Runs.{Ran as Outcome, run}
-use Rattle.routes.specs.Seen.{table, gives, lookupOn, checkOn, frontOn}
+use Rattle.routes.specs.Answers.{Reply}
+use Rattle.routes.specs.Seen.{gives}
+use Rattle.candidates.specs.Candidate.{Candidate}
+use Rattle.candidates.specs.Winners.{winners}
+use Rattle.candidates.specs.Answers.{Update, plains, lookedUp, records}
+use Rattle.candidates.specs.Bytes.{Sent as SentRecord, meanings, AllFit, written}
+use Rattle.candidates.specs.Runs.{Ran as Outcome, run}
+use Rattle.candidates.specs.Seen.{table, lookupOn, checkOn, frontOn}
 use Rattle.laws.specs.Given.{given-one}
 use Rattle.words.specs.Table.{seen}
 use Rattle.audit.specs.Answer.{checkAnswer}
@@ -29,9 +30,9 @@ use Rattle.feed.specs.Runs.{HasRun, reportOf}
 use Rattle.feed.specs.declared.Report.{Report}
 use Rattle.feed.specs.declared.Ran.{Ran}
 use Rattle.feed.specs.declared.Ran.the-variants.{Stopped}
-use Rattle.order.specs.Feeds.{Weave, flip, heard, plains, kept, keptBoth, Union, Meets, Closes, bytes, readBack}
-use Rattle.order.specs.Enough.{enough}
-use Rattle.order.specs.Joined.{demand-3-ipv4}
+use Rattle.weaves.specs.Feeds.{Weave, flip, heard, kept, keptBoth, Union, Meets, Closes, bytes, readBack}
+use Rattle.weaves.specs.Enough.{enough}
+use Rattle.weaves.specs.Joined.{demand-3-ipv4}
 use Rattle.calls.specs.Three.{Call, promise, Called, demand-3-called}
 use Rattle.calls.specs.Held.{stopped}
 use Rattle.feed.specs.Series.{Series, all-answered}
@@ -39,42 +40,44 @@ use Rattle.feed.specs.Series.{Series, all-answered}
 -- ---- words that stand for a list
 
 -- lookup answers by it, the check counts it, and writing out gives it
-pub record Holds (A : ℕ) (rs : List Route) (ws : List ℕ) : Type 0 where
-  pub list : seen 4 ws ≡ table A rs
+pub record Holds (A : ℕ) (cs : List Candidate) (ws : List ℕ) : Type 0 where
+  pub list : seen 4 ws ≡ table A cs
   pub lookups : (a : ℕ) (r : code.Reply) → saidReply r ≡ lookupOn 32 (seen 4 ws) (walk 4 ws a) a
-      → saidReply r ≡ matched (longest 32 a rs) (block 32 rs a)
+      → saidReply r ≡ lookedUp 32 cs a
   pub checks : (r : Checked) → checkAnswer r ≡ checkOn 32 (seen 4 ws)
-      → checkAnswer r ≡ gives (record { routes = length rs; arrays = need 32 rs })
-  pub fronts : (b front : List ℕ) → 8 * length rs + 1 ≤ length b → front ≡ frontOn (seen 4 ws) (length b) → front ≡ written rs
+      → checkAnswer r ≡ gives (record { routes = length cs; arrays = need 32 (winners cs) })
+  pub fronts : (b front : List ℕ) → 10 * length cs + 1 ≤ length b → front ≡ frontOn (seen 4 ws) (length b) → front ≡ written cs
 
-holds : (A : ℕ) (rs : List Route) (ws : List ℕ) → seen 4 ws ≡ table A rs → Holds A rs ws
-holds A rs ws e =
+holds : (A : ℕ) (cs : List Candidate) (ws : List ℕ) → seen 4 ws ≡ table A cs → Holds A cs ws
+holds A cs ws e =
     record {
       list = e;
       lookups = λ a r p. rw e at p;
       checks = λ r p. rw e at p;
-      fronts = λ b x h p. p ∙ rw (e, le-ltb (length b) (8 * length rs + 1) h);
+      fronts = λ b x h p. p ∙ rw (e, le-ltb (length b) (10 * length cs + 1) h);
     }
 
 -- ---- by the run
 
--- a run of the bytes of us on cleared words, as its contract allows, which did not stop for want of reply room
+-- a run of records that mean us, as bytes, on cleared words, as its contract allows, which did not stop for want of reply room
 pub record Run (A : ℕ) (us : List Update) : Type 0 where
   pub words : List ℕ
   pub cleared : seen 4 words ≡ table A []
-  pub fits : AllFit (records us)
+  pub sent : List SentRecord
+  pub meant : meanings sent ≡ records us
+  pub fits : AllFit sent
   pub rest : List ℕ
   pub closes : Closes rest
   pub reply : List ℕ
   pub words′ : List ℕ
   pub reply′ : List ℕ
   pub report : Report
-  pub runs : HasRun words (bytes us rest) reply words′ reply′ (Stopped report)
+  pub runs : HasRun words (bytes sent rest) reply words′ reply′ (Stopped report)
   pub enough : report .stop ≢ 4
 
 module _ {A : ℕ} {us : List Update} (c : Run A us) where
   abbrev outcome : Outcome
-  outcome = run A [] (bytes us (c .rest)) (length (c .reply))
+  outcome = run A [] (bytes (c .sent) (c .rest)) (length (c .reply))
 
   -- the report is that of the run's definition
   pub reported : c .report ≡ reportOf outcome
@@ -83,12 +86,14 @@ module _ {A : ℕ} {us : List Update} (c : Run A us) where
   abbrev pub call : Call A us
   call = record {
     words = c .words;
+    sent = c .sent;
     rest = c .rest;
     reply = c .reply;
     words′ = c .words′;
     reply′ = c .reply′;
     ran = outcome;
     cleared = c .cleared;
+    meant = c .meant;
     fits = c .fits;
     closes = c .closes;
     runs = promise (c .cleared) (c .runs .list) (c .runs .replies);
@@ -100,22 +105,24 @@ module _ {A : ℕ} {us : List Update} (c : Run A us) where
   replies = readBack us (c .reply′)
 
 -- any run of them with five reply bytes for each record is one
-abbrev pub roomy : {A : ℕ} {us : List Update} (ws rest b vs c : List ℕ) (r : Ran) → seen 4 ws ≡ table A []
-    → AllFit (records us) → Closes rest → 5 * length (records us) ≤ length b
-    → HasRun ws (bytes us rest) b vs c r → Run A us
-roomy {A} {us} ws rest b vs c r t f e h p =
+abbrev pub roomy : {A : ℕ} {us : List Update} (ss : List SentRecord) (ws rest b vs c : List ℕ) (r : Ran) → seen 4 ws ≡ table A []
+    → meanings ss ≡ records us → AllFit ss → Closes rest → 5 * length ss ≤ length b
+    → HasRun ws (bytes ss rest) b vs c r → Run A us
+roomy {A} ss ws rest b vs c r t m f e h p =
     record {
       words = ws;
       cleared = t;
+      sent = ss;
+      meant = m;
       fits = f;
       rest = rest;
       closes = e;
       reply = b;
       words′ = vs;
       reply′ = c;
-      report = reportOf (run A [] (bytes us rest) (length b));
-      runs = rw (stopped r (reportOf (run A [] (bytes us rest) (length b))) (rw t at (p .answer))) at p;
-      enough = enough A [] (records us) f rest e (length b) h;
+      report = reportOf (run A [] (bytes ss rest) (length b));
+      runs = rw (stopped r (reportOf (run A [] (bytes ss rest) (length b))) (rw t at (p .answer))) at p;
+      enough = enough A [] ss f rest e (length b) h;
     }
 
 -- the three runs: each answer, the counts, and the words that the joint one leaves

@@ -14,10 +14,14 @@ use borrow.Author.Tests.{le-ltb}
 use Rattle.routes.specs.Route.{Route}
 use Rattle.routes.specs.Match.{Match, none, found, longest}
 use Rattle.routes.specs.Answers as answers
-use Rattle.routes.specs.Bytes.{written}
-use Rattle.routes.specs.Seen.{Seen, misfit, foreign, table, gives, refuses, lookupOn, checkOn}
+use Rattle.routes.specs.Seen.{gives, refuses}
+use Rattle.candidates.specs.Candidate.{Candidate}
+use Rattle.candidates.specs.Winners.{winners}
+use Rattle.candidates.specs.Bytes.{written}
+use Rattle.candidates.specs.Seen.{Seen, misfit, foreign, table, lookupOn}
 use Rattle.logic.specs.Cases.{less}
-use Rattle.laws.specs.Round.{written-long}
+use Rattle.rivals.specs.Won.{winners-list}
+use Rattle.encoded.specs.Round.{written-long}
 use Rattle.words.specs.Table.{seen}
 use Rattle.words.specs.View.{no-misfit-fits}
 use Rattle.lookup.specs.Walk.{walk}
@@ -28,9 +32,8 @@ use Rattle.listing.specs.Written.{written-listed}
 use Rattle.lengths.specs.Layout as layout
 use Rattle.lengths.specs.Laid.{Laid, laid-walk, laid-front}
 use Rattle.lengths_build.specs.Build.{Leaves}
-use Rattle.toggleash.specs.Face.{HasWritten, counted, looked, wrote}
+use Rattle.toggleash.specs.Face.{HasWritten, looked, wrote}
 use Rattle.toggleash.specs.Copies.{HasBuilt, needed, matched}
-use Rattle.toggleash.specs.declared.Counted.{Counted}
 use Rattle.toggleash.specs.declared.Found.{Found}
 use Rattle.toggleash.specs.declared.Written.{Written}
 use Rattle.toggleash.specs.declared.copies.Needed.{Needed}
@@ -68,11 +71,11 @@ pub record Carried : Type 0 where
 abbrev pub matchOf : Found → Matched
 matchOf f = record { refusal = f .refusal; found = f .found; hop = f .hop; length = f .length }
 
--- nothing is refused, the routes are as many as the check counts, and the card answers each address as the table
+-- nothing is refused, the routes are the winners, one for each prefix, and the card answers each address as the table
 pub record AsTable (t : Carried) : Type 0 where
   pub needs : t .need .refusal ≡ 0
   pub builds : t .built .refusal ≡ 0
-  pub routes : (c : Counted) → c ≡ counted (checkOn 32 (seen 4 (t .words))) → t .built .routes ≡ c .routes
+  pub routes : (A : ℕ) (cs : List Candidate) → seen 4 (t .words) ≡ table A cs → t .built .routes ≡ length (winners cs)
   pub lookups : (a : ℕ) → a < 4294967296 → (f : Found) (g : Matched)
       → f ≡ looked (lookupOn 32 (seen 4 (t .words)) (walk 4 (t .words) a) a) → g ≡ matched (layout.walk (t .card) a)
       → g ≡ matchOf f
@@ -81,7 +84,7 @@ pub record AsTable (t : Carried) : Type 0 where
 
 record Out (ws bs : List ℕ) : Type 0 where
   arrays : ℕ
-  list : List Route
+  list : List Candidate
   table : seen 4 ws ≡ table arrays list
   bytes : bs ≡ written list
 
@@ -91,21 +94,21 @@ out ws b c r w z = go (seen 4 ws) refl
     number : (n : ℕ) → r ≡ wrote (refuses n) → n ≡ 0
     number n e = sym (ap (λ (x : Written). x .refusal) e) ∙ z
 
-    whole : (rs : List Route) → r ≡ wrote (gives (8 * length rs + 1)) → c ≡ written rs ++ drop (length (written rs)) b
-        → take (r .bytes) c ≡ written rs
-    whole rs e f = rw (e, ← written-long rs, f) (take-append-seam (written rs) _)
+    whole : (cs : List Candidate) → r ≡ wrote (gives (10 * length cs + 1)) → c ≡ written cs ++ drop (length (written cs)) b
+        → take (r .bytes) c ≡ written cs
+    whole cs e f = rw (e, ← written-long cs, f) (take-append-seam (written cs) _)
 
     go : (s : Seen) → seen 4 ws ≡ s → Out ws (take (r .bytes) c)
     go misfit e = absurd (let n : _≡_ {A = ℕ} 1 0 = number 1 (rw e at (w .answer)) in omega arith)
     go foreign e = absurd (let n : _≡_ {A = ℕ} 2 0 = number 2 (rw e at (w .answer)) in omega arith)
-    go (table A rs) e =
-        less (length b) (8 * length rs + 1)
+    go (table A cs) e =
+        less (length b) (10 * length cs + 1)
         (λ h d. absurd (let n : _≡_ {A = ℕ} 9 0 = number 9 (rw (e, d) at (w .answer)) in omega arith))
         (λ h d. record {
           arrays = A;
-          list = rs;
+          list = cs;
           table = e;
-          bytes = whole rs (rw (e, d) at (w .answer)) (rw (e, d) at (w .front));
+          bytes = whole cs (rw (e, d) at (w .answer)) (rw (e, d) at (w .front));
         })
 
 -- ---- so it is built, and answers
@@ -118,18 +121,18 @@ module _ (t : Carried) where
   abbrev o : Out (t .words) (take (t .wrote .bytes) (t .buffer′))
   o = out (t .words) (t .buffer) (t .buffer′) (t .wrote) (t .writes) (t .taken)
 
+  abbrev cs : List Candidate
+  cs = o .list
+
+  -- its winners
   abbrev rs : List Route
-  rs = o .list
+  rs = winners cs
 
   is-listed : listedIn (t .bytes) ≡ listed rs
   is-listed =
-      let h = held (o .arrays) rs (t .words) (o .table) in
+      let h = held (o .arrays) cs (t .words) (o .table) in
       let f = no-misfit-fits (length (t .words)) (h .size) in
-      written-listed (t .bytes) rs (record {
-        list = h .list;
-        room = omega (arith, h .room, h .arrays, f .high);
-        bytes = t .front ∙ o .bytes;
-      })
+      ap listedIn (t .front ∙ o .bytes) ∙ written-listed cs (h .list) (omega (arith, h .room, h .arrays, f .high))
 
   is-needed : t .need ≡ record { refusal = 0; words = wordsFor rs }
   is-needed = t .needs ∙ rw is-listed
@@ -148,16 +151,20 @@ module _ (t : Carried) where
       let l : Leaves rs (t .lent) (t .copy) = rw is-listed at (t .builds .left) in
       laid-front rs (t .copy) (t .card) (rw (← count) (t .long)) (λ i h. t .sent i (rw count h)) (l .laid room)
 
+  -- no other list is seen
+  one : (A : ℕ) (ds : List Candidate) → seen 4 (t .words) ≡ table A ds → cs ≡ ds
+  one A ds e = let q : table (o .arrays) cs ≡ table A ds = sym (o .table) ∙ e in cc
+
   pub as-table : AsTable t
   as-table =
-      let h = held (o .arrays) rs (t .words) (o .table) in
+      let h = held (o .arrays) cs (t .words) (o .table) in
       record {
         needs = ap (λ (x : Needed). x .refusal) is-needed;
         builds = ap (λ (x : Built). x .refusal) is-built;
-        routes = λ c p. ap (λ (x : Built). x .routes) is-built ∙ sym (ap (λ (x : Counted). x .routes) (rw (o .table) at p));
+        routes = λ A ds e. ap (λ (x : Built). x .routes) is-built ∙ ap (λ (x : List Candidate). length (winners x)) (one A ds e);
         lookups = λ a k f g p q.
             q
-            ∙ ap matched (laid-walk rs (t .card) (h .list) is-laid a k)
+            ∙ ap matched (laid-walk rs (t .card) (winners-list 32 cs (h .list)) is-laid a k)
             ∙ without-block (longest 32 a rs) _
             ∙ sym (ap matchOf (rw (o .table) at p));
       }

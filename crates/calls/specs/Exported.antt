@@ -13,8 +13,9 @@ use lib.ListN.{length}
 use borrow.Author.Tests.{ne-eqb}
 use Rattle.logic.specs.Cases.{bool}
 use Rattle.sizes.specs.Sizes.{arrayWords}
-use Rattle.routes.specs.Answers.{Update, Record, update, lookup, Reply, done, found, none, refused}
-use Rattle.routes.specs.Seen.{table, misfits, lookupOn}
+use Rattle.routes.specs.Answers.{Reply, done, found, none, refused}
+use Rattle.candidates.specs.Answers.{Update, Record, update, lookup}
+use Rattle.candidates.specs.Seen.{table, misfits, lookupOn}
 use Rattle.laws.specs.Given.{refused-one, given-refused}
 use Rattle.words.specs.Table.{seen}
 use Rattle.audit.specs.Answer as audit
@@ -92,7 +93,7 @@ clear-done {A} {words} c = let b = clear-below (c .lent) words 0 (c .clears) in 
         (λ d. absurd (let z : n ≡ 1 = refused-one (rw d at (p .answer)) in omega arith))
         (λ d. absurd (given-refused (sym (rw d at (p .answer)))))
 
--- words that were cleared are a table of no routes
+-- words that were cleared are a table that holds nothing
 pub cleared : {A : ℕ} {words : List ℕ} → Cleared A words → seen 4 words ≡ table A []
 cleared {A} {words} c = cleared-done A (c .lent) words (c .size) (clear-done c)
 

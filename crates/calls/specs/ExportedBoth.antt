@@ -10,21 +10,21 @@ use mathlib.Core.List.{List, []}
 use Prim.Native.Nat.{ℕ, _+_, _*_, _≤_}
 use lib.ListN.{length, take}
 use borrow.Author.Tests.{le-ltb}
-use Rattle.routes.specs.Route.{Route}
 use Rattle.routes.specs.Room.{need}
-use Rattle.routes.specs.Match.{longest}
-use Rattle.routes.specs.Block.{block}
-use Rattle.routes.specs.Answers.{Update, records, Reply, matched}
-use Rattle.routes.specs.Bytes.{written, AllFit}
-use Rattle.routes.specs.Runs.{run}
-use Rattle.routes.specs.Seen.{table, lookupOn, checkOn}
+use Rattle.routes.specs.Answers.{Reply}
+use Rattle.candidates.specs.Candidate.{Candidate}
+use Rattle.candidates.specs.Winners.{winners}
+use Rattle.candidates.specs.Answers.{Update, plains, lookedUp, records}
+use Rattle.candidates.specs.Bytes.{Sent as SentRecord, meanings, AllFit, written}
+use Rattle.candidates.specs.Runs.{run}
+use Rattle.candidates.specs.Seen.{table, lookupOn, checkOn}
 use Rattle.words.specs.Table.{seen}
 use Rattle.lookup.specs.Walk.{walk}
 use Rattle.feed.specs.Runs.{HasRun as Made, runAnswer, reportOf}
 use Rattle.feed.specs.declared.Report.{Report}
 use Rattle.feed.specs.declared.Ran.{Ran}
 use Rattle.feed.specs.declared.Ran.the-variants.{Stopped}
-use Rattle.order.specs.Feeds.{Weave, flip, heard, plains, kept, keptBoth, Union, Meets, Closes, bytes, readBack}
+use Rattle.weaves.specs.Feeds.{Weave, flip, heard, kept, keptBoth, Union, Meets, Closes, bytes, readBack}
 use Rattle.toggleash.specs.Face.{counted, looked, ran, HasWritten, HasRun}
 use Rattle.toggleash.specs.declared.Counted.{Counted}
 use Rattle.toggleash.specs.declared.Found.{Found}
@@ -39,41 +39,43 @@ use Rattle.calls.specs.Exported.{Cleared, Series, cleared, series-below}
 -- ---- words that stand for a list
 
 -- toggleash_lookup answers by it, toggleash_check counts it, and toggleash_write_out gives it
-pub record Holds (A : ℕ) (rs : List Route) (ws : List ℕ) : Type 0 where
-  pub list : seen 4 ws ≡ table A rs
+pub record Holds (A : ℕ) (cs : List Candidate) (ws : List ℕ) : Type 0 where
+  pub list : seen 4 ws ≡ table A cs
   pub lookups : (a : ℕ) (r : Found) → r ≡ looked (lookupOn 32 (seen 4 ws) (walk 4 ws a) a)
-      → r ≡ looked (matched (longest 32 a rs) (block 32 rs a))
+      → r ≡ looked (lookedUp 32 cs a)
   pub checks : (r : Counted) → r ≡ counted (checkOn 32 (seen 4 ws))
-      → r ≡ record { refusal = 0; routes = length rs; arrays = need 32 rs }
-  pub fronts : (b c : List ℕ) (r : Written) → 8 * length rs + 1 ≤ length b → HasWritten ws b c r → take (r .bytes) c ≡ written rs
-  pub writes : (b c : List ℕ) (r : Written) → 8 * length rs + 1 ≤ length b → HasWritten ws b c r
-      → r ≡ record { refusal = 0; bytes = 8 * length rs + 1 }
+      → r ≡ record { refusal = 0; routes = length cs; arrays = need 32 (winners cs) }
+  pub fronts : (b c : List ℕ) (r : Written) → 10 * length cs + 1 ≤ length b → HasWritten ws b c r → take (r .bytes) c ≡ written cs
+  pub writes : (b c : List ℕ) (r : Written) → 10 * length cs + 1 ≤ length b → HasWritten ws b c r
+      → r ≡ record { refusal = 0; bytes = 10 * length cs + 1 }
 
-holds : {A : ℕ} {rs : List Route} {ws : List ℕ} → rattle.Holds A rs ws → Holds A rs ws
-holds {A} {rs} {ws} h =
+holds : {A : ℕ} {cs : List Candidate} {ws : List ℕ} → rattle.Holds A cs ws → Holds A cs ws
+holds {A} {cs} {ws} h =
     record {
       list = h .list;
       lookups = λ a r p. (let b = lookup-below ws a r p in b .told ∙ ap looked (h .lookups a (b .answer) (b .promise)));
       checks = λ r p. (let b = check-below ws r p in b .told ∙ ap counted (h .checks (b .answer) (b .promise)));
       fronts = λ b c r l p.
           h .fronts b (take (r .bytes) c) l (filled-front (seen 4 ws) b (r .bytes) c (write-below ws b c r p .promise .1));
-      writes = λ b c r l p. p .answer ∙ rw (h .list, le-ltb (length b) (8 * length rs + 1) l);
+      writes = λ b c r l p. p .answer ∙ rw (h .list, le-ltb (length b) (10 * length cs + 1) l);
     }
 
 -- ---- by toggleash_run
 
--- a run of the bytes of us on cleared words, as its contract allows, which did not stop for want of reply room
+-- a run of records that mean us, as bytes, on cleared words, as its contract allows, which did not stop for want of reply room
 pub record Run (A : ℕ) (us : List Update) : Type 0 where
   pub words : List ℕ
   pub cleared : Cleared A words
-  pub fits : AllFit (records us)
+  pub sent : List SentRecord
+  pub meant : meanings sent ≡ records us
+  pub fits : AllFit sent
   pub rest : List ℕ
   pub closes : Closes rest
   pub reply : List ℕ
   pub words′ : List ℕ
   pub reply′ : List ℕ
   pub ran : Fields
-  pub runs : HasRun words (bytes us rest) reply words′ reply′ ran
+  pub runs : HasRun words (bytes sent rest) reply words′ reply′ ran
   pub enough : ran .stop ≢ 4
 
 -- the replies, one for each update, read back from the reply bytes
@@ -82,11 +84,12 @@ replies {us = us} c = readBack us (c .reply′)
 
 module _ {A : ℕ} {us : List Update} (c : Run A us) where
   abbrev report : Report
-  report = reportOf (run A [] (bytes us (c .rest)) (length (c .reply)))
+  report = reportOf (run A [] (bytes (c .sent) (c .rest)) (length (c .reply)))
 
   -- an answer of the run below, which is not refused either
-  abbrev b : Below (λ t. ran (runAnswer t)) (Made (c .words) (bytes us (c .rest)) (c .reply) (c .words′) (c .reply′)) (c .ran)
-  b = run-below (c .words) (bytes us (c .rest)) (c .reply) (c .words′) (c .reply′) (c .ran) (c .runs)
+  abbrev b : Below (λ t. ran (runAnswer t))
+      (Made (c .words) (bytes (c .sent) (c .rest)) (c .reply) (c .words′) (c .reply′)) (c .ran)
+  b = run-below (c .words) (bytes (c .sent) (c .rest)) (c .reply) (c .words′) (c .reply′) (c .ran) (c .runs)
 
   is-stopped : b .answer ≡ Stopped report
   is-stopped = stopped (b .answer) report (rw (cleared (c .cleared)) at (b .promise .answer))
@@ -102,6 +105,8 @@ module _ {A : ℕ} {us : List Update} (c : Run A us) where
   under = record {
     words = c .words;
     cleared = cleared (c .cleared);
+    sent = c .sent;
+    meant = c .meant;
     fits = c .fits;
     rest = c .rest;
     closes = c .closes;
@@ -161,8 +166,8 @@ pub record SentBoth {A : ℕ} {xs ys zs : List Update} (w : Weave xs ys zs)
   pub left : Holds A (keptBoth 32 A xs ys) (j .words′)
 
 -- the calls below
-abbrev sent : {A : ℕ} {us : List Update} → Sent A us → rattle.Sent A us
-sent c =
+abbrev calls : {A : ℕ} {us : List Update} → Sent A us → rattle.Sent A us
+calls c =
     record {
       words = c .words;
       cleared = cleared (c .cleared);
@@ -174,7 +179,7 @@ sent c =
 pub demand-3-sent-exported : {A : ℕ} {xs ys zs : List Update} (w : Weave xs ys zs) → Meets 32 A xs ys
     → (j : Sent A zs) (f : Sent A xs) (s : Sent A ys) → SentBoth w j f s
 demand-3-sent-exported w m j f s =
-    let b = rattle.demand-3-sent w m (sent j) (sent f) (sent s) in
+    let b = rattle.demand-3-sent w m (calls j) (calls f) (calls s) in
     record {
       first = b .first;
       second = b .second;

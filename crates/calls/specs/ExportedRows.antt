@@ -7,9 +7,10 @@ use mathlib.Core.Path.{_≡_, ap, _∙_}
 use mathlib.Core.List.{List, [], _∷_}
 use Prim.Native.Nat.{ℕ}
 use lib.ListN.{length}
-use Rattle.routes.specs.Answers.{Reply, records}
-use Rattle.routes.specs.Seen.{checkOn}
-use Rattle.routes.specs.Small.{Case, listAfter, small, further}
+use Rattle.routes.specs.Answers.{Reply}
+use Rattle.candidates.specs.Answers.{records}
+use Rattle.candidates.specs.Seen.{checkOn}
+use Rattle.candidates.specs.Small.{Case, listAfter, small, further}
 use Rattle.words.specs.Table.{seen}
 use Rattle.toggleash.specs.Face.{counted}
 use Rattle.toggleash.specs.declared.Counted.{Counted}

@@ -5,8 +5,10 @@ use mathlib.Core.List.{List}
 use Prim.Native.Nat.{ℕ}
 use lib.ListN.{length}
 use Rattle.routes.specs.Route.{Route}
-use Rattle.routes.specs.Answers.{Update, Reply, refused}
-use Rattle.routes.specs.Seen.{Answer, refuses, answerOn, lookupOn, clearOn, checkOn, runOn}
+use Rattle.routes.specs.Answers.{Reply, refused}
+use Rattle.routes.specs.Seen.{Answer, refuses}
+use Rattle.candidates.specs.Answers.{Update}
+use Rattle.candidates.specs.Seen.{answerOn, lookupOn, clearOn, checkOn, runOn}
 use Rattle.words.specs.Table.{seen}
 use Rattle.lookup.specs.Walk.{walk}
 use Rattle.lengths.specs.Marks.{wordsFor}

@@ -1,7 +1,8 @@
--- A table with routes on all four levels exists. Assumes nothing.
+-- A table with candidates on all four levels, two of them of one prefix, exists. Assumes nothing.
 --
 --     header │ array 1 ──cell 10──► array 2 ──cell 1──► array 3 ──cell 1──► array 4
 --              10.0.0.0/8           10.1.0.0/16         10.1.1.0/24         10.1.1.1/32
+--              feed 1               feed 2              feed 3              feeds 1 and 4
 use mathlib.Core.Path.{_≡_, refl, sym, ap, ap₂, _∙_}
 use mathlib.Core.Logic.{_⊎_, _≢_, inl, inr, ⊎-elim}
 use mathlib.Core.List.{List, [], _∷_}
@@ -11,13 +12,17 @@ use native.Mathlib.Omega.{arith}
 use lib.ListN.{length, getD, set, length-set}
 use lib.Seq.{getD-set-same, getD-set-other, ext-getD}
 use lib.Pow.{shr-shr, shr-lt}
-use Rattle.sizes.specs.Sizes.{arrayWords, slotEnd, cellCount, cellSlots, arrayAt, wordAt, cellAt, hopBound}
-use Rattle.routes.specs.Route.{Route, route, insert}
-use Rattle.routes.specs.Seen.{table}
+use Rattle.sizes.specs.Sizes.{arrayWords, slotAt, slotEnd, cellCount, cellsAt, cellSlots, arrayAt, wordAt, cellAt, hopBound}
 use Rattle.routes.specs.Small.{ip}
 use Rattle.logic.specs.Cases.{same}
-use Rattle.routes.specs.Collect.{routes, routeOf}
+use Rattle.candidates.specs.Keyed.{put}
+use Rattle.candidates.specs.Candidate.{Candidate, candidate, key}
+use Rattle.candidates.specs.Seen.{table}
 use Rattle.calm.specs.Calm.{Settled}
+use Rattle.slots.specs.Word.{IsFeed, feed-1, feed-2, feed-3, feed-4, wordOf, hopIn, right-of}
+use Rattle.slots.specs.Winner.{wonHop, winner-same, won-small}
+use Rattle.slots.specs.Slot.{RightSlot, withWord, with-same, with-right, won-free}
+use Rattle.slots.specs.Slot.{with-other as word-other}
 use Rattle.array.specs.Tag.{tagOf, levelIn}
 use Rattle.array.specs.Cell.{bestIn, linkIn, link-blank}
 use Rattle.array.specs.With.{withBest, best-set, link-kept}
@@ -31,16 +36,19 @@ use Rattle.settle.specs.Exists.{resettled, resettled-right, relinked, relinked-
 use Rattle.tree.specs.Arrays.{Arrays, lev, node}
 use Rattle.tree.specs.Tree.{node-level}
 use Rattle.tree.specs.Need.{node-child}
-use Rattle.words.specs.Words.{arraysOf, arrayCount, slotsOf, bestsOf, blocksOf}
+use Rattle.gather.specs.Views.{feedView, wordHeld, view-shape}
+use Rattle.gather.specs.Hung.{gathered-same}
+use Rattle.gather.specs.WordSet.{TreeWordSet, tree-put}
+use Rattle.words.specs.Words.{feedsOf, arraysOf, arrayCount, wordsOf, slotsOf, bestsOf, blocksOf}
 use Rattle.words.specs.TableBut.{TableBut}
 use Rattle.words.specs.Lent.{lent-best, lent-link, settled-page}
 use Rattle.words.specs.Gained.{groupAt, retagged, Ends, Gained}
 use Rattle.words.specs.Rehung.{rehangs}
 use Rattle.tree.specs.HungBelow.{HungBelow, node-cases, hang-held}
-use Rattle.words.specs.Gain.{Gain, gain-ends, gained-hung-below, gained-table-but}
-use Rattle.tree.specs.SlotSet.{TreeSlotSet, Place, same-node, slot-set-insert}
+use Rattle.words.specs.Gain.{Gain, gain-ends, gained-hung-below, gained-feed, gained-table-but}
+use Rattle.tree.specs.SlotSet.{Place, same-node}
 use Rattle.words.specs.SlotSet.{SlotSet, table-is-but, but-is-table, slot-set-tree, slot-set-table-but}
-use Rattle.words.specs.Clear.{cleared, cleared-word, cleared-length, cleared-table, cleared-routes}
+use Rattle.words.specs.Clear.{cleared, cleared-word, cleared-length, cleared-table, cleared-candidates}
 use Rattle.words.specs.Table.{listOf, seen}
 use Rattle.words.specs.View.{seen-table}
 
@@ -49,22 +57,22 @@ use Rattle.words.specs.View.{seen-table}
 -- the arrays 1 .. k + 1 are the row along the path q of k bytes, and hold nothing yet
 record Row (k q : ℕ) (ws : List ℕ) : Type 0 where
   pub ok : TableBut 4 (k + 1) ws
-  pub size : length ws ≡ 5120
+  pub size : length ws ≡ 15360
   pub leads : (j : ℕ) → j ≤ k → node (arraysOf ws) (q / 2 ^ (8 * (k - j))) j ≡ j + 1
   pub free : (c : ℕ) → k + 1 < c → arraysOf ws .tag c ≡ 0
   pub off : (i : ℕ) → i < cellCount → arraysOf ws .link (k + 1) i ≡ 0
   pub list : listOf 4 ws ≡ []
 
-row-first : Row 0 0 (cleared 5120)
+row-first : Row 0 0 (cleared 15360)
 unfolding node
 row-first = record {
-  ok = table-is-but 4 1 (cleared 5120) (cleared-table 5120 (omega arith) 4 (omega arith) (omega arith) refl (omega arith));
-  size = cleared-length 5120 (omega arith);
+  ok = table-is-but 4 1 (cleared 15360) (cleared-table 15360 (omega arith) 4 (omega arith) (omega arith) refl (omega arith));
+  size = cleared-length 15360 (omega arith);
   leads = λ j h. (let e : j ≡ 0 = omega arith in rw e);
-  free = λ c h. cleared-word 5120 (omega arith) (arrayAt c) (λ e. omega arith) (λ e. omega arith) (λ e. omega arith);
+  free = λ c h. cleared-word 15360 (omega arith) (arrayAt c) (λ e. omega arith) (λ e. omega arith) (λ e. omega arith);
   off = λ i h. link-blank _
-      (cleared-word 5120 (omega arith) (cellAt 1 i) (λ e. omega arith) (λ e. omega arith) (λ e. omega arith));
-  list = cleared-routes 5120 32 (omega arith);
+      (cleared-word 15360 (omega arith) (cellAt 1 i) (λ e. omega arith) (λ e. omega arith) (λ e. omega arith));
+  list = cleared-candidates 15360 32 (omega arith);
 }
 
 -- ws with array a hung below cell i of p
@@ -143,7 +151,11 @@ module _ (k q i : ℕ) (ws : List ℕ) (row : Row k q ws) (more : k < 3) (cell :
     off = λ j h.
         (let e : k + 1 + 1 ≡ k + 2 = omega arith in
         rw e (hang .links (k + 2) j (omega arith) h (inl (λ z. omega arith)) ∙ hang .no-link j h));
-    list = ap (routes 32) (λ x v l. hang-held (arrayCount ws) 4 t u (k + 1) i (k + 2) hang (row .ok .shape) v l x) ∙ row .list;
+    list = gathered-same (wordHeld (feedsOf vs)) (wordHeld (feedsOf ws)) (λ v l f y.
+        hang-held (arrayCount ws) 4 (feedView (feedsOf ws) f) (feedView (feedsOf vs) f) (k + 1) i (k + 2)
+        (gained-feed 4 ws (k + 1) i (k + 2) (row .ok) gain vs now f y)
+        (view-shape (feedsOf ws) (arrayCount ws) 4 f (row .ok .shape)) v l) 32
+        ∙ row .list;
   }
 
 -- ---- the blocks of an array, all written
@@ -155,11 +167,11 @@ module _ (ws : List ℕ) (a : ℕ) (inside : arrayAt (a + 1) ≤ length ws) wher
   abbrev b₁ : List ℕ
   b₁ = resettled (pageOf ws a)
 
-  put : Resettled (pageOf ws a) b₁
-  put = resettled-right (pageOf ws a) (page-length ws a inside)
+  settles : Resettled (pageOf ws a) b₁
+  settles = resettled-right (pageOf ws a) (page-length ws a inside)
 
   whole : length b₁ ≡ arrayWords
-  whole = put .size ∙ page-length ws a inside
+  whole = settles .size ∙ page-length ws a inside
 
   anew-size : length (anew ws a) ≡ length ws
   unfolding anew
@@ -178,11 +190,17 @@ module _ (ws : List ℕ) (a : ℕ) (inside : arrayAt (a + 1) ≤ length ws) wher
       page-word (anew ws a) a r c ∙ with-in ws a b₁ inside whole r c)
 
   again : Resettled (pageOf ws a) (pageOf (anew ws a) a)
-  again = rw page put
+  again = rw page settles
 
   -- the tag and the slots
-  anew-low : (k : ℕ) → k < slotEnd → getD (anew ws a) (wordAt a k) 0 ≡ getD ws (wordAt a k) 0
+  anew-low : (k : ℕ) → k < cellsAt → getD (anew ws a) (wordAt a k) 0 ≡ getD ws (wordAt a k) 0
   anew-low k h = sym (page-word (anew ws a) a k (omega arith)) ∙ again .low k h ∙ page-word ws a k (omega arith)
+
+  anew-word : (s f : ℕ) → s < slotEnd → IsFeed f → wordsOf (anew ws a) a s f ≡ wordsOf ws a s f
+  anew-word s f h y = anew-low (slotAt s + f - 1) (omega (arith, y .high))
+
+  anew-slot : (s : ℕ) → s < slotEnd → slotsOf (anew ws a) a s ≡ slotsOf ws a s
+  anew-slot s h = ap hopIn (winner-same (wordsOf (anew ws a) a s) (wordsOf ws a s) (λ f y. anew-word s f h y))
 
   anew-link : (i : ℕ) → i < cellCount → arraysOf (anew ws a) .link a i ≡ arraysOf ws .link a i
   anew-link i h = sym (lent-link (anew ws a) a i h) ∙ again .same-links i h ∙ lent-link ws a i h
@@ -193,83 +211,129 @@ module _ (ws : List ℕ) (a : ℕ) (inside : arrayAt (a + 1) ≤ length ws) wher
   anew-settled : Settled (slotsOf (anew ws a) a) (arraysOf (anew ws a) .link a) (blocksOf (anew ws a) a)
   anew-settled = settled-page (anew ws a) a (again .settled)
 
--- ---- a route of 8 bits in an array: its slot and its cell, then the blocks
+-- ---- a candidate of 8 bits in an array: its word and the best of its cell, then the blocks
 
--- ws with the hop h for the last 8 bits x in array a, the blocks as they were
-abbrev bested : List ℕ → ℕ → ℕ → ℕ → List ℕ
-bested ws a x h = set (set ws (wordAt a (cellSlots + x)) h) (cellAt a x) (withBest (getD ws (cellAt a x) 0) (8 * hopBound + h))
+-- where the word of feed f for the last 8 bits x stands in array a
+abbrev spot : ℕ → ℕ → ℕ → ℕ
+spot a x f = wordAt a (slotAt (cellSlots + x) + f - 1)
 
-abbrev posted : List ℕ → ℕ → ℕ → ℕ → List ℕ
-posted ws a x h = anew (bested ws a x h) a
+-- the hop that wins there once feed f has the word w
+abbrev wins : List ℕ → ℕ → ℕ → ℕ → ℕ → ℕ
+wins ws a x f w = wonHop (withWord (wordsOf ws a (cellSlots + x)) f w)
 
-module _ (ws : List ℕ) (a x h : ℕ) (inside : arrayAt (a + 1) ≤ length ws) (small : x < cellCount) (hop : h < hopBound)
-    (some : 1 ≤ h) (deep : 1 ≤ levelIn (getD ws (arrayAt a) 0))
+-- ws with that word, the blocks as they were
+abbrev bested : List ℕ → ℕ → ℕ → ℕ → ℕ → List ℕ
+bested ws a x f w =
+    set (set ws (spot a x f) w) (cellAt a x) (withBest (getD ws (cellAt a x) 0) (8 * hopBound + wins ws a x f w))
+
+abbrev posted : List ℕ → ℕ → ℕ → ℕ → ℕ → List ℕ
+posted ws a x f w = anew (bested ws a x f w) a
+
+module _ (ws : List ℕ) (a x f n h : ℕ) (inside : arrayAt (a + 1) ≤ length ws) (small : x < cellCount) (feed : IsFeed f)
+    (low : n ≤ 255) (some : 1 ≤ h) (hop : h < hopBound) (deep : 1 ≤ levelIn (getD ws (arrayAt a) 0))
+    (words : RightSlot (wordsOf ws a (cellSlots + x)))
     (right : Right (levelIn (getD ws (arrayAt a) 0)) (slotsOf ws a) (bestsOf ws a)) where
   abbrev lv : ℕ
   lv = levelIn (getD ws (arrayAt a) 0)
 
+  abbrev w : ℕ
+  w = wordOf n h
+
+  abbrev g : ℕ → ℕ
+  g = withWord (wordsOf ws a (cellSlots + x)) f w
+
   abbrev ms : List ℕ
-  ms = set ws (wordAt a (cellSlots + x)) h
+  ms = set ws (spot a x f) w
 
   abbrev ps : List ℕ
-  ps = bested ws a x h
+  ps = bested ws a x f w
+
+  -- some hop wins
+  won : wonHop g ≢ 0
+  won e =
+      let z : w ≡ 0 =
+      sym (with-same (wordsOf ws a (cellSlots + x)) f w)
+      ∙ won-free g (with-right (wordsOf ws a (cellSlots + x)) f w words (right-of n h low some hop)) e f feed in
+      omega arith
+
+  within : (spot a x f < arrayAt (a + 1)) × (arrayAt a < spot a x f)
+  within = (omega (arith, feed .high), omega (arith, feed .low))
 
   first : (k : ℕ) → k ≢ cellAt a x → getD ps k 0 ≡ getD ms k 0
-  first k n = getD-set-other ms (cellAt a x) k _ 0 n
+  first k m = getD-set-other ms (cellAt a x) k _ 0 m
 
-  second : (k : ℕ) → k ≢ wordAt a (cellSlots + x) → getD ms k 0 ≡ getD ws k 0
-  second k n = getD-set-other ws (wordAt a (cellSlots + x)) k h 0 n
+  second : (k : ℕ) → k ≢ spot a x f → getD ms k 0 ≡ getD ws k 0
+  second k m = getD-set-other ws (spot a x f) k w 0 m
 
-  word : (k : ℕ) → k ≢ cellAt a x → k ≢ wordAt a (cellSlots + x) → getD ps k 0 ≡ getD ws k 0
-  word k m n = first k m ∙ second k n
+  word : (k : ℕ) → k ≢ cellAt a x → k ≢ spot a x f → getD ps k 0 ≡ getD ws k 0
+  word k m o = first k m ∙ second k o
 
-  slot-here : slotsOf ps a (cellSlots + x) ≡ h
-  slot-here = first (wordAt a (cellSlots + x)) (λ e. omega arith) ∙ getD-set-same ws (wordAt a (cellSlots + x)) h 0 (omega arith)
+  -- a slot's word is no cell
+  slot-first : (r j : ℕ) → r < slotEnd → IsFeed j → wordsOf ps a r j ≡ wordsOf ms a r j
+  slot-first r j b y = first (wordAt a (slotAt r + j - 1)) (λ e. omega (arith, y .high))
+
+  word-here : (j : ℕ) → IsFeed j → wordsOf ps a (cellSlots + x) j ≡ g j
+  word-here j y =
+      slot-first (cellSlots + x) j (omega arith) y
+      ∙ same j f
+      (λ e _. rw e (getD-set-same ws (spot a x f) w 0 (omega (arith, within .0))
+      ∙ sym (with-same (wordsOf ws a (cellSlots + x)) f w)))
+      (λ m _. second (wordAt a (slotAt (cellSlots + x) + j - 1)) (λ e. m (omega (arith, feed .low, y .low)))
+      ∙ sym (word-other (wordsOf ws a (cellSlots + x)) f w j m))
+
+  -- of another slot
+  word-same : (r j : ℕ) → r ≢ cellSlots + x → IsFeed j → wordsOf ms a r j ≡ wordsOf ws a r j
+  word-same r j m y =
+      second (wordAt a (slotAt r + j - 1)) (λ e. m (omega (arith, feed .low, feed .high, y .low, y .high)))
+
+  slot-here : slotsOf ps a (cellSlots + x) ≡ wonHop g
+  slot-here = ap hopIn (winner-same (wordsOf ps a (cellSlots + x)) g word-here)
+
+  slot-other : (r : ℕ) → r ≢ cellSlots + x → slotsOf ms a r ≡ slotsOf ws a r
+  slot-other r m = ap hopIn (winner-same (wordsOf ms a r) (wordsOf ws a r) (λ j y. word-same r j m y))
+
+  slot-last : (r : ℕ) → r < slotEnd → slotsOf ps a r ≡ slotsOf ms a r
+  slot-last r b = ap hopIn (winner-same (wordsOf ps a r) (wordsOf ms a r) (λ j y. slot-first r j b y))
 
   slot-same : (r : ℕ) → r < slotEnd → r ≢ cellSlots + x → slotsOf ps a r ≡ slotsOf ws a r
-  slot-same r b n = word (wordAt a r) (λ e. omega arith) (λ e. n (omega arith))
+  slot-same r b m = slot-last r b ∙ slot-other r m
 
-  cell-here : getD ps (cellAt a x) 0 ≡ withBest (getD ws (cellAt a x) 0) (8 * hopBound + h)
+  cell-here : getD ps (cellAt a x) 0 ≡ withBest (getD ws (cellAt a x) 0) (8 * hopBound + wonHop g)
   cell-here = getD-set-same ms (cellAt a x) _ 0 (simp length-set (omega arith))
 
   cell-same : (i : ℕ) → i < cellCount → i ≢ x → getD ps (cellAt a i) 0 ≡ getD ws (cellAt a i) 0
-  cell-same i b n = word (cellAt a i) (λ e. n (omega arith)) (λ e. omega arith)
+  cell-same i b m = word (cellAt a i) (λ e. m (omega arith)) (λ e. omega (arith, feed .high))
 
   tag-same : getD ps (arrayAt a) 0 ≡ getD ws (arrayAt a) 0
-  tag-same = word (arrayAt a) (λ e. omega arith) (λ e. omega arith)
+  tag-same = word (arrayAt a) (λ e. omega arith) (λ e. omega (arith, within .1))
 
   -- a slot of 8 bits stands above its own cell only
   apart : (i : ℕ) → i < cellCount → i ≢ x → (e : ℕ) → (cellSlots + i) / 2 ^ e ≢ cellSlots + x
-  apart i b n zero z = n (omega arith)
-  apart i b n (suc e) z =
-      let d = shr-shr (cellSlots + i) 1 e in let m = div-le-self ((cellSlots + i) / 2) (2 ^ e) in
-      let f : 1 + e ≡ suc e = omega arith in omega (arith, rw f at d)
+  apart i b m zero z = m (omega arith)
+  apart i b m (suc e) z =
+      let d = shr-shr (cellSlots + i) 1 e in let q = div-le-self ((cellSlots + i) / 2) (2 ^ e) in
+      let c : 1 + e ≡ suc e = omega arith in omega (arith, rw c at d)
 
   best-right : (i : ℕ) → i < cellCount → bestsOf ps a i ≡ bestOf (slotsOf ps a) (cellSlots + i) 8
   best-right i b =
       same i x
-      (λ e _. rw (e, best-some (slotsOf ps a) (cellSlots + x) 8 (λ z. omega (arith, slot-here)), slot-here)
-      (ap bestIn cell-here ∙ best-set (getD ws (cellAt a x) 0) (8 * hopBound + h) (omega arith)))
-      (λ n _. ap bestIn (cell-same i b n)
+      (λ e _. rw (e, best-some (slotsOf ps a) (cellSlots + x) 8 (λ z. won (sym slot-here ∙ z)), slot-here)
+      (ap bestIn cell-here ∙ best-set (getD ws (cellAt a x) 0) (8 * hopBound + wonHop g) (omega (arith, won-small g))))
+      (λ m _. ap bestIn (cell-same i b m)
       ∙ right .sound .best i b
-      ∙ sym (best-apart (slotsOf ws a) (slotsOf ms a) (cellSlots + x) (λ r m. second (wordAt a r) (λ e. m (omega arith))) 8
-      (cellSlots + i) (apart i b n))
-      ∙ best-ext (slotsOf ms a) (slotsOf ps a) (λ s l w. sym (first (wordAt a s) (λ e. omega arith))) (cellSlots + i) 8
-      (omega arith) (omega arith))
+      ∙ sym (best-apart (slotsOf ws a) (slotsOf ms a) (cellSlots + x) (λ r o. slot-other r o) 8 (cellSlots + i) (apart i b m))
+      ∙ best-ext (slotsOf ms a) (slotsOf ps a) (λ s l c. sym (slot-last s c)) (cellSlots + i) 8 (omega arith) (omega arith))
 
   link-same : (i : ℕ) → i < cellCount → arraysOf ps .link a i ≡ arraysOf ws .link a i
   link-same i b =
       same i x
-      (λ e _. rw e (ap linkIn cell-here ∙ link-kept (getD ws (cellAt a x) 0) (8 * hopBound + h) (omega arith)))
-      (λ n _. ap linkIn (cell-same i b n))
+      (λ e _. rw e (ap linkIn cell-here
+      ∙ link-kept (getD ws (cellAt a x) 0) (8 * hopBound + wonHop g) (omega (arith, won-small g))))
+      (λ m _. ap linkIn (cell-same i b m))
 
   right-now : Right lv (slotsOf ps a) (bestsOf ps a)
   right-now = record {
-    sound = record {
-      hops = λ s l b. same s (cellSlots + x) (λ e _. rw (e, slot-here) hop)
-          (λ n _. rw (slot-same s b n) (right .sound .hops s l b));
-      best = best-right;
-    };
+    sound = record { hops = λ s l b. won-small (wordsOf ps a s); best = best-right };
     first = λ z. slot-same 1 (omega arith) (λ e. omega arith) ∙ right .first z;
   }
 
@@ -280,37 +344,38 @@ module _ (ws : List ℕ) (a x h : ℕ) (inside : arrayAt (a + 1) ≤ length ws) 
   room : arrayAt (a + 1) ≤ length ps
   room = rw long inside
 
-  tag-kept : getD (posted ws a x h) (arrayAt a) 0 ≡ getD ws (arrayAt a) 0
+  tag-kept : getD (posted ws a x f w) (arrayAt a) 0 ≡ getD ws (arrayAt a) 0
   tag-kept =
       let e : arrayAt a ≡ wordAt a 0 = omega arith in
       ap (λ (k : ℕ). getD (anew ps a) k 0) e ∙ anew-low ps a room 0 (omega arith) ∙ ap (λ (k : ℕ). getD ps k 0) (sym e) ∙ tag-same
 
-  posted-reslot : SlotSet ws (posted ws a x h) a (cellSlots + x) h
+  posted-reslot : SlotSet ws (posted ws a x f w) a (cellSlots + x) f w
   posted-reslot = record {
     size = anew-size ps a room ∙ long;
     outside = λ k o. anew-outside ps a room k o ∙ ⊎-elim
-        (λ (z : k < arrayAt a). word k (λ e. omega arith) (λ e. omega arith))
-        (λ (z : arrayAt (a + 1) ≤ k). word k (λ e. omega arith) (λ e. omega arith)) o;
+        (λ (z : k < arrayAt a). word k (λ e. omega arith) (λ e. omega (arith, within .1)))
+        (λ (z : arrayAt (a + 1) ≤ k). word k (λ e. omega arith) (λ e. omega (arith, within .0))) o;
     tag = tag-kept;
     links = λ i b. anew-link ps a room i b ∙ link-same i b;
-    here = anew-low ps a room (cellSlots + x) (omega arith) ∙ slot-here;
-    slots = λ r l b n. anew-low ps a room r b ∙ slot-same r b n;
+    here = λ j y. anew-word ps a room (cellSlots + x) j (omega arith) y ∙ word-here j y;
+    slots = λ r l b m j y. anew-word ps a room r j b y ∙ slot-first r j b y ∙ word-same r j m y;
     right = rw tag-kept (right-ext lv (slotsOf ps a) (bestsOf ps a) (slotsOf (anew ps a) a) (bestsOf (anew ps a) a)
-        (λ s l b. anew-low ps a room s b) (λ i b. anew-best ps a room i b) right-now);
+        (λ s l b. anew-slot ps a room s b) (λ i b. anew-best ps a room i b) right-now);
     settled = anew-settled ps a room;
   }
 
--- ---- a route in each array of the row 10.1.1
+-- ---- candidates in each array of the row 10.1.1
 
--- the row of all four arrays stands for the list rs; array e may be empty
-record Posts (e : ℕ) (ws : List ℕ) (rs : List Route) : Type 0 where
+-- the row of all four arrays stands for the list cs; array e may be empty
+record Posts (e : ℕ) (ws : List ℕ) (cs : List Candidate) : Type 0 where
   pub ok : TableBut 4 e ws
-  pub size : length ws ≡ 5120
+  pub size : length ws ≡ 15360
   pub leads : (j : ℕ) → j ≤ 3 → node (arraysOf ws) (655617 / 2 ^ (8 * (3 - j))) j ≡ j + 1
-  pub list : listOf 4 ws ≡ rs
+  pub list : listOf 4 ws ≡ cs
 
-module _ (e : ℕ) (ws : List ℕ) (rs : List Route) (p : Posts e ws rs) (j x h : ℕ) (at : (e ≡ 0) ⊎ (e ≡ j + 1)) (deep : j ≤ 3)
-    (small : x < cellCount) (some : 1 ≤ h) (hop : h < hopBound) where
+-- the word of preference n and hop h
+module _ (e : ℕ) (ws : List ℕ) (cs : List Candidate) (p : Posts e ws cs) (j x f n h : ℕ) (at : (e ≡ 0) ⊎ (e ≡ j + 1))
+    (deep : j ≤ 3) (small : x < cellCount) (feed : IsFeed f) (low : n ≤ 255) (some : 1 ≤ h) (hop : h < hopBound) where
   abbrev t₁ : Arrays
   t₁ = arraysOf ws
 
@@ -323,16 +388,19 @@ module _ (e : ℕ) (ws : List ℕ) (rs : List Route) (p : Posts e ws rs) (j x h 
   used : 1 ≤ t₁ .tag (j + 1)
   used = omega (arith, level₁)
 
-  slot : SlotSet ws (posted ws (j + 1) x h) (j + 1) (cellSlots + x) h
-  slot =
-      posted-reslot ws (j + 1) x h (omega (arith, p .size)) small hop some (omega (arith, level₁))
-      (p .ok .right (j + 1) (omega arith) (omega (arith, p .size)) used)
+  right-slot : RightSlot (wordsOf ws (j + 1) (cellSlots + x))
+  right-slot = p .ok .words (j + 1) (cellSlots + x) (omega arith) (omega (arith, p .size)) used (omega arith) (omega arith)
 
   abbrev us : List ℕ
-  us = posted ws (j + 1) x h
+  us = posted ws (j + 1) x f (wordOf n h)
 
-  slotted : TreeSlotSet t₁ (arraysOf us) (j + 1) (cellSlots + x) h
-  slotted = slot-set-tree 4 e ws us (j + 1) (cellSlots + x) h (omega arith) slot
+  slot : SlotSet ws us (j + 1) (cellSlots + x) f (wordOf n h)
+  slot =
+      posted-reslot ws (j + 1) x f n h (omega (arith, p .size)) small feed low some hop (omega (arith, level₁)) right-slot
+      (p .ok .right (j + 1) (omega arith) (omega (arith, p .size)) used)
+
+  slotted : TreeWordSet (feedsOf ws) (feedsOf us) (j + 1) (cellSlots + x) f (wordOf n h)
+  slotted = slot-set-tree 4 e ws us (j + 1) (cellSlots + x) f (wordOf n h) (omega arith) slot
 
   place : Place (arrayCount ws) 4 t₁ (j + 1) v j 8 x
   place = record {
@@ -344,27 +412,44 @@ module _ (e : ℕ) (ws : List ℕ) (rs : List Route) (p : Posts e ws rs) (j x h 
     small = small;
   }
 
-  post : Posts 0 us (insert (routeOf (32 - (8 * j + 8)) (v * 256 + x) (8 * j + 8) h) rs)
+  -- the slot is not free
+  taken : slotsOf us (j + 1) (cellSlots + x) ≢ 0
+  taken z =
+      won ws (j + 1) x f n h (omega (arith, p .size)) small feed low some hop (omega (arith, level₁)) right-slot
+      (p .ok .right (j + 1) (omega arith) (omega (arith, p .size)) used)
+      (sym (ap hopIn (winner-same (wordsOf us (j + 1) (cellSlots + x))
+      (withWord (wordsOf ws (j + 1) (cellSlots + x)) f (wordOf n h)) (slot .here))) ∙ z)
+
+  post : Posts 0 us (put key (candidate ((v * 256 + x) * 2 ^ (32 - (8 * j + 8))) (8 * j + 8) f n h) cs)
   post = record {
-    ok = but-is-table 4 (j + 1) us (slot-set-table-but 4 e ws us (j + 1) (cellSlots + x) h (omega arith) slot (p .ok) at used)
-        (λ _. inl (record { s = cellSlots + x; low = omega arith; high = omega arith; some = omega (arith, slot .here) }));
+    ok = but-is-table 4 (j + 1) us (slot-set-table-but 4 e ws us (j + 1) (cellSlots + x) f (wordOf n h) (omega arith) slot
+        (p .ok) at used (right-of n h low some hop))
+        (λ _. inl (record { s = cellSlots + x; low = omega arith; high = omega arith; some = omega (arith, taken) }));
     size = slot .size ∙ p .size;
-    leads = λ i w. same-node t₁ (arraysOf us) (slotted .tags) (slotted .links) (655617 / 2 ^ (8 * (3 - i))) i ∙ p .leads i w;
-    list = slot-set-insert (arrayCount ws) 4 t₁ (arraysOf us) (j + 1) v j 8 x h (p .ok .shape) place slotted 32
-        (omega arith) (omega arith) (omega arith)
-        ∙ ap (insert (routeOf (32 - (8 * j + 8)) (v * 256 + x) (8 * j + 8) h)) (p .list);
+    leads = λ i b. same-node t₁ (arraysOf us) (slotted .tags) (slotted .links) (655617 / 2 ^ (8 * (3 - i))) i ∙ p .leads i b;
+    list = tree-put (arrayCount ws) 4 (feedsOf ws) (feedsOf us) (j + 1) v j 8 x f (wordOf n h) (p .ok .shape) place feed slotted
+        32 (omega arith) (omega arith) n h some hop refl
+        ∙ ap (put key (candidate ((v * 256 + x) * 2 ^ (32 - (8 * j + 8))) (8 * j + 8) f n h)) (p .list);
   }
 
 -- ---- the table
 
 abbrev row : List ℕ
-row = hung (hung (hung (cleared 5120) 1 10 2) 2 1 3) 3 1 4
+row = hung (hung (hung (cleared 15360) 1 10 2) 2 1 3) 3 1 4
 
 abbrev pub deep : List ℕ
-deep = posted (posted (posted (posted row 4 1 4) 3 1 3) 2 1 2) 1 10 1
+deep =
+    posted (posted (posted (posted (posted row 4 1 1 (wordOf 7 4)) 4 1 4 (wordOf 7 5)) 3 1 3 (wordOf 255 3)) 2 1 2 (wordOf 1 2))
+    1 10 1 (wordOf 0 1)
 
-abbrev pub deepList : List Route
-deepList = route (ip 10 0 0 0) 8 1 ∷ route (ip 10 1 0 0) 16 2 ∷ route (ip 10 1 1 0) 24 3 ∷ route (ip 10 1 1 1) 32 4 ∷ []
+abbrev pub deepList : List Candidate
+deepList =
+    candidate (ip 10 0 0 0) 8 1 0 1
+    ∷ candidate (ip 10 1 0 0) 16 2 1 2
+    ∷ candidate (ip 10 1 1 0) 24 3 255 3
+    ∷ candidate (ip 10 1 1 1) 32 1 7 4
+    ∷ candidate (ip 10 1 1 1) 32 4 7 5
+    ∷ []
 
 row-all : Row 3 655617 row
 row-all =
@@ -377,12 +462,16 @@ row-posts = record { ok = row-all .ok; size = row-all .size; leads = row-all .le
 
 deep-posts : Posts 0 deep deepList
 deep-posts =
-    let one = post 4 _ _ row-posts 3 1 4 (inr refl) (omega arith) (omega arith) (omega arith) (omega arith) in
-    let two = post 0 _ _ one 2 1 3 (inl refl) (omega arith) (omega arith) (omega arith) (omega arith) in
-    let three = post 0 _ _ two 1 1 2 (inl refl) (omega arith) (omega arith) (omega arith) (omega arith) in
-    post 0 _ _ three 0 10 1 (inl refl) (omega arith) (omega arith) (omega arith) (omega arith)
+    let one =
+    post 4 _ _ row-posts 3 1 1 7 4 (inr refl) (omega arith) (omega arith) feed-1 (omega arith) (omega arith) (omega arith) in
+    let two = post 0 _ _ one 3 1 4 7 5 (inl refl) (omega arith) (omega arith) feed-4 (omega arith) (omega arith) (omega arith) in
+    let three =
+    post 0 _ _ two 2 1 3 255 3 (inl refl) (omega arith) (omega arith) feed-3 (omega arith) (omega arith) (omega arith) in
+    let four =
+    post 0 _ _ three 1 1 2 1 2 (inl refl) (omega arith) (omega arith) feed-2 (omega arith) (omega arith) (omega arith) in
+    post 0 _ _ four 0 10 1 0 1 (inl refl) (omega arith) (omega arith) feed-1 (omega arith) (omega arith) (omega arith)
 
--- four arrays, and a route of each level
+-- four arrays, and a candidate of each level
 pub deep-seen : seen 4 deep ≡ table 4 deepList
 deep-seen =
     seen-table 4 deep (deep-posts .ok) ∙ ap₂ table (ap (λ (n : ℕ). n / arrayWords - 1) (deep-posts .size)) (deep-posts .list)

@@ -9,9 +9,11 @@ use lib.Dec.{lit<, lit≤}
 use lib.ListN.{length}
 use Rattle.logic.specs.Cases.{bool}
 use Rattle.sizes.specs.Sizes.{arrayWords}
-use Rattle.routes.specs.Route.{Route, IsList}
 use Rattle.routes.specs.Room.{need}
-use Rattle.routes.specs.Seen.{gives, table, misfits, arrays}
+use Rattle.routes.specs.Seen.{gives}
+use Rattle.candidates.specs.Candidate.{Candidate, IsList}
+use Rattle.candidates.specs.Winners.{winners}
+use Rattle.candidates.specs.Seen.{table, misfits, arrays}
 use Rattle.laws.specs.Given.{given-one, given-refused}
 use Rattle.words.specs.Words.{arraysOf, arrayCount}
 use Rattle.words.specs.Table.{seen}
@@ -29,16 +31,16 @@ use Rattle.feed.specs.declared.Ran.the-variants.{Stopped, Refused}
 
 -- ---- a table
 
--- the list is a route list, its arrays fit, and A is read from the number of words
-pub record Held (A : ℕ) (rs : List Route) (ws : List ℕ) : Type 0 where
-  pub list : IsList 32 rs
-  pub room : need 32 rs ≤ A
+-- the list is one of candidates, the arrays of their winners fit, and A is read from the number of words
+pub record Held (A : ℕ) (cs : List Candidate) (ws : List ℕ) : Type 0 where
+  pub list : IsList 32 cs
+  pub room : need 32 (winners cs) ≤ A
   pub arrays : arrays (length ws) ≡ A
   pub size : misfits (length ws) ≡ false
 
-pub held : (A : ℕ) (rs : List Route) (ws : List ℕ) → seen 4 ws ≡ table A rs → Held A rs ws
-held A rs ws e =
-    let i = table-of 4 ws (lit≤ tt) (lit< tt) A rs e in
+pub held : (A : ℕ) (cs : List Candidate) (ws : List ℕ) → seen 4 ws ≡ table A cs → Held A cs ws
+held A cs ws e =
+    let i = table-of 4 ws (lit≤ tt) (lit< tt) A cs e in
     let n = table-need 4 ws (i .table) in
     record {
       list = rw (i .list) (table-list 4 ws (i .table));
@@ -49,7 +51,7 @@ held A rs ws e =
 
 -- ---- cleared words
 
--- words that clear took are a table of no routes, with as many arrays as their number says
+-- words that clear took are a table that holds nothing, with as many arrays as their number says
 pub cleared-done : (A : ℕ) (ws vs : List ℕ) → length ws ≡ arrayWords * (A + 1) → HasCleared 4 ws vs Done → seen 4 vs ≡ table A []
 cleared-done A ws vs n c =
     bool (misfits (length ws))
@@ -60,10 +62,10 @@ cleared-done A ws vs n c =
     count n = omega arith
 
 -- as many words as a table has are taken, and are then a table of the same room
-pub cleared-alike : (A : ℕ) (rs : List Route) (ws lent vs : List ℕ) (r : Cleared) → seen 4 ws ≡ table A rs
+pub cleared-alike : (A : ℕ) (cs : List Candidate) (ws lent vs : List ℕ) (r : Cleared) → seen 4 ws ≡ table A cs
     → length lent ≡ length ws → HasCleared 4 lent vs r → seen 4 vs ≡ table A []
-cleared-alike A rs ws lent vs r e n c =
-    let h = held A rs ws e in
+cleared-alike A cs ws lent vs r e n c =
+    let h = held A cs ws e in
     (rw (n, h .size, h .arrays) at (c .left))
 
 -- ---- a run

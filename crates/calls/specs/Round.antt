@@ -9,11 +9,12 @@ use Prim.Native.Nat.{ℕ, _+_, _*_, _≤_}
 use lib.ListN.{length, take}
 use lib.Seq.{take-append-seam}
 use borrow.Author.Tests.{le-ltb}
-use Rattle.routes.specs.Route.{Route}
-use Rattle.routes.specs.Answers.{replies}
-use Rattle.routes.specs.Bytes.{announced, written, repliesBytes}
-use Rattle.routes.specs.Seen.{Seen, table, frontOn}
-use Rattle.laws.specs.Round.{round-trip}
+use Rattle.routes.specs.Bytes.{repliesBytes}
+use Rattle.candidates.specs.Candidate.{Candidate}
+use Rattle.candidates.specs.Answers.{replies}
+use Rattle.candidates.specs.Bytes.{meanings, announced, written}
+use Rattle.candidates.specs.Seen.{Seen, table, frontOn}
+use Rattle.encoded.specs.Round.{round-trip}
 use Rattle.words.specs.Table.{seen}
 use Rattle.audit.specs.Answer.{HasCleared}
 use Rattle.audit.specs.declared.Cleared.{Cleared}
@@ -24,12 +25,12 @@ use Rattle.feed.specs.declared.Ran.the-variants.{Stopped}
 use Rattle.calls.specs.Held.{held, cleared-alike, stopped}
 
 -- the calls, each as its contract allows
-pub record Trip (A : ℕ) (rs : List Route) : Type 0 where
+pub record Trip (A : ℕ) (cs : List Candidate) : Type 0 where
   pub words : List ℕ
-  pub table : seen 4 words ≡ table A rs
+  pub table : seen 4 words ≡ table A cs
   -- written out into a buffer that is large enough
   pub buffer : List ℕ
-  pub fits : 8 * length rs + 1 ≤ length buffer
+  pub fits : 10 * length cs + 1 ≤ length buffer
   pub front : List ℕ
   pub wrote : front ≡ frontOn (seen 4 words) (length buffer)
   -- as many words, cleared
@@ -40,30 +41,30 @@ pub record Trip (A : ℕ) (rs : List Route) : Type 0 where
   pub clears : HasCleared 4 lent cleared answer
   -- the front run on them, with reply room enough
   pub reply : List ℕ
-  pub enough : 5 * length rs ≤ length reply
+  pub enough : 5 * length cs ≤ length reply
   pub words′ : List ℕ
   pub reply′ : List ℕ
   pub ran : Ran
   pub runs : HasRun cleared front reply words′ reply′ ran
 
 -- the same list, each of its records accepted, at an end
-pub record Again {A : ℕ} {rs : List Route} (t : Trip A rs) : Type 0 where
+pub record Again {A : ℕ} {cs : List Candidate} (t : Trip A cs) : Type 0 where
   pub list : seen 4 (t .words′) ≡ seen 4 (t .words)
   pub answer : t .ran ≡ Stopped (record {
     stop = 0;
-    consumed = 8 * length rs + 1;
-    written = length (repliesBytes (replies 32 A [] (announced rs)));
-    accepted = length rs;
+    consumed = 10 * length cs + 1;
+    written = length (repliesBytes (replies 32 A [] (meanings (announced cs))));
+    accepted = length cs;
     refused = 0;
   })
 
-pub again : {A : ℕ} {rs : List Route} (t : Trip A rs) → Again t
-again {A} {rs} t =
-    let h = held A rs (t .words) (t .table) in
+pub again : {A : ℕ} {cs : List Candidate} (t : Trip A cs) → Again t
+again {A} {cs} t =
+    let h = held A cs (t .words) (t .table) in
     let e : seen 4 (t .cleared) ≡ table A [] =
-    cleared-alike A rs (t .words) (t .lent) (t .cleared) (t .answer) (t .table) (t .same) (t .clears) in
-    let f : t .front ≡ written rs = t .wrote ∙ rw (t .table, le-ltb (length (t .buffer)) (8 * length rs + 1) (t .fits)) in
-    let o = round-trip A rs (length (t .reply)) (h .list) (h .room) (t .enough) in
+    cleared-alike A cs (t .words) (t .lent) (t .cleared) (t .answer) (t .table) (t .same) (t .clears) in
+    let f : t .front ≡ written cs = t .wrote ∙ rw (t .table, le-ltb (length (t .buffer)) (10 * length cs + 1) (t .fits)) in
+    let o = round-trip A cs (length (t .reply)) (h .list) (h .room) (t .enough) in
     record {
       list = t .runs .list ∙ rw (e, f, o) (sym (t .table));
       answer = stopped (t .ran) _ (t .runs .answer ∙ rw (e, f, o));

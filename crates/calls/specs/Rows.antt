@@ -1,5 +1,5 @@
 -- Document 01's small cases said of the calls: whatever clear, the updates, the call and the check of a row may answer by their
--- contracts, it is what the row says. Assumes nothing.
+-- contracts, it is what the row says. Each update is of feed 1 with preference 0. Assumes nothing.
 --
 --     clear ──▶ the row's updates ──▶ the row's call ──▶ check
 --     Done                            what it gives      the arrays
@@ -8,9 +8,11 @@ use mathlib.Core.List.{List, [], _∷_}
 use Prim.Native.Nat.{ℕ, _+_, _*_}
 use lib.ListN.{length}
 use Rattle.sizes.specs.Sizes.{arrayWords}
-use Rattle.routes.specs.Answers.{Reply, records}
-use Rattle.routes.specs.Seen.{gives, checkOn}
-use Rattle.routes.specs.Small.{Case, listBefore, listAfter, got, gots, small, small-cases, further, further-cases}
+use Rattle.routes.specs.Answers.{Reply}
+use Rattle.routes.specs.Seen.{gives}
+use Rattle.candidates.specs.Answers.{records}
+use Rattle.candidates.specs.Seen.{checkOn}
+use Rattle.candidates.specs.Small.{Case, listBefore, listAfter, got, gots, small, small-cases, further, further-cases}
 use Rattle.words.specs.Table.{seen}
 use Rattle.audit.specs.Answer.{HasCleared, checkAnswer}
 use Rattle.audit.specs.declared.Cleared.the-variants.{Done}

@@ -8,9 +8,10 @@ use mathlib.Core.Path.{_≡_, sym, _∙_}
 use mathlib.Core.List.{List}
 use Prim.Native.Nat.{ℕ}
 use lib.ListN.{length}
-use Rattle.routes.specs.Route.{Route}
-use Rattle.routes.specs.Answers.{Update, Record, Reply}
-use Rattle.routes.specs.Seen.{table, lookupOn, checkOn, countOn, frontOn}
+use Rattle.routes.specs.Answers.{Reply}
+use Rattle.candidates.specs.Candidate.{Candidate}
+use Rattle.candidates.specs.Answers.{Update, Record}
+use Rattle.candidates.specs.Seen.{table, lookupOn, checkOn, countOn, frontOn}
 use Rattle.words.specs.Table.{listOf, seen}
 use Rattle.words.specs.View.{seen-table}
 use Rattle.audit.specs.Answer.{checkAnswer, HasCleared}
@@ -89,10 +90,10 @@ run-agrees ws bytes b vs c r vs′ c′ r′ p q = feed.sharp ws bytes b vs c r 
 -- ---- the layout
 
 -- tables of one list answer any calls alike, and are left alike, however they are laid out
-pub layout-unseen : (A : ℕ) (rs : List Route) {ws ws′ vs vs′ : List ℕ} {xs : List Record} {ys ys′ : List Reply}
-    → seen 4 ws ≡ table A rs → seen 4 ws′ ≡ table A rs
+pub layout-unseen : (A : ℕ) (cs : List Candidate) {ws ws′ vs vs′ : List ℕ} {xs : List Record} {ys ys′ : List Reply}
+    → seen 4 ws ≡ table A cs → seen 4 ws′ ≡ table A cs
     → Series ws xs ys vs → Series ws′ xs ys′ vs′ → (ys ≡ ys′) × (seen 4 vs ≡ seen 4 vs′)
-layout-unseen A rs t t′ s s′ =
-    let p = all-answered A rs t s in
-    let q = all-answered A rs t′ s′ in
+layout-unseen A cs t t′ s s′ =
+    let p = all-answered A cs t s in
+    let q = all-answered A cs t′ s′ in
     (p .answers ∙ sym (q .answers), p .list ∙ sym (q .list))

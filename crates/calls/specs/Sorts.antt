@@ -7,13 +7,14 @@ use native.Mathlib.Omega.{arith}
 use lib.Dec.{ltb, eqb}
 use Rattle.logic.specs.Cases.{bool}
 use Rattle.sizes.specs.Sizes.{hopBound}
-use Rattle.routes.specs.Route.{Route, route, tooLong, stray, badHop, held}
+use Rattle.routes.specs.Route.{tooLong, stray, badHop}
 use Rattle.routes.specs.Match.{Match, longest}
 use Rattle.routes.specs.Match as best
-use Rattle.routes.specs.Cells.{cells}
-use Rattle.routes.specs.Answers.{Update, announce, withdraw, Reply, done, found, none, refused}
-use Rattle.routes.specs.Answers.{refuse, faulty, lacking, reloaded, verdict, answer, matched}
-use Rattle.routes.specs.Seen.{Seen, misfit, foreign, table, answerOn, lookupOn}
+use Rattle.routes.specs.Answers.{Reply, done, found, none, refused, refuse, lacking, matched}
+use Rattle.candidates.specs.Candidate.{Candidate, badFeed, held}
+use Rattle.candidates.specs.Winners.{winners}
+use Rattle.candidates.specs.Answers.{Update, announce, withdraw, changed, reloaded, faulty, verdict, answer}
+use Rattle.candidates.specs.Seen.{Seen, misfit, foreign, table, answerOn, lookupOn}
 use Rattle.numbers.specs.Front.{byteOf}
 use Rattle.words.specs.Table.{seen}
 use Rattle.words.specs.Words.{arraysOf, arrayCount, bestsOf, blocksOf}
@@ -58,7 +59,7 @@ lookup-looks ws a = go (seen 4 ws)
     go : (s : Seen) → OfLookup (lookupOn 32 s (walk 4 ws a) a)
     go misfit = omega arith
     go foreign = walk-looks 4 ws a 4 1 best.none
-    go (table A rs) = best-looks (longest 32 a rs) _
+    go (table A cs) = best-looks (longest 32 a (winners cs)) _
 
 -- ---- an update
 
@@ -73,19 +74,24 @@ refuse-made n true y h p = h
 refuse-made n false y h p = p
 
 faulty-made : (W : ℕ) (u : Update) (y : Reply) → OfUpdate y → OfUpdate (faulty W u y)
-faulty-made W (announce a l h) y p =
+faulty-made W (announce a l h f n) y p =
     refuse-made 3 (tooLong W l) _ (omega arith)
-    (refuse-made 4 (stray W a l) _ (omega arith) (refuse-made 5 (badHop h) y (omega arith) p))
-faulty-made W (withdraw a l) y p =
-    refuse-made 3 (tooLong W l) _ (omega arith) (refuse-made 4 (stray W a l) y (omega arith) p)
+    (refuse-made 4 (stray W a l) _ (omega arith)
+    (refuse-made 5 (badHop h) _ (omega arith) (refuse-made 10 (badFeed f) y (omega arith) p)))
+faulty-made W (withdraw a l f) y p =
+    refuse-made 3 (tooLong W l) _ (omega arith)
+    (refuse-made 4 (stray W a l) _ (omega arith) (refuse-made 10 (badFeed f) y (omega arith) p))
 
-verdict-made : (W A : ℕ) (rs : List Route) (u : Update) → OfUpdate (verdict W A rs u)
-verdict-made W A rs (announce a l h) = refuse-made 8 (lacking W A rs a l h) (done h (reloaded W rs a l h)) (omega arith) tt
-verdict-made W A rs (withdraw a l) =
-    refuse-made 7 (eqb (held rs a l) 0) (done (held rs a l) (cells W (route a l 0) rs)) (omega arith) tt
+verdict-made : (W A : ℕ) (cs : List Candidate) (u : Update) → OfUpdate (verdict W A cs u)
+verdict-made W A cs (announce a l h f n) =
+    refuse-made 8 (lacking W A (winners cs) a l h) (done h (reloaded W cs (changed (announce a l h f n) cs) a l))
+    (omega arith) tt
+verdict-made W A cs (withdraw a l f) =
+    refuse-made 7 (eqb (held cs a l f) 0) (done (held cs a l f) (reloaded W cs (changed (withdraw a l f) cs) a l))
+    (omega arith) tt
 
 pub answer-made : (s : Seen) (u : Update) → OfUpdate (answerOn 32 s u)
 unfolding answer
 answer-made misfit u = omega arith
 answer-made foreign u = faulty-made 32 u (refused 2) (omega arith)
-answer-made (table A rs) u = faulty-made 32 u (verdict 32 A rs u) (verdict-made 32 A rs u)
+answer-made (table A cs) u = faulty-made 32 u (verdict 32 A cs u) (verdict-made 32 A cs u)

@@ -10,18 +10,18 @@ use mathlib.Core.List.{List, [], _++_}
 use Prim.Native.Nat.{ℕ, _+_, _*_, _≤_}
 use lib.ListN.{length, drop}
 use borrow.Author.Tests.{le-ltb}
-use Rattle.routes.specs.Route.{Route}
-use Rattle.routes.specs.Match.{longest}
-use Rattle.routes.specs.Block.{block}
-use Rattle.routes.specs.Answers.{Update, records, Reply, matched}
-use Rattle.routes.specs.Bytes.{repliesBytes, written, AllFit}
-use Rattle.routes.specs.Runs.{Ran, run}
-use Rattle.routes.specs.Seen.{table, gives, lookupOn, checkOn, countOn, frontOn, runOn, ranOn, repliedOn}
+use Rattle.routes.specs.Answers.{Reply}
+use Rattle.routes.specs.Bytes.{repliesBytes}
+use Rattle.routes.specs.Seen.{gives}
+use Rattle.candidates.specs.Candidate.{Candidate}
+use Rattle.candidates.specs.Answers.{Update, plains, lookedUp, records}
+use Rattle.candidates.specs.Bytes.{Sent, meanings, AllFit, written}
+use Rattle.candidates.specs.Runs.{Ran, run}
+use Rattle.candidates.specs.Seen.{table, lookupOn, checkOn, countOn, frontOn, runOn, ranOn, repliedOn}
 use Rattle.laws.specs.Given.{given-one}
 use Rattle.words.specs.Table.{seen}
-use Rattle.order.specs.Feeds.{Weave, flip, heard, plains, said, kept, keptBoth, Meets, Independent}
-use Rattle.order.specs.Feeds.{Closes, bytes, readBack, Answered}
-use Rattle.order.specs.Fed.{read-said, Fed, answered, Together, demand-3-fed}
+use Rattle.weaves.specs.Feeds.{Weave, flip, heard, said, kept, keptBoth, Meets, Independent, Closes, bytes, readBack, Answered}
+use Rattle.weaves.specs.Fed.{read-said, Fed, answered, Together, demand-3-fed}
 
 -- what the run promises of the words ws, a feed and the reply bytes b, where it leaves vs and c and has the outcome o
 pub record Promise (ws feed b vs c : List ℕ) (o : Ran) : Type 0 where
@@ -30,42 +30,52 @@ pub record Promise (ws feed b vs c : List ℕ) (o : Ran) : Type 0 where
   pub replies : c ≡ repliedOn (seen 4 ws) feed b
 
 -- of words that are a table, the outcome is the run's of their list
-pub promise : {A : ℕ} {rs : List Route} {ws feed b vs c : List ℕ} → seen 4 ws ≡ table A rs
+pub promise : {A : ℕ} {cs : List Candidate} {ws feed b vs c : List ℕ} → seen 4 ws ≡ table A cs
     → seen 4 vs ≡ ranOn (seen 4 ws) feed b → c ≡ repliedOn (seen 4 ws) feed b
-    → Promise ws feed b vs c (run A rs feed (length b))
+    → Promise ws feed b vs c (run A cs feed (length b))
 promise t l r = record { answer = rw t; list = l; replies = r }
 
--- a call with the bytes of us, on a cleared table of A arrays
+-- a call with the bytes of records that mean us, on a cleared table of A arrays
 pub record Call (A : ℕ) (us : List Update) : Type 0 where
   pub words : List ℕ
+  pub sent : List Sent
   pub rest : List ℕ
   pub reply : List ℕ
   pub words′ : List ℕ
   pub reply′ : List ℕ
   pub ran : Ran
   pub cleared : seen 4 words ≡ table A []
-  pub fits : AllFit (records us)
+  pub meant : meanings sent ≡ records us
+  pub fits : AllFit sent
   pub closes : Closes rest
-  pub runs : Promise words (bytes us rest) reply words′ reply′ ran
+  pub runs : Promise words (bytes sent rest) reply words′ reply′ ran
   pub enough : ran .stop ≢ 4
 
 -- ---- one call
 
 -- how it answers, the reply bytes, and the list that the words then stand for
 pub record Left {A : ℕ} {us : List Update} (c : Call A us) : Type 0 where
-  pub answer : Answered A us (c .rest) (c .ran)
+  pub answer : Answered A us (c .sent) (c .rest) (c .ran)
   pub replies : c .reply′ ≡ repliesBytes (said 32 A us) ++ drop (length (repliesBytes (said 32 A us))) (c .reply)
   pub list : seen 4 (c .words′) ≡ table A (kept 32 A us)
 
 module _ {A : ℕ} {us : List Update} (c : Call A us) where
   abbrev o : Ran
-  o = run A [] (bytes us (c .rest)) (length (c .reply))
+  o = run A [] (bytes (c .sent) (c .rest)) (length (c .reply))
 
   ran-is : o ≡ c .ran
   ran-is = given-one (rw (c .cleared) at (c .runs .answer))
 
   abbrev fed : Fed A us
-  fed = record { fits = c .fits; rest = c .rest; closes = c .closes; room = length (c .reply); enough = rw ran-is (c .enough) }
+  fed = record {
+    sent = c .sent;
+    meant = c .meant;
+    fits = c .fits;
+    rest = c .rest;
+    closes = c .closes;
+    room = length (c .reply);
+    enough = rw ran-is (c .enough);
+  }
 
   left : Left c
   left =
@@ -101,13 +111,11 @@ pub record Called {A : ℕ} {xs ys zs : List Update} (w : Weave xs ys zs)
   pub refused : j .ran .end .refused ≡ f .ran .end .refused + s .ran .end .refused
   -- the words stand for the join, and each call on them then answers by it
   pub list : seen 4 (j .words′) ≡ table A (keptBoth 32 A xs ys)
-  pub lookups : (walked : Reply) (a : ℕ)
-      → lookupOn 32 (seen 4 (j .words′)) walked a
-      ≡ matched (longest 32 a (keptBoth 32 A xs ys)) (block 32 (keptBoth 32 A xs ys) a)
+  pub lookups : (walked : Reply) (a : ℕ) → lookupOn 32 (seen 4 (j .words′)) walked a ≡ lookedUp 32 (keptBoth 32 A xs ys) a
   pub check : checkOn 32 (seen 4 (j .words′)) ≡ checkOn 32 (table A (keptBoth 32 A xs ys))
   pub count : (room : ℕ) → countOn (seen 4 (j .words′)) room ≡ countOn (table A (keptBoth 32 A xs ys)) room
   pub front : (room : ℕ) → frontOn (seen 4 (j .words′)) room ≡ frontOn (table A (keptBoth 32 A xs ys)) room
-  pub out : (room : ℕ) → 8 * length (keptBoth 32 A xs ys) + 1 ≤ room
+  pub out : (room : ℕ) → 10 * length (keptBoth 32 A xs ys) + 1 ≤ room
       → frontOn (seen 4 (j .words′)) room ≡ written (keptBoth 32 A xs ys)
 
 pub demand-3-called : {A : ℕ} {xs ys zs : List Update} (w : Weave xs ys zs) → Meets 32 A xs ys
@@ -127,7 +135,7 @@ demand-3-called {A} {xs} {ys} {zs} w m j f s =
       check = rw l;
       count = λ room. rw l;
       front = λ room. rw l;
-      out = λ room h. rw (l, le-ltb room (8 * length (keptBoth 32 A xs ys) + 1) h);
+      out = λ room h. rw (l, le-ltb room (10 * length (keptBoth 32 A xs ys) + 1) h);
     }
   where
     t : Together w (fed j) (fed f) (fed s)

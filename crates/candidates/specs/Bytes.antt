@@ -1,4 +1,5 @@
--- The bytes of records of kind 1 to 5, and of candidates written out. Kinds 1 and 2 mean feed 1, preference 0. Assumes nothing.
+-- The bytes of records of kind 1 to 5, of candidates written out, and of a route list of kind 1. Kinds 1 and 2 mean feed 1,
+-- preference 0; numbers have the high byte first, and an address has four. Assumes nothing.
 --
 --     1  address 4  length 1  hop 2                             4  address 4  length 1  hop 2  feed 1  preference 1
 --     2  address 4  length 1            3  address 4            5  address 4  length 1  feed 1
@@ -6,6 +7,7 @@ use mathlib.Core.List.{List, [], _∷_, _++_}
 use Prim.Native.Nat.{ℕ, _<_}
 use Rattle.numbers.specs.Digits.{one, two, four}
 use Rattle.routes.specs.Family.{v4}
+use Rattle.routes.specs.Route.{Route}
 use Rattle.candidates.specs.Candidate.{Candidate}
 use Rattle.candidates.specs.Answers.{announce, withdraw, Record, update, lookup}
 
@@ -79,3 +81,14 @@ announced (c ∷ cs) = kind4 (c .addr) (c .len) (c .hop) (c .feed) (c .pref) ∷
 -- each candidate as a kind 4 record, then kind 0
 abbrev pub written : List Candidate → List ℕ
 written cs = allBytes (announced cs) ++ (0 ∷ [])
+
+-- ---- a route list of kind 1, as a copy is built from
+
+-- routes as the records that announce them
+abbrev pub plainly : List Route → List Sent
+plainly [] = []
+plainly (r ∷ rs) = kind1 (r .addr) (r .len) (r .hop) ∷ plainly rs
+
+-- each route as a kind 1 record, then kind 0
+abbrev pub writtenPlainly : List Route → List ℕ
+writtenPlainly rs = allBytes (plainly rs) ++ (0 ∷ [])

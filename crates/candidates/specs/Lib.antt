@@ -7,3 +7,6 @@ pub mod Runs
 pub mod Seen
 pub mod Worked
 pub mod Views
+pub mod Small
+pub mod Sample
+pub mod BlockFeeds

@@ -2,7 +2,7 @@
 -- stops it. Assumes nothing.
 --
 --     before each record:  no byte left ─ 1   kind not 0 to 5 ─ 2   body short ─ 3   kind 0, end ─ 0   under 5 reply bytes ─ 4
-use mathlib.Core.Bool.{cond}
+use mathlib.Core.Bool.{Bool, cond}
 use mathlib.Core.List.{List, [], _∷_, _++_}
 use Prim.Native.Nat.{ℕ, zero, suc, _+_}
 use lib.ListN.{length, getD}
@@ -11,7 +11,6 @@ use Rattle.numbers.specs.Digits.{twoAt, fourAt}
 use Rattle.routes.specs.Family.{v4, width}
 use Rattle.routes.specs.Answers.{isDone, isRefused}
 use Rattle.routes.specs.Bytes.{replyBytes}
-use Rattle.routes.specs.Runs.{tally, first}
 use Rattle.candidates.specs.Candidate.{Candidate}
 use Rattle.candidates.specs.Answers.{Record, reply, next}
 use Rattle.candidates.specs.Bytes.{announceFor, withdrawFor, Sent, kind1, kind2, kind3, kind4, kind5, means}
@@ -49,6 +48,9 @@ sentAt feed i k =
     (kind4 (fourAt feed (i + 1)) (getD feed (i + 5) 0) (twoAt feed (i + 6)) (getD feed (i + 8) 0) (getD feed (i + 9) 0))
     (kind5 (fourAt feed (i + 1)) (getD feed (i + 5) 0) (getD feed (i + 6) 0)))))
 
+abbrev pub tally : Bool → ℕ → ℕ
+tally b n = cond b (n + 1) n
+
 -- a record of n bytes is answered
 abbrev pub take : ℕ → State → ℕ → Record → State
 take A s n r =
@@ -73,6 +75,9 @@ finish s =
     record { list = s .list; consumed = s .consumed + 1; replies = s .replies; accepted = s .accepted; refused = s .refused }
 
 -- ---- the tests before a record
+
+abbrev pub first : ℕ → Bool → ℕ → ℕ
+first n b rest = cond b n rest
 
 -- the stop that they find, or 5 for none, where `at` bytes of the feed are consumed and of `room` reply bytes `out` are written.
 -- An end has no body and wants no reply, so it stops before the room is asked for

@@ -1,30 +1,20 @@
 -- What any lent words are seen to be, and what each call then answers and leaves: by this view, and by nothing of the layout.
 -- The order of refusals is 1, 3, 4, 5, 10, 2, 7, 8 or 9. Assumes nothing.
-use mathlib.Core.Bool.{Bool, cond, not, _||_}
+use mathlib.Core.Bool.{cond}
 use mathlib.Core.List.{List, [], _++_}
-use Prim.Native.Nat.{ℕ, _+_, _-_, _*_, _/_, _%_}
+use Prim.Native.Nat.{ℕ, _+_, _*_}
 use lib.ListN.{length, drop}
-use lib.Dec.{ltb, eqb}
+use lib.Dec.{ltb}
 use Rattle.routes.specs.Family.{v4, width}
 use Rattle.routes.specs.Room.{need}
 use Rattle.routes.specs.Answers.{Reply, refused}
 use Rattle.routes.specs.Seen.{Answer, gives, refuses, Counts}
+pub use Rattle.routes.specs.Seen.{misfits, arrays}
 use Rattle.candidates.specs.Candidate.{Candidate}
 use Rattle.candidates.specs.Winners.{winners}
 use Rattle.candidates.specs.Answers.{Update, Record, faulty, answer, after, lookedUp, replies}
 use Rattle.candidates.specs.Bytes.{written}
 use Rattle.candidates.specs.Runs.{Ran, run, recordsOf}
-
--- ---- the sizes of a table: the words of an array and of the header, of a table of one array, and of one of 4,096
-
-abbrev pub arrayWords : ℕ
-arrayWords = 3072
-
-abbrev pub leastWords : ℕ
-leastWords = 6144
-
-abbrev pub mostWords : ℕ
-mostWords = 12585984
 
 -- ---- what words are seen to be
 
@@ -33,14 +23,6 @@ pub data Seen : Type 0 where
   misfit : Seen
   foreign : Seen
   table : (arrays : ℕ) → List Candidate → Seen
-
--- n words are not those of a header and of A arrays with A from 1 to 4,096
-abbrev pub misfits : ℕ → Bool
-misfits n = not (eqb (n % arrayWords) 0) || (ltb n leastWords || ltb mostWords n)
-
--- the A of n words
-abbrev pub arrays : ℕ → ℕ
-arrays n = n / arrayWords - 1
 
 -- ---- updates and lookups
 

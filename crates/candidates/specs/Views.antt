@@ -1,6 +1,7 @@
 -- What the calls answer by what the words are seen to be: rows for each view, decided by computation. They show where the
 -- refusals 1, 2, 9 and 10 stand among the others, and which changes of a candidate report cells. Assumes nothing.
 use mathlib.Core.Path.{_≡_, refl}
+use mathlib.Core.Bool.{true}
 use mathlib.Core.List.{List, [], _∷_}
 use lib.Count.{leadingZeros}
 use Rattle.routes.specs.Room.{needTo}
@@ -10,7 +11,9 @@ use Rattle.routes.specs.Seen.{gives, refuses}
 use Rattle.routes.specs.Small.{ip}
 use Rattle.candidates.specs.Candidate.{candidate}
 use Rattle.candidates.specs.Answers.{Update, announce, withdraw, answer}
-use Rattle.candidates.specs.Seen.{Seen, misfit, foreign, table, answerOn, lookupOn, checkOn, countOn, frontOn}
+use Rattle.candidates.specs.Runs.{runs, halts}
+use Rattle.candidates.specs.Seen.{Seen, misfit, foreign, table, misfits}
+use Rattle.candidates.specs.Seen.{answerOn, lookupOn, checkOn, countOn, frontOn, repliedOn}
 
 -- ---- updates
 
@@ -38,6 +41,7 @@ abbrev pub updates : List ViewCase
 updates =
     -- 1 comes before all
     row misfit (announce (ip 10 0 0 1) 33 0 0 0) (refused 1)
+    ∷ row misfit (withdraw (ip 10 0 0 0) 8 1) (refused 1)
     -- 3, 4, 5 and 10 come before 2
     ∷ row foreign (announce (ip 10 0 0 1) 33 0 0 0) (refused 3)
     ∷ row foreign (announce (ip 10 0 0 1) 24 0 0 0) (refused 4)
@@ -50,6 +54,7 @@ updates =
     ∷ row foreign (withdraw (ip 10 0 0 0) 24 5) (refused 10)
     ∷ row foreign (withdraw (ip 10 0 0 0) 24 1) (refused 2)
     -- 7 is of the candidate, not of the prefix
+    ∷ row (table 1 []) (withdraw (ip 10 0 0 0) 8 1) (refused 7)
     ∷ row one (withdraw (ip 10 0 0 0) 8 1) (refused 7)
     ∷ row one (withdraw (ip 10 0 0 0) 8 2) (done 7 1)
     -- 10 comes before 7 and 8
@@ -71,6 +76,11 @@ updates =
 pub update-cases : gots updates ≡ updates
 unfolding answer cells shown needTo
 update-cases = refl
+
+-- ---- sizes beside those of case 7.11: no word, and one word fewer than the least
+
+pub sizes : (misfits 0 ≡ true) × (misfits 6143 ≡ true)
+sizes = (refl, refl)
 
 -- ---- the check, lookups and writing out
 
@@ -100,3 +110,10 @@ pub fronts : (frontOn one 10 ≡ [])
     × (frontOn (table 1 []) 5 ≡ 0 ∷ [])
     × (frontOn foreign 100 ≡ [])
 fronts = (refl, refl, refl, refl)
+
+-- ---- a run that is refused, and one that leaves reply bytes over
+
+pub replieds : (repliedOn foreign (3 ∷ 0 ∷ 0 ∷ 0 ∷ 0 ∷ []) (9 ∷ 9 ∷ []) ≡ 9 ∷ 9 ∷ [])
+    × (repliedOn (table 1 []) (3 ∷ 0 ∷ 0 ∷ 0 ∷ 0 ∷ []) (9 ∷ 9 ∷ 9 ∷ 9 ∷ 9 ∷ []) ≡ 18 ∷ 0 ∷ 9 ∷ 9 ∷ 9 ∷ [])
+unfolding runs halts
+replieds = (refl, refl)

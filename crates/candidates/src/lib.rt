@@ -1,1 +1,2 @@
-// Item 7 of document 02, candidates, as definitions: they stand in specs/, and no code belongs to them.
+// Candidates, their winners, the answers, the bytes and the run as definitions, with the worked cases: they stand in specs/,
+// and no code belongs to them.

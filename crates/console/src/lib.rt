@@ -44,7 +44,7 @@ fn refused(out: &mut [u8], at: usize, n: u32) -> usize
     text::byte(out, p, b'\n')
 }
 
-// The list at the end: its routes and the arrays that it needs.
+// The list at the end: its routes, which are its candidates, and the arrays that it needs.
 fn holds(words: &[u32], out: &mut [u8], at: usize) -> usize
     requires { ⌜ at ≤ length (now out) ⌝ }
     ensures { λ r. ⌜ r ≤ length (now (out .exit)) ⌝ }

@@ -63,7 +63,7 @@ fn reply_size(kind: u8) -> usize
     }
 }
 
-// The record's kind, with its prefix or address as sent.
+// What the record asks for, with its prefix or address as sent.
 fn subject(record: &[u8], out: &mut [u8], at: usize) -> usize
     requires { ⌜ at ≤ length (now out) ⌝ }
     ensures { λ r. ⌜ r ≤ length (now (out .exit)) ⌝ }
@@ -82,7 +82,7 @@ fn verb(kind: u64, out: &mut [u8], at: usize) -> usize
     requires { ⌜ at ≤ length (now out) ⌝ }
     ensures { λ r. ⌜ r ≤ length (now (out .exit)) ⌝ }
 {
-    if kind == 1 {
+    if kind == 1 || kind == 4 {
         return text::word(out, at, b"announce ");
     }
     text::word(out, at, b"withdraw ")

@@ -8,14 +8,13 @@ use lib.ListN.{length, getD, length-append}
 use Rattle.numbers.specs.Digits.{one, two, four}
 use Rattle.routes.specs.Answers.{Reply, isDone, isRefused, count}
 use Rattle.routes.specs.Bytes.{replyBytes, repliesBytes}
-use Rattle.laws.specs.Turns.{tally-count}
 use Rattle.laws.specs.Encoded.{byte, four-back, two-back, one-back, reply-short}
 use Rattle.candidates.specs.Candidate.{Candidate}
 use Rattle.candidates.specs.Answers.{reply, replies, next, leaves}
 use Rattle.candidates.specs.Bytes.{Sent, kind1, kind2, kind3, kind4, kind5, means, meanings, sentBytes, allBytes}
 use Rattle.candidates.specs.Bytes.{Fits, AllFit, kind}
 use Rattle.candidates.specs.Runs.{State, size, sentAt, take, finish, halts, taken, runs, fresh, run}
-use Rattle.encoded.specs.Turns.{clear-halts, halts-0, runs-on, runs-stop, runs-end}
+use Rattle.encoded.specs.Turns.{tally-count, clear-halts, halts-0, runs-on, runs-stop, runs-end}
 
 -- ---- bytes read back
 

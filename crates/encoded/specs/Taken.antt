@@ -13,11 +13,10 @@ use borrow.Author.Tests.{ne-eqb}
 use Rattle.routes.specs.Answers.{isDone, isRefused, count}
 use Rattle.routes.specs.Bytes.{replyBytes, repliesBytes}
 use Rattle.logic.specs.Cases.{same}
-use Rattle.laws.specs.Turns.{tally-count}
 use Rattle.candidates.specs.Candidate.{Candidate}
 use Rattle.candidates.specs.Answers.{Record, reply, replies, next, leaves}
 use Rattle.candidates.specs.Runs.{State, ahead, finish, halts, taken, runs, fresh, run, recordsFrom, recordsOf}
-use Rattle.encoded.specs.Turns.{size-pos, halts-1, halts-clear}
+use Rattle.encoded.specs.Turns.{size-pos, tally-count, halts-1, halts-clear}
 
 -- ---- by what the tests find
 

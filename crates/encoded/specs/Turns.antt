@@ -1,7 +1,7 @@
 -- The tests before a record of kind 0 to 5, and a run by what they find. Assumes nothing.
 use mathlib.Core.Path.{_≡_, refl, sym, ap}
 use mathlib.Core.Logic.{_≢_}
-use mathlib.Core.Bool.{cond}
+use mathlib.Core.Bool.{Bool, true, false, cond}
 use mathlib.Core.List.{List}
 use Prim.Native.Nat.{ℕ, zero, suc, _+_, _≤_, _<_}
 use native.Mathlib.Omega.{arith}
@@ -9,7 +9,7 @@ use lib.ListN.{length, getD}
 use lib.Dec.{eqb}
 use borrow.Author.Tests.{lt-ltb, le-ltb, le-leb, lt-leb, ne-eqb}
 use Rattle.logic.specs.Cases.{same, less, most}
-use Rattle.candidates.specs.Runs.{State, size, finish, halts, decide, taken, runs}
+use Rattle.candidates.specs.Runs.{State, size, tally, finish, halts, decide, taken, runs}
 
 pub size-pos : (k : ℕ) → 1 ≤ size k
 size-pos k =
@@ -18,6 +18,11 @@ size-pos k =
     same k 3 (λ _ c. rw (e, d, c) (omega arith)) (λ _ c.
     same k 4 (λ _ b. rw (e, d, c, b) (omega arith)) (λ _ b.
     same k 5 (λ _ a. rw (e, d, c, b, a) (omega arith)) (λ _ a. rw (e, d, c, b, a) (omega arith))))))
+
+-- a count beside those that follow it
+pub tally-count : (b : Bool) (m n : ℕ) → tally b m + n ≡ m + (cond b 1 0 + n)
+tally-count true m n = omega arith
+tally-count false m n = omega arith
 
 -- no test stops the run
 pub record Clear (feed : List ℕ) (room at out : ℕ) : Type 0 where

@@ -7,11 +7,11 @@ use native.Mathlib.Omega.{arith}
 use lib.ListN.{length, getD}
 use lib.Dec.{eqb}
 use borrow.Author.Tests.{ne-eqb}
-use Rattle.routes.specs.Answers.{announce, withdraw}
 use Rattle.numbers.specs.Digits.{twoAt, fourAt}
-use Rattle.routes.specs.Runs.{size}
-use Rattle.routes.specs.Seen.{Seen, misfit, foreign, table, lookupOn}
-use Rattle.laws.specs.Turns.{size-pos}
+use Rattle.candidates.specs.Answers.{announce, withdraw}
+use Rattle.candidates.specs.Runs.{size}
+use Rattle.candidates.specs.Seen.{Seen, misfit, foreign, table, lookupOn}
+use Rattle.encoded.specs.Turns.{size-pos}
 use Rattle.words.specs.Table.{seen}
 use Rattle.words.specs.TableBut.{Table}
 use Rattle.words.specs.View.{seen-cases}
@@ -27,7 +27,7 @@ use Rattle.feed.specs.Turns.{IsTable, roomIn, listIn, announceAt, withdr
 pub table-eq : (s : Seen) → IsTable s → s ≡ table (roomIn s) (listIn s)
 table-eq misfit t = absurd t
 table-eq foreign t = absurd t
-table-eq (table A rs) t = refl
+table-eq (table A cs) t = refl
 
 -- seen as one, they are one
 pub is-table : (ws : List ℕ) → IsTable (seen 4 ws) → Table 4 ws
@@ -37,13 +37,13 @@ is-table ws t =
 -- ---- the calls: each answer is its promise's
 
 module _ (ws vs : List ℕ) (r : Reply) (feed : List ℕ) (i : ℕ) where
-  pub asked-announce : (a l h : ℕ) → a ≡ fourAt feed (i + 1) → l ≡ getD feed (i + 5) 0 → h ≡ twoAt feed (i + 6)
-      → HasUpdated 4 ws vs (announce a l h) r → Asked ws (announceAt feed i) (saidReply r) vs
-  asked-announce a l h ea el eh p = rw (← ea, ← el, ← eh) (updated r p)
+  pub asked-announce : (a l h f p : ℕ) → a ≡ fourAt feed (i + 1) → l ≡ getD feed (i + 5) 0 → h ≡ twoAt feed (i + 6)
+      → HasUpdated 4 ws vs (announce a l h f p) r → Asked ws (announceAt feed i f p) (saidReply r) vs
+  asked-announce a l h f p ea el eh x = rw (← ea, ← el, ← eh) (updated r x)
 
-  pub asked-withdraw : (a l : ℕ) → a ≡ fourAt feed (i + 1) → l ≡ getD feed (i + 5) 0
-      → HasUpdated 4 ws vs (withdraw a l) r → Asked ws (withdrawAt feed i) (saidReply r) vs
-  asked-withdraw a l ea el p = rw (← ea, ← el) (updated r p)
+  pub asked-withdraw : (a l f : ℕ) → a ≡ fourAt feed (i + 1) → l ≡ getD feed (i + 5) 0
+      → HasUpdated 4 ws vs (withdraw a l f) r → Asked ws (withdrawAt feed i f) (saidReply r) vs
+  asked-withdraw a l f ea el x = rw (← ea, ← el) (updated r x)
 
 pub asked-lookup : (ws : List ℕ) (r : Reply) (feed : List ℕ) (i a : ℕ) → a ≡ fourAt feed (i + 1)
     → saidReply r ≡ lookupOn 32 (seen 4 ws) (walk 4 ws a) a → Asked ws (lookupAt feed i) (saidReply r) ws
@@ -52,14 +52,20 @@ asked-lookup ws r feed i a e p = rw (← e) (looked r p)
 -- ---- by the kind
 
 module _ (feed : List ℕ) (i : ℕ) where
-  pub here-1 : getD feed i 0 ≡ 1 → here feed i ≡ announceAt feed i
+  pub here-1 : getD feed i 0 ≡ 1 → here feed i ≡ announceAt feed i 1 0
   here-1 e = rw e
 
-  pub here-2 : getD feed i 0 ≡ 2 → here feed i ≡ withdrawAt feed i
+  pub here-2 : getD feed i 0 ≡ 2 → here feed i ≡ withdrawAt feed i 1
   here-2 e = rw e
 
-  pub here-3 : getD feed i 0 ≢ 1 → getD feed i 0 ≢ 2 → here feed i ≡ lookupAt feed i
-  here-3 n m = rw (ne-eqb (getD feed i 0) 1 n, ne-eqb (getD feed i 0) 2 m)
+  pub here-3 : getD feed i 0 ≡ 3 → here feed i ≡ lookupAt feed i
+  here-3 e = rw e
+
+  pub here-4 : getD feed i 0 ≡ 4 → here feed i ≡ announceAt feed i (getD feed (i + 8) 0) (getD feed (i + 9) 0)
+  here-4 e = rw e
+
+  pub here-5 : getD feed i 0 ≡ 5 → here feed i ≡ withdrawAt feed i (getD feed (i + 6) 0)
+  here-5 e = rw e
 
 pub size-1 : (k : ℕ) → k ≡ 1 → 8 ≡ size k
 size-1 k e = rw e
@@ -70,8 +76,14 @@ size-2 k e = rw e
 pub size-3 : (k : ℕ) → k ≡ 3 → 5 ≡ size k
 size-3 k e = rw e
 
-pub size-0 : (k : ℕ) → k ≢ 1 → k ≢ 2 → k ≢ 3 → 1 ≡ size k
-size-0 k a b c = rw (ne-eqb k 1 a, ne-eqb k 2 b, ne-eqb k 3 c)
+pub size-4 : (k : ℕ) → k ≡ 4 → 10 ≡ size k
+size-4 k e = rw e
+
+pub size-5 : (k : ℕ) → k ≡ 5 → 7 ≡ size k
+size-5 k e = rw e
+
+pub size-0 : (k : ℕ) → k ≢ 1 → k ≢ 2 → k ≢ 3 → k ≢ 4 → k ≢ 5 → 1 ≡ size k
+size-0 k a b c d e = rw (ne-eqb k 1 a, ne-eqb k 2 b, ne-eqb k 3 c, ne-eqb k 4 d, ne-eqb k 5 e)
 
 -- a whole record has the bytes of its kind
 module _ (ws feed : List ℕ) (i : ℕ) (h : Asks ws feed i) where
@@ -84,8 +96,18 @@ module _ (ws feed : List ℕ) (i : ℕ) (h : Asks ws feed i) where
   pub asks-2 : getD feed i 0 ≡ 2 → IsTable (seen 4 ws) × (i + 6 ≤ length feed)
   asks-2 e = (h .isTable, omega (arith, h .body, size-2 (getD feed i 0) e))
 
-  pub asks-3 : getD feed i 0 ≢ 1 → getD feed i 0 ≢ 2 → IsTable (seen 4 ws) × (i + 5 ≤ length feed)
-  asks-3 n m = (h .isTable, omega (arith, h .body, h .kind, h .more, size-3 (getD feed i 0) (omega (arith, h .kind, h .more))))
+  pub asks-3 : getD feed i 0 ≡ 3 → IsTable (seen 4 ws) × (i + 5 ≤ length feed)
+  asks-3 e = (h .isTable, omega (arith, h .body, size-3 (getD feed i 0) e))
+
+  pub asks-4 : getD feed i 0 ≡ 4 → i + 10 ≤ length feed
+  asks-4 e = omega (arith, h .body, size-4 (getD feed i 0) e)
+
+  -- the kind that is left
+  pub last-kind : getD feed i 0 ≢ 1 → getD feed i 0 ≢ 2 → getD feed i 0 ≢ 3 → getD feed i 0 ≢ 4 → getD feed i 0 ≡ 5
+  last-kind a b c d = omega (arith, h .kind, h .more)
+
+  pub asks-5 : getD feed i 0 ≢ 1 → getD feed i 0 ≢ 2 → getD feed i 0 ≢ 3 → getD feed i 0 ≢ 4 → i + 7 ≤ length feed
+  asks-5 a b c d = omega (arith, h .body, size-5 (getD feed i 0) (last-kind a b c d))
 
 -- ---- what a stop consumes
 

@@ -13,14 +13,17 @@ use lib.ListN.{length, getD, take, drop, take-append-drop}
 use lib.Seq.{length-sets, length-take-le, drop-drop}
 use lib.Dec.{eqb}
 use Rattle.numbers.specs.Wrote.{Wrote}
-use Rattle.routes.specs.Route.{Route}
-use Rattle.routes.specs.Answers.{Reply, reply, replies, isDone, isRefused}
+use Rattle.routes.specs.Answers.{Reply, isDone, isRefused}
 use Rattle.routes.specs.Bytes.{replyBytes}
-use Rattle.routes.specs.Runs.{State, Ran as Outcome, size, tally, finish, halts, taken, runs, fresh, run, recordsFrom}
-use Rattle.routes.specs.Seen.{Seen, misfit, foreign, table, gives}
-use Rattle.laws.specs.Turns.{Clear, size-pos, halts-clear, runs-on, runs-stop, runs-enough}
-use Rattle.laws.specs.Taken.{ahead, records-stop, records-on}
+use Rattle.candidates.specs.Runs.{tally}
+use Rattle.routes.specs.Seen.{gives}
 use Rattle.laws.specs.Encoded.{reply-short}
+use Rattle.candidates.specs.Candidate.{Candidate}
+use Rattle.candidates.specs.Answers.{reply, replies}
+use Rattle.candidates.specs.Runs.{State, Ran as Outcome, size, ahead, finish, halts, taken, runs, fresh, run, recordsFrom}
+use Rattle.candidates.specs.Seen.{Seen, misfit, foreign, table}
+use Rattle.encoded.specs.Turns.{Clear, size-pos, halts-clear, runs-on, runs-stop, runs-enough}
+use Rattle.encoded.specs.Taken.{records-stop, records-on}
 use Rattle.words.specs.Table.{seen}
 use Rattle.words.specs.View.{seen-table, seen-cases}
 use Rattle.update.specs.Update.{refusalOf}
@@ -51,11 +54,11 @@ module _ (p : Progress) (ws feed b : List ℕ) (t : Takes p ws feed b) (n : ℕ)
   abbrev A : ℕ
   A = roomIn (seen 4 ws)
 
-  abbrev rs : List Route
-  rs = listIn (seen 4 ws)
+  abbrev cs : List Candidate
+  cs = listIn (seen 4 ws)
 
-  answer : Answered A rs (here feed (p .at)) r vs
-  answer = answered A rs (table-eq (seen 4 ws) (t .isTable)) asked
+  answer : Answered A cs (here feed (p .at)) r vs
+  answer = answered A cs (table-eq (seen 4 ws) (t .isTable)) asked
 
   fits : p .out + length (replyBytes r) ≤ length b
   fits = omega (arith, reply-short r, t .clear .free)
@@ -83,19 +86,19 @@ module _ (p : Progress) (ws feed b : List ℕ) (t : Takes p ws feed b) (n : ℕ)
         past = omega (arith, w .place);
       }
     where
-      said : r ≡ reply 32 A rs (here feed (p .at))
+      said : r ≡ reply 32 A cs (here feed (p .at))
       said = answer .answer
 
-      reps : take q c ≡ take (p .out) b ++ replyBytes (reply 32 A rs (here feed (p .at)))
+      reps : take q c ≡ take (p .out) b ++ replyBytes (reply 32 A cs (here feed (p .at)))
       reps = wrote-before b (p .out) (replyBytes r) q c fits w ∙ ap (λ z. take (p .out) b ++ replyBytes z) said
 
-      acc : p .accepted + x ≡ tally (isDone (reply 32 A rs (here feed (p .at)))) (p .accepted)
+      acc : p .accepted + x ≡ tally (isDone (reply 32 A cs (here feed (p .at)))) (p .accepted)
       acc =
           ap (λ (m : ℕ). p .accepted + m) ex
           ∙ one-tally (isDone r) (p .accepted)
           ∙ ap (λ z. tally (isDone z) (p .accepted)) said
 
-      ref : p .refused + y ≡ tally (isRefused (reply 32 A rs (here feed (p .at)))) (p .refused)
+      ref : p .refused + y ≡ tally (isRefused (reply 32 A cs (here feed (p .at)))) (p .refused)
       ref =
           ap (λ (m : ℕ). p .refused + m) ey
           ∙ one-tally (isRefused r) (p .refused)
@@ -248,7 +251,7 @@ module _ (ws₀ feed b₀ ws b : List ℕ) (p : Progress) (stop : ℕ) (g : Goin
       → Ahead (roomIn s) feed (length b₀) (fresh (listIn s)) ws₀ ws → HasRun ws₀ feed b₀ ws b (Stopped r)
   runs-as misfit e t r x a = absurd t
   runs-as foreign e t r x a = absurd t
-  runs-as (table A rs) e t r x a =
+  runs-as (table A cs) e t r x a =
       record {
         answer = rw e (ap gives (x .report));
         list = rw e (x .list);

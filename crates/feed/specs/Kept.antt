@@ -6,10 +6,11 @@ use mathlib.Core.List.{List, [], _∷_}
 use Prim.Native.Nat.{ℕ, _+_}
 use native.Mathlib.Omega.{arith}
 use lib.ListN.{length}
-use Rattle.routes.specs.Answers.{Record, Reply, done, found, none, refused, isDone, count}
-use Rattle.routes.specs.Runs.{run}
-use Rattle.routes.specs.Seen.{Seen, misfit, foreign, table, runOn, answersOn}
-use Rattle.laws.specs.Taken.{run-came}
+use Rattle.routes.specs.Answers.{Reply, done, found, none, refused, isDone, count}
+use Rattle.candidates.specs.Answers.{Record}
+use Rattle.candidates.specs.Runs.{run}
+use Rattle.candidates.specs.Seen.{Seen, misfit, foreign, table, runOn, answersOn}
+use Rattle.encoded.specs.Taken.{run-came}
 use Rattle.words.specs.Table.{seen}
 use Rattle.update.specs.Refuse.{unaccepted}
 use Rattle.feed.specs.Series.{Asked, updated, looked, Series, nothing, more}
@@ -48,12 +49,12 @@ accepted-count : (s : Seen) (feed b : List ℕ) (r : Ran) → runAnswer r ≡ re
     → acceptedBy r ≡ count isDone (answersOn s feed b)
 accepted-count misfit feed b (Stopped r) e = let z : _≡_ {A = ℕ} 0 1 = cc in absurd (omega arith)
 accepted-count foreign feed b (Stopped r) e = let z : _≡_ {A = ℕ} 0 1 = cc in absurd (omega arith)
-accepted-count (table A rs) feed b (Stopped r) e =
-    let n : r .accepted ≡ run A rs feed (length b) .end .accepted = cc in
-    omega (arith, n, run-came A rs feed (length b) .accepted)
+accepted-count (table A cs) feed b (Stopped r) e =
+    let n : r .accepted ≡ run A cs feed (length b) .end .accepted = cc in
+    omega (arith, n, run-came A cs feed (length b) .accepted)
 accepted-count misfit feed b (Refused n) e = refl
 accepted-count foreign feed b (Refused n) e = refl
-accepted-count (table A rs) feed b (Refused n) e = let z : _≡_ {A = ℕ} 0 1 = cc in absurd (omega arith)
+accepted-count (table A cs) feed b (Refused n) e = let z : _≡_ {A = ℕ} 0 1 = cc in absurd (omega arith)
 
 -- nothing accepted, nothing changed
 pub unaccepted-kept : (ws feed b vs c : List ℕ) (r : Ran) → HasRun ws feed b vs c r → acceptedBy r ≡ 0 → vs ≡ ws

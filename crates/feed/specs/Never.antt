@@ -13,15 +13,16 @@ use lib.ListN.{length, getD, take, drop}
 use lib.Seq.{take-at}
 use Rattle.logic.specs.Cases.{bool}
 use Rattle.numbers.specs.Joined.{joined-append}
-use Rattle.routes.specs.Route.{Route, route, tooLong, stray, badHop, held}
+use Rattle.routes.specs.Route.{tooLong, stray, badHop}
 use Rattle.routes.specs.Match.{Match, longest}
 use Rattle.routes.specs.Match as match
-use Rattle.routes.specs.Cells.{cells}
-use Rattle.routes.specs.Answers.{Update, announce, withdraw, Record, update, lookup, Reply, done, found, none, refused}
-use Rattle.routes.specs.Answers.{lacking, reloaded, refuse, faulty, verdict, answer, matched, reply}
+use Rattle.routes.specs.Answers.{Reply, done, found, none, refused, refuse, lacking, matched}
 use Rattle.routes.specs.Bytes.{replyBytes, repliesBytes, replySize}
-use Rattle.routes.specs.Runs.{State, recordAt, halts, taken, runs, fresh, run}
-use Rattle.routes.specs.Seen.{Seen, misfit, foreign, table, runOn, repliedOn}
+use Rattle.candidates.specs.Candidate.{Candidate, badFeed, held}
+use Rattle.candidates.specs.Winners.{winners}
+use Rattle.candidates.specs.Answers.{Update, announce, withdraw, Record, update, lookup, faulty, verdict, answer, reply}
+use Rattle.candidates.specs.Runs.{State, ahead, halts, taken, runs, fresh, run}
+use Rattle.candidates.specs.Seen.{Seen, misfit, foreign, table, runOn, repliedOn}
 use Rattle.words.specs.Table.{seen}
 use Rattle.feed.specs.Runs.{runAnswer, reported, HasRun}
 use Rattle.feed.specs.Sharp.{writtenBy}
@@ -41,31 +42,31 @@ other-refuse : (n : ℕ) (b : Bool) (r : Reply) → n % 256 ≢ 2 → Other r �
 other-refuse n true r h o = h
 other-refuse n false r h o = o
 
-other-verdict : (W A : ℕ) (rs : List Route) (u : Update) → Other (verdict W A rs u)
-other-verdict W A rs (announce a l h) =
-    other-refuse 8 (lacking W A rs a l h) (done h (reloaded W rs a l h)) (λ e. omega arith) tt
-other-verdict W A rs (withdraw a l) =
-    other-refuse 7 (eqb (held rs a l) 0) (done (held rs a l) (cells W (route a l 0) rs)) (λ e. omega arith) tt
+other-verdict : (W A : ℕ) (cs : List Candidate) (u : Update) → Other (verdict W A cs u)
+other-verdict W A cs (announce a l h f p) = other-refuse 8 (lacking W A (winners cs) a l h) _ (λ e. omega arith) tt
+other-verdict W A cs (withdraw a l f) = other-refuse 7 (eqb (held cs a l f) 0) _ (λ e. omega arith) tt
 
 other-faulty : (W : ℕ) (u : Update) (r : Reply) → Other r → Other (faulty W u r)
-other-faulty W (announce a l h) r o =
+other-faulty W (announce a l h f p) r o =
     other-refuse 3 (tooLong W l) _ (λ e. omega arith)
-    (other-refuse 4 (stray W a l) _ (λ e. omega arith) (other-refuse 5 (badHop h) r (λ e. omega arith) o))
-other-faulty W (withdraw a l) r o =
-    other-refuse 3 (tooLong W l) _ (λ e. omega arith) (other-refuse 4 (stray W a l) r (λ e. omega arith) o)
+    (other-refuse 4 (stray W a l) _ (λ e. omega arith)
+    (other-refuse 5 (badHop h) _ (λ e. omega arith) (other-refuse 10 (badFeed f) r (λ e. omega arith) o)))
+other-faulty W (withdraw a l f) r o =
+    other-refuse 3 (tooLong W l) _ (λ e. omega arith)
+    (other-refuse 4 (stray W a l) _ (λ e. omega arith) (other-refuse 10 (badFeed f) r (λ e. omega arith) o))
 
 other-matched : (m : Match) (q : ℕ) → Other (matched m q)
 other-matched match.none q = tt
 other-matched (match.found h l) q = tt
 
 -- whatever the table, the list and the record
-pub reply-other : (W A : ℕ) (rs : List Route) (x : Record) → Other (reply W A rs x)
+pub reply-other : (W A : ℕ) (cs : List Candidate) (x : Record) → Other (reply W A cs x)
 unfolding answer
-reply-other W A rs (update u) = other-faulty W u (verdict W A rs u) (other-verdict W A rs u)
-reply-other W A rs (lookup a) = other-matched (longest W a rs) _
+reply-other W A cs (update u) = other-faulty W u (verdict W A cs u) (other-verdict W A cs u)
+reply-other W A cs (lookup a) = other-matched (longest W a (winners cs)) _
 
-pub reply-never : (W A : ℕ) (rs : List Route) (x : Record) → reply W A rs x ≢ refused 2
-reply-never W A rs x e = (rw e at (reply-other W A rs x)) refl
+pub reply-never : (W A : ℕ) (cs : List Candidate) (x : Record) → reply W A cs x ≢ refused 2
+reply-never W A cs x e = (rw e at (reply-other W A cs x)) refl
 
 -- ---- the replies of a run
 
@@ -111,14 +112,14 @@ runs-replied (suc n) A feed room s p =
     h = halts feed room (s .consumed) (length (s .replies))
 
     x : Record
-    x = recordAt feed (s .consumed) (getD feed (s .consumed) 0)
+    x = ahead feed s
 
     y : Reply
     y = reply 32 A (s .list) x
 
-pub run-replied : (A : ℕ) (rs : List Route) (feed : List ℕ) (room : ℕ) → Replied (run A rs feed room .end .replies)
-run-replied A rs feed room =
-    runs-replied (length feed) A feed room (fresh rs) (record { replies = []; bytes = refl; others = tt })
+pub run-replied : (A : ℕ) (cs : List Candidate) (feed : List ℕ) (room : ℕ) → Replied (run A cs feed room .end .replies)
+run-replied A cs feed room =
+    runs-replied (length feed) A feed room (fresh cs) (record { replies = []; bytes = refl; others = tt })
 
 -- ---- bytes read back as replies
 
@@ -180,10 +181,10 @@ written : (s : Seen) (feed b : List ℕ) (r : Ran) → runAnswer r ≡ reported 
 written s feed b (Refused n) e = record { replies = []; bytes = refl; others = tt }
 written misfit feed b (Stopped r) e = let z : _≡_ {A = ℕ} 0 1 = cc in absurd (omega arith)
 written foreign feed b (Stopped r) e = let z : _≡_ {A = ℕ} 0 1 = cc in absurd (omega arith)
-written (table A rs) feed b (Stopped r) e =
-    let xs = run A rs feed (length b) .end .replies in
+written (table A cs) feed b (Stopped r) e =
+    let xs = run A cs feed (length b) .end .replies in
     let n : r .written ≡ length xs = cc in
-    rw (n, take-at xs (drop (length xs) b) (length xs) refl) (run-replied A rs feed (length b))
+    rw (n, take-at xs (drop (length xs) b) (length xs) refl) (run-replied A cs feed (length b))
 
 -- they are replies, each a list's answer
 pub replied : (ws feed b vs c : List ℕ) (r : Ran) → HasRun ws feed b vs c r → Replied (take (writtenBy r) c)

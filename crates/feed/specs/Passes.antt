@@ -6,8 +6,9 @@ use mathlib.Core.Path.{_≡_, refl}
 use mathlib.Core.List.{List}
 use Prim.Native.Nat.{ℕ}
 use native.Mathlib.Omega.{arith}
-use Rattle.routes.specs.Answers.{Record, Reply}
-use Rattle.routes.specs.Seen.{Seen, misfit, foreign, table}
+use Rattle.routes.specs.Answers.{Reply}
+use Rattle.candidates.specs.Answers.{Record}
+use Rattle.candidates.specs.Seen.{Seen, misfit, foreign, table}
 use Rattle.words.specs.Table.{seen}
 use Rattle.update.specs.Passes.{Passes, seen-passes, update-passes}
 use Rattle.feed.specs.Series.{Asked, updated, looked, Series, nothing, more}
@@ -35,4 +36,4 @@ run-passes ws feed b vs c r p = series-passes (p .series) (go (seen 4 ws) refl)
     go : (s : Seen) → seen 4 ws ≡ s → Passes ws
     go misfit e = absurd (let q = rw e at (p .answer) in let z : _≡_ {A = ℕ} 0 1 = cc in omega arith)
     go foreign e = absurd (let q = rw e at (p .answer) in let z : _≡_ {A = ℕ} 0 1 = cc in omega arith)
-    go (table A rs) e = seen-passes ws A rs e
+    go (table A cs) e = seen-passes ws A cs e

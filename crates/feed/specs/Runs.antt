@@ -4,8 +4,9 @@ use mathlib.Core.Path.{_≡_}
 use mathlib.Core.List.{List}
 use Prim.Native.Nat.{ℕ}
 use lib.ListN.{length}
-use Rattle.routes.specs.Runs.{Ran as Outcome}
-use Rattle.routes.specs.Seen.{Answer, gives, refuses, runOn, ranOn, repliedOn, recordsOn, answersOn}
+use Rattle.routes.specs.Seen.{Answer, gives, refuses}
+use Rattle.candidates.specs.Runs.{Ran as Outcome}
+use Rattle.candidates.specs.Seen.{runOn, ranOn, repliedOn, recordsOn, answersOn}
 use Rattle.words.specs.Table.{seen}
 use Rattle.feed.specs.Series.{Series}
 use Rattle.feed.specs.declared.Report.{Report}

@@ -1,15 +1,16 @@
 -- Calls one after the other on lent words, each known by its promise alone: on a table they are answered as its list answers
 -- them. A lookup leaves every word, an update those that its own promise says. Assumes nothing.
 --
---     words    ws ──▶ . ──▶ . ──▶ vs         seen as table A rs first, and as table A of what the records leave last
+--     words    ws ──▶ . ──▶ . ──▶ vs         seen as table A cs first, and as table A of what the records leave last
 --     calls       x₁    x₂    x₃             announce, withdraw or lookup
 --     answers     y₁    y₂    y₃
 use mathlib.Core.Path.{_≡_, refl, ap₂}
 use mathlib.Core.List.{List, [], _∷_}
 use Prim.Native.Nat.{ℕ}
-use Rattle.routes.specs.Route.{Route}
-use Rattle.routes.specs.Answers.{Update, Record, update, lookup, Reply, reply, next, replies, leaves}
-use Rattle.routes.specs.Seen.{table, lookupOn}
+use Rattle.routes.specs.Answers.{Reply}
+use Rattle.candidates.specs.Candidate.{Candidate}
+use Rattle.candidates.specs.Answers.{Update, Record, update, lookup, reply, next, replies, leaves}
+use Rattle.candidates.specs.Seen.{table, lookupOn}
 use Rattle.words.specs.Table.{seen}
 use Rattle.replies.specs.Said.{saidReply}
 use Rattle.replies.specs.declared.Reply as code
@@ -29,23 +30,23 @@ pub data Series : List ℕ → List Record → List Reply → List ℕ → Type 
       → Asked ws x y vs → Series vs xs ys us → Series ws (x ∷ xs) (y ∷ ys) us
 
 module _ (A : ℕ) where
-  pub record Answered (rs : List Route) (x : Record) (y : Reply) (vs : List ℕ) : Type 0 where
-    pub answer : y ≡ reply 32 A rs x
-    pub list : seen 4 vs ≡ table A (next 32 A rs x)
+  pub record Answered (cs : List Candidate) (x : Record) (y : Reply) (vs : List ℕ) : Type 0 where
+    pub answer : y ≡ reply 32 A cs x
+    pub list : seen 4 vs ≡ table A (next 32 A cs x)
 
-  pub answered : (rs : List Route) {ws vs : List ℕ} {x : Record} {y : Reply} → seen 4 ws ≡ table A rs → Asked ws x y vs
-      → Answered rs x y vs
-  answered rs t (updated r p) = record { answer = rw t at (p .answer); list = rw t at (p .list) }
-  answered rs t (looked r p) = record { answer = rw t at p; list = t }
+  pub answered : (cs : List Candidate) {ws vs : List ℕ} {x : Record} {y : Reply} → seen 4 ws ≡ table A cs → Asked ws x y vs
+      → Answered cs x y vs
+  answered cs t (updated r p) = record { answer = rw t at (p .answer); list = rw t at (p .list) }
+  answered cs t (looked r p) = record { answer = rw t at p; list = t }
 
-  pub record AllAnswered (rs : List Route) (xs : List Record) (ys : List Reply) (vs : List ℕ) : Type 0 where
-    pub answers : ys ≡ replies 32 A rs xs
-    pub list : seen 4 vs ≡ table A (leaves 32 A rs xs)
+  pub record AllAnswered (cs : List Candidate) (xs : List Record) (ys : List Reply) (vs : List ℕ) : Type 0 where
+    pub answers : ys ≡ replies 32 A cs xs
+    pub list : seen 4 vs ≡ table A (leaves 32 A cs xs)
 
-  pub all-answered : (rs : List Route) {ws vs : List ℕ} {xs : List Record} {ys : List Reply} → seen 4 ws ≡ table A rs
-      → Series ws xs ys vs → AllAnswered rs xs ys vs
-  all-answered rs t nothing = record { answers = refl; list = t }
-  all-answered rs t (more {x = x} a s) =
-      let h = answered rs t a in
-      let n = all-answered (next 32 A rs x) (h .list) s in
+  pub all-answered : (cs : List Candidate) {ws vs : List ℕ} {xs : List Record} {ys : List Reply} → seen 4 ws ≡ table A cs
+      → Series ws xs ys vs → AllAnswered cs xs ys vs
+  all-answered cs t nothing = record { answers = refl; list = t }
+  all-answered cs t (more {x = x} a s) =
+      let h = answered cs t a in
+      let n = all-answered (next 32 A cs x) (h .list) s in
       record { answers = ap₂ _∷_ (h .answer) (n .answers); list = n .list }

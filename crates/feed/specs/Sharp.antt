@@ -6,8 +6,8 @@ use Prim.Native.Nat.{ℕ, _≤_}
 use native.Mathlib.Omega.{arith}
 use lib.ListN.{length, drop, length-append, length-drop}
 use lib.Seq.{drop-at}
-use Rattle.routes.specs.Seen.{Seen, misfit, foreign, table, runOn, repliedOn}
-use Rattle.routes.specs.Runs.{run}
+use Rattle.candidates.specs.Runs.{run}
+use Rattle.candidates.specs.Seen.{Seen, misfit, foreign, table, runOn, repliedOn}
 use Rattle.words.specs.Table.{seen}
 use Rattle.feed.specs.Runs.{runAnswer, reported, HasRun}
 use Rattle.feed.specs.declared.Ran.{Ran}
@@ -50,11 +50,11 @@ untouched : (s : Seen) (feed b : List ℕ) (r : Ran) → runAnswer r ≡ reporte
     → drop (writtenBy r) (repliedOn s feed b) ≡ drop (writtenBy r) b
 untouched misfit feed b r e = refl
 untouched foreign feed b r e = refl
-untouched (table A rs) feed b (Stopped r) e =
-    let xs = run A rs feed (length b) .end .replies in
+untouched (table A cs) feed b (Stopped r) e =
+    let xs = run A cs feed (length b) .end .replies in
     let n : r .written ≡ length xs = cc in
     rw n (drop-at xs (drop (length xs) b) (length xs) refl)
-untouched (table A rs) feed b (Refused n) e = let z : _≡_ {A = ℕ} 0 1 = cc in absurd (omega arith)
+untouched (table A cs) feed b (Refused n) e = let z : _≡_ {A = ℕ} 0 1 = cc in absurd (omega arith)
 
 pub stays : (ws feed b vs c : List ℕ) (r : Ran) → HasRun ws feed b vs c r → drop (writtenBy r) c ≡ drop (writtenBy r) b
 stays ws feed b vs c r p = ap (drop (writtenBy r)) (p .replies) ∙ untouched (seen 4 ws) feed b r (p .answer)
@@ -66,8 +66,8 @@ fitting : (s : Seen) (feed b : List ℕ) (r : Ran) → runAnswer r ≡ reported 
 fitting s feed b (Refused n) e l = omega arith
 fitting misfit feed b (Stopped r) e l = let z : _≡_ {A = ℕ} 0 1 = cc in absurd (omega arith)
 fitting foreign feed b (Stopped r) e l = let z : _≡_ {A = ℕ} 0 1 = cc in absurd (omega arith)
-fitting (table A rs) feed b (Stopped r) e l =
-    let xs = run A rs feed (length b) .end .replies in
+fitting (table A cs) feed b (Stopped r) e l =
+    let xs = run A cs feed (length b) .end .replies in
     let n : r .written ≡ length xs = cc in
     omega (arith, length-append xs (drop (length xs) b), length-drop (length xs) b)
 

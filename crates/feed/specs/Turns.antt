@@ -5,12 +5,13 @@ use mathlib.Core.Bool.{Bool, cond}
 use mathlib.Core.List.{List, []}
 use Prim.Native.Nat.{ℕ, _+_, _≤_, _<_}
 use lib.ListN.{length, getD, take, drop}
-use Rattle.routes.specs.Route.{Route}
-use Rattle.routes.specs.Answers.{Record, update, announce, withdraw, lookup, reply}
 use Rattle.numbers.specs.Digits.{twoAt, fourAt}
-use Rattle.routes.specs.Runs.{State, size, recordAt, taken}
-use Rattle.routes.specs.Seen.{Seen, misfit, foreign, table}
-use Rattle.laws.specs.Turns.{Clear}
+use Rattle.candidates.specs.Candidate.{Candidate}
+use Rattle.candidates.specs.Answers.{Record, update, announce, withdraw, lookup, reply}
+use Rattle.candidates.specs.Bytes.{means}
+use Rattle.candidates.specs.Runs.{State, size, sentAt, taken}
+use Rattle.candidates.specs.Seen.{Seen, misfit, foreign, table}
+use Rattle.encoded.specs.Turns.{Clear}
 use Rattle.words.specs.Table.{seen}
 use Rattle.feed.specs.Series.{Asked}
 use Rattle.feed.specs.declared.Progress.{Progress}
@@ -20,38 +21,38 @@ use Rattle.feed.specs.declared.Progress.{Progress}
 abbrev pub IsTable : Seen → Type 0
 IsTable misfit = ⊥
 IsTable foreign = ⊥
-IsTable (table A rs) = Unit {0}
+IsTable (table A cs) = Unit {0}
 
 abbrev pub roomIn : Seen → ℕ
 roomIn misfit = 0
 roomIn foreign = 0
-roomIn (table A rs) = A
+roomIn (table A cs) = A
 
-abbrev pub listIn : Seen → List Route
+abbrev pub listIn : Seen → List Candidate
 listIn misfit = []
 listIn foreign = []
-listIn (table A rs) = rs
+listIn (table A cs) = cs
 
 -- ---- a record
 
--- those of each kind that begin at i
-abbrev pub announceAt : List ℕ → ℕ → Record
-announceAt feed i = update (announce (fourAt feed (i + 1)) (getD feed (i + 5) 0) (twoAt feed (i + 6)))
+-- those that begin at i: an announcement from feed f with preference p, a withdrawal from feed f, a lookup
+abbrev pub announceAt : List ℕ → ℕ → ℕ → ℕ → Record
+announceAt feed i f p = update (announce (fourAt feed (i + 1)) (getD feed (i + 5) 0) (twoAt feed (i + 6)) f p)
 
-abbrev pub withdrawAt : List ℕ → ℕ → Record
-withdrawAt feed i = update (withdraw (fourAt feed (i + 1)) (getD feed (i + 5) 0))
+abbrev pub withdrawAt : List ℕ → ℕ → ℕ → Record
+withdrawAt feed i f = update (withdraw (fourAt feed (i + 1)) (getD feed (i + 5) 0) f)
 
 abbrev pub lookupAt : List ℕ → ℕ → Record
 lookupAt feed i = lookup (fourAt feed (i + 1))
 
 -- the record that begins at i
 abbrev pub here : List ℕ → ℕ → Record
-here feed i = recordAt feed i (getD feed i 0)
+here feed i = means (sentAt feed i (getD feed i 0))
 
 -- what is asked for before the record at i is answered: a whole record that is no end
 pub record Asks (ws feed : List ℕ) (i : ℕ) : Type 0 where
   pub isTable : IsTable (seen 4 ws)
-  pub kind : getD feed i 0 ≤ 3
+  pub kind : getD feed i 0 ≤ 5
   pub more : 1 ≤ getD feed i 0
   pub body : i + size (getD feed i 0) ≤ length feed
 

@@ -7,7 +7,7 @@ ghost use lib.Dec.{eqb};
 ghost use Rattle.numbers.specs.Wrote.{Wrote};
 ghost use Rattle.routes.specs.Answers.{isDone, isRefused};
 ghost use Rattle.routes.specs.Bytes.{replyBytes};
-ghost use Rattle.routes.specs.Runs.{size as sizeOf, halts};
+ghost use Rattle.candidates.specs.Runs.{size as sizeOf, halts};
 ghost use Rattle.words.specs.Table.{seen};
 ghost use Rattle.replies.specs.Said.{saidReply};
 ghost use Rattle.feed.specs.Runs.{HasRun};
@@ -96,7 +96,7 @@ impl Progress {
             return 1;
         }
         let kind = feed[at];
-        if kind > 3 {
+        if kind > 5 {
             return 2;
         }
         let n = size(kind);
@@ -147,41 +147,64 @@ pub fn size(kind: u8) -> usize
     if kind == 3 {
         return 5;
     }
+    if kind == 4 {
+        return 10;
+    }
+    if kind == 5 {
+        return 7;
+    }
     1
 }
 
-// Answers the record at `at`.
+// Answers the record at `at`. Kinds 1 and 2 are those of feed 1, with preference 0.
 fn ask(words: &mut [u32], feed: &[u8], at: usize) -> Reply
     requires { ⌜ Asks (now words) (now feed) at ⌝ }
     ensures { λ r. ⌜ Asked (now (words .entry)) (here (now (feed .entry)) at) (saidReply r) (now (words .exit)) ⌝ }
 {
     let kind = feed[at];
     if kind == 1 {
-        return announce(words, feed, at);
+        return announce(words, feed, at, 1, 0);
     }
     if kind == 2 {
-        return withdraw(words, feed, at);
+        return withdraw(words, feed, at, 1);
     }
-    lookup(words, feed, at)
+    if kind == 3 {
+        return lookup(words, feed, at);
+    }
+    if kind == 4 {
+        let from = feed[at + 8];
+        let preference = feed[at + 9];
+        return announce(words, feed, at, from, preference);
+    }
+    let from = feed[at + 6];
+    withdraw(words, feed, at, from)
 }
 
-// Answers the announcement at `at`.
-fn announce(words: &mut [u32], feed: &[u8], at: usize) -> Reply
+// Answers the announcement at `at`, from a feed and with a preference.
+fn announce(words: &mut [u32], feed: &[u8], at: usize, from: u8, preference: u8) -> Reply
     requires { ⌜ IsTable (seen 4 (now words)) × (at + 8 ≤ length (now feed)) ⌝ }
-    ensures { λ r. ⌜ Asked (now (words .entry)) (announceAt (now (feed .entry)) at) (saidReply r) (now (words .exit)) ⌝ }
+    ensures { λ r. ⌜ Asked (now (words .entry)) (announceAt (now (feed .entry)) at from preference)
+        (saidReply r) (now (words .exit)) ⌝ }
 {
     let length = feed[at + 5] as u32;
     let hop = numbers::two_at(feed, at + 6);
-    update::announce_on(words, &feed[at + 1..at + 5], length, hop)
+    update::announce_on(
+        words,
+        &feed[at + 1..at + 5],
+        length,
+        hop,
+        from as u32,
+        preference,
+    )
 }
 
-// Answers the withdrawal at `at`.
-fn withdraw(words: &mut [u32], feed: &[u8], at: usize) -> Reply
+// Answers the withdrawal at `at`, from a feed.
+fn withdraw(words: &mut [u32], feed: &[u8], at: usize, from: u8) -> Reply
     requires { ⌜ IsTable (seen 4 (now words)) × (at + 6 ≤ length (now feed)) ⌝ }
-    ensures { λ r. ⌜ Asked (now (words .entry)) (withdrawAt (now (feed .entry)) at) (saidReply r) (now (words .exit)) ⌝ }
+    ensures { λ r. ⌜ Asked (now (words .entry)) (withdrawAt (now (feed .entry)) at from) (saidReply r) (now (words .exit)) ⌝ }
 {
     let length = feed[at + 5] as u32;
-    update::withdraw_on(words, &feed[at + 1..at + 5], length)
+    update::withdraw_on(words, &feed[at + 1..at + 5], length, from as u32)
 }
 
 // Answers the lookup at `at`.

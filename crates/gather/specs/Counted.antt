@@ -7,12 +7,12 @@ use native.Mathlib.Omega.{arith}
 use lib.Dec.{eqb}
 use lib.ListN.{length, length-append}
 use Rattle.logic.specs.Cases.{bool}
-use Rattle.sizes.specs.Sizes.{lastSlot}
+use Rattle.sizes.specs.Sizes.{slotWords, lastSlot}
 use Rattle.routes.specs.Collect.{own, collect, routes}
-use Rattle.array.specs.Taken.{taken}
+use Rattle.slots.specs.Taken.{taken}
 use Rattle.tree.specs.Shape.{Shape}
 use Rattle.tree.specs.Taken.{First, takenIn, takenTo, taken-routes}
-use Rattle.slots.specs.Word.{slotWords, IsFeed}
+use Rattle.slots.specs.Word.{IsFeed}
 use Rattle.slots.specs.Slot.{won-free}
 use Rattle.slots.specs.Count.{sumFeeds}
 use Rattle.gather.specs.Gather.{meant, listed, ofFeeds, ofSlot, gather, gathered}
@@ -20,7 +20,7 @@ use Rattle.gather.specs.Views.{FeedArrays, feedView, wonView, wordHeld, 
 
 -- ---- sums over feeds
 
-sum-same : (a b : ℕ → ℕ) (f n : ℕ) → ((j : ℕ) → f ≤ j → j < f + n → a j ≡ b j) → sumFeeds a f n ≡ sumFeeds b f n
+pub sum-same : (a b : ℕ → ℕ) (f n : ℕ) → ((j : ℕ) → f ≤ j → j < f + n → a j ≡ b j) → sumFeeds a f n ≡ sumFeeds b f n
 unfolding sumFeeds
 sum-same a b f zero e = refl
 sum-same a b f (suc n) e =

@@ -6,13 +6,14 @@ use mathlib.Core.Option.{none, some}
 use Prim.Native.Nat.{ℕ, zero, suc, _+_, _-_, _*_, _^_, _≤_, _<_}
 use native.Mathlib.Nat.{le-refl, pow-succ'}
 use native.Mathlib.Omega.{arith}
+use Rattle.sizes.specs.Sizes.{slotWords}
 use Rattle.logic.specs.Cases.{same, less}
 use Rattle.laws.specs.Collect.{dbl, key-ge, key-lt}
 use Rattle.candidates.specs.Keyed.{Ordered, find, put, cut}
 use Rattle.candidates.specs.Candidate.{Candidate, place, key}
 use Rattle.rivals.specs.Maps.{weaken, put-ordered, cut-ordered, find-below, put-same, put-other, cut-same, cut-other, ext}
 use Rattle.rivals.specs.Append.{orElse, else-none, Inside, inside-ordered, inside-weaken, inside-append, find-append, find-above}
-use Rattle.slots.specs.Word.{slotWords, IsFeed}
+use Rattle.slots.specs.Word.{IsFeed}
 use Rattle.gather.specs.Gather.{meant, listed, ofFeeds, ofSlot, gather, gathered, base}
 use Rattle.gather.specs.Gather.{one-miss, slot-inside, slot-hit, slot-miss}
 

@@ -9,12 +9,12 @@ use Prim.Native.Nat.{ℕ, zero, suc, _+_, _*_, _^_, _≤_, _<_}
 use native.Mathlib.Nat.{le-refl}
 use native.Mathlib.Omega.{arith}
 use Rattle.logic.specs.Cases.{same}
-use Rattle.sizes.specs.Sizes.{hopBound}
+use Rattle.sizes.specs.Sizes.{slotWords, hopBound}
 use Rattle.candidates.specs.Keyed.{find, Every}
 use Rattle.candidates.specs.Candidate.{Candidate, candidate, key}
 use Rattle.rivals.specs.Maps.{find-head, find-skip, find-below}
 use Rattle.rivals.specs.Append.{orElse, else-none, every-append, Inside, inside-ordered, inside-append, find-append, find-above}
-use Rattle.slots.specs.Word.{slotWords, IsFeed, preferenceIn, hopIn, wordOf, preference-of, hop-of}
+use Rattle.slots.specs.Word.{IsFeed, preferenceIn, hopIn, wordOf, preference-of, hop-of}
 
 -- ---- of one slot
 

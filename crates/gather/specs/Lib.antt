@@ -4,3 +4,4 @@ pub mod Winning
 pub mod Views
 pub mod WordSet
 pub mod Counted
+pub mod Hung

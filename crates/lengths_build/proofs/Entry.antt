@@ -11,7 +11,9 @@ use Rattle.logic.specs.Cases.{same}
 use Rattle.logic.specs.Bools.{not-true, not-false}
 use Rattle.lengths.specs.Way.{miss, hit, outside}
 use Rattle.lengths.specs.Marks.{bestAt}
-use Rattle.listing.specs.Listed.{routeAt, listOf}
+use Rattle.rivals.specs.Won.{winners-list}
+use Rattle.listing.specs.Listed.{candidateAt, candidatesIn, listOf}
+use Rattle.listing.specs.Winning.{winningAt}
 use Rattle.laws.specs.Longest.{wfs}
 use Rattle.lengths.specs.Layout.{Places, placesOf, start, place, look, find}
 use Rattle.lengths.specs.Hash.{start-lt, place-lt, place-met, Room, Free}
@@ -120,18 +122,19 @@ module _ (ws : List ℕ) (m v : ℕ) where
 -- ---- the best match of a head
 
 module _ (bs ws : List ℕ) (i m v : ℕ) (b : Bests bs ws i m v) where
-  pub of-route : (l h : ℕ) → l ≡ routeAt bs i .len → h ≡ routeAt bs i .hop → l ≡ m → h * 256 + m ≡ bestAt (listOf bs) m v
+  pub of-route : (l h : ℕ) → l ≡ candidateAt bs i .len → h ≡ winningAt bs i → l ≡ m → h * 256 + m ≡ bestAt (listOf bs) m v
   of-route l h e f q = rw f (best-own bs (b .list) i (b .here) m v (b .most) (sym e ∙ q) (b .value))
 
-  pub of-marker : (l r : ℕ) → l ≡ routeAt bs i .len → l ≢ m → r ≡ below ws m v (m - 1) → r ≡ bestAt (listOf bs) m v
+  pub of-marker : (l r : ℕ) → l ≡ candidateAt bs i .len → l ≢ m → r ≡ below ws m v (m - 1) → r ≡ bestAt (listOf bs) m v
   of-marker l r e n q =
-      q ∙ best-marker (listOf bs) (wfs 32 (listOf bs) (b .list .routes)) ws (length ws) m v (omega arith) (b .most) (b .built)
+      q ∙ best-marker (listOf bs) (wfs 32 (listOf bs) (winners-list 32 (candidatesIn bs) (b .list) .routes)) ws (length ws) m v
+      (omega arith) (b .most) (b .built)
       (rw (b .value) (head-fits bs (b .list) i (b .here) m (b .most))) (b .few) (b .marker (λ z. n (e ∙ z)))
 
 -- ---- a record entered
 
 module _ (k : Bool) (bs ws : List ℕ) (i m o p : ℕ) (f : Filling k bs ws (i + 1) m o p) where
-  module _ (c : chosen k m (routeAt bs i .len) ≡ true) (x : ℕ) (xe : x ≡ routeAt bs i .addr / 2 ^ (32 - m)) (b : Bool)
+  module _ (c : chosen k m (candidateAt bs i .len) ≡ true) (x : ℕ) (xe : x ≡ candidateAt bs i .addr / 2 ^ (32 - m)) (b : Bool)
       (e : b ≡ isMiss (find (placesOf ws o) m p x)) where
     pub enter-again : not b ≡ true → Filled k bs ws ws i m o p
     enter-again n =

@@ -8,13 +8,13 @@ use native.Mathlib.Omega.{arith}
 use lib.ListN.{length, getD, set, length-set}
 use lib.Seq.{getD-set-same, getD-set-other}
 use Rattle.logic.specs.Cases.{same}
-use Rattle.listing.specs.Listed.{routeAt, listOf}
+use Rattle.listing.specs.Listed.{recordsIn, candidateAt, listOf}
 use Rattle.lengths.specs.Layout.{headerWords, beginOf, sizeOf}
 use Rattle.lengths.specs.Laid.{table-same}
 use Rattle.lengths_build.specs.Filling.{Kept, Standing, chosen, Filling, Filled}
 use Rattle.lengths_build.specs.Fill.{kept-none, kept-join, standing-kept, standing-more, filling-skip, filling-start}
 use Rattle.lengths_build.specs.Fill.{filling-turn, filling-end}
-use Rattle.listing.specs.Records.{route-of}
+use Rattle.listing.specs.Records.{candidate-of}
 use Rattle.lengths_build.specs.Build.{Cleared, Headed, Makes, Made}
 
 -- ---- four words of the header
@@ -106,16 +106,16 @@ module _ (k : Bool) (bs : List ℕ) (m o p : ℕ) where
   fill-at ws i j e f = rw e f
 
   -- the lengths that a record's test asks for
-  pub fill-asks : (ws : List ℕ) (i j l : ℕ) → j + 1 ≡ i → Filling k bs ws i m o p → l ≡ routeAt bs j .len
+  pub fill-asks : (ws : List ℕ) (i j l : ℕ) → j + 1 ≡ i → Filling k bs ws i m o p → l ≡ candidateAt bs j .len
       → (1 ≤ m) × (m ≤ 32) × (l ≤ 32)
-  fill-asks ws i j l e f q = (f .few, f .most, rw q (route-of bs (f .list) j (omega (arith, f .upto)) .wf .fits))
+  fill-asks ws i j l e f q = (f .few, f .most, rw q (candidate-of bs (f .list) j (omega (arith, f .upto)) .route .wf .fits))
 
   pub fill-join : (ws us vs : List ℕ) (i j : ℕ) → Filled k bs ws us i m o p → Filled k bs us vs j m o p
       → Filled k bs ws vs j m o p
   fill-join ws us vs i j f g = record { filling = g .filling; kept = kept-join ws us vs o (o + 4 * p) (f .kept) (g .kept) }
 
   pub fill-skip : (ws us : List ℕ) (i j : ℕ) → j + 1 ≡ i → Filled k bs ws us i m o p → (c : Bool)
-      → c ≡ chosen k m (routeAt bs j .len) → c ≡ false → Filled k bs ws us j m o p
+      → c ≡ chosen k m (candidateAt bs j .len) → c ≡ false → Filled k bs ws us j m o p
   fill-skip ws us i j e f c q z = record {
     filling = filling-skip k bs us j m o p (fill-at us i j e (f .filling)) c q z;
     kept = f .kept;
@@ -136,7 +136,7 @@ module _ (bs ws : List ℕ) (m o size : ℕ) (f : Makes bs ws m o size) (us : Li
 
   -- the passes ask that the table's words are cleared, and what is made that no other is
   module _ (vs : List ℕ) (to : ℕ) (r : o + 8 * size ≤ to) (c : Cleared us vs o to) where
-    pub make-first : Filling false bs vs (length bs / 8) m o (2 * size)
+    pub make-first : Filling false bs vs (recordsIn bs) m o (2 * size)
     make-first =
         filling-start bs vs m o (2 * size) (f .list) (f .few) (f .most) (f .low)
         (omega (arith, f .fits, h .kept .long, c .kept .long)) (rw (f .counts))
@@ -144,7 +144,7 @@ module _ (bs ws : List ℕ) (m o size : ℕ) (f : Makes bs ws m o size) (us : Li
         (λ i a b. c .zero i a (omega arith))
 
     module _ (xs : List ℕ) (g : Filled false bs vs xs 0 m o (2 * size)) where
-      pub make-second : Filling true bs xs (length bs / 8) m o (2 * size)
+      pub make-second : Filling true bs xs (recordsIn bs) m o (2 * size)
       make-second = filling-turn bs xs m o (2 * size) (g .filling)
 
       pub make-made : to ≤ o + 8 * size → (ys : List ℕ) → Filled true bs xs ys 0 m o (2 * size) → Made bs ws ys m (o + 8 * size)

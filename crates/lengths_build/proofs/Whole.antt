@@ -1,27 +1,30 @@
 -- All tables made, one length after the other, and what the call leaves and answers. Assumes nothing.
 use mathlib.Core.Path.{_≡_, refl, sym, _∙_}
 use mathlib.Core.Logic.{_≢_}
-use mathlib.Core.List.{List, _∷_}
+use mathlib.Core.List.{List}
 use Prim.Native.Nat.{ℕ, zero, suc, _+_, _-_, _*_, _/_, _^_, _≤_, _<_}
 use native.Mathlib.Omega.{arith}
 use lib.ListN.{length, getD, set, length-set}
 use lib.Seq.{getD-set-same, getD-set-other}
 use borrow.Author.Tests.{lt-ltb, le-ltb}
-use Rattle.routes.specs.Route.{Route, key, From, hopAt, IsList}
+use Rattle.routes.specs.Route.{Route}
+use Rattle.routes.specs.Route as routes
 use Rattle.routes.specs.Room.{distinct}
 use Rattle.routes.specs.Seen.{gives, refuses}
-use Rattle.laws.specs.Sorted.{hop-below}
 use Rattle.routes.specs.Match.{last}
 use Rattle.lengths.specs.Marks.{entries, bestAt, wordsFor, markers}
 use Rattle.lengths.specs.Entries.{entriesTo, entries-all}
-use Rattle.listing.specs.Listed.{routeAt, routesFrom, listOf, Listed, unlisted, listed, listedIn}
+use Rattle.candidates.specs.Candidate.{IsList}
+use Rattle.rivals.specs.Won.{winners-list}
+use Rattle.listing.specs.Listed.{recordsIn, candidateAt, candidatesFrom, candidatesIn, listOf, Listed, unlisted, listed, listedIn}
 use Rattle.lengths_build.specs.Answer.{needOn, buildOn}
-use Rattle.listing.specs.Records.{Bytes, records-length, head-fits}
-use Rattle.listing.specs.Written.{listed-list, listed-out}
+use Rattle.listing.specs.Records.{Bytes, head-fits}
+use Rattle.listing.specs.Winning.{winningAt}
+use Rattle.listing.specs.Written.{listed-list, listed-candidates}
 use Rattle.laws.specs.Longest.{wfs}
 use Rattle.lengths_build.specs.Filling.{Standing}
 use Rattle.lengths_build.specs.Fill.{standing-on}
-use Rattle.lengths_build.specs.Best.{best-own}
+use Rattle.lengths_build.specs.Best.{best-own, default-unheld}
 use Rattle.lengths.specs.Layout.{headerWords}
 use Rattle.lengths_build.specs.Build.{LeavesOn, Makes, Made, Starts, Ends}
 
@@ -38,7 +41,7 @@ to-le m zero rs = let e : m + 0 ≡ m = omega arith in rw e (omega arith)
 to-le m (suc d) rs = let e : m + suc d ≡ suc (m + d) = omega arith in rw e (omega (arith, to-le m d rs))
 
 -- those up to m fit the words needed
-to-fits : (m : ℕ) (rs : List Route) → m ≤ 32 → IsList 32 rs → headerWords + 8 * entriesTo m rs ≤ wordsFor rs
+to-fits : (m : ℕ) (rs : List Route) → m ≤ 32 → routes.IsList 32 rs → headerWords + 8 * entriesTo m rs ≤ wordsFor rs
 to-fits m rs h l =
     let e : m + (32 - m) ≡ 32 = omega arith in
     let a : entriesTo m rs ≤ entriesTo 32 rs = rw e at (to-le m (32 - m) rs) in
@@ -66,12 +69,15 @@ going-start bs ws s = record {
 }
 
 module _ (bs ws : List ℕ) (s : Starts bs ws) (us : List ℕ) (m o : ℕ) (g : Going bs ws us m o) where
+  won : routes.IsList 32 (listOf bs)
+  won = winners-list 32 (candidatesIn bs) (s .list)
+
   module _ (h : m ≤ 32) (size : ℕ) (e : size ≡ distinct (entries m (listOf bs))) where
     next : o + 8 * size ≡ headerWords + 8 * entriesTo m (listOf bs)
     next = omega (arith, g .at, to-step m (listOf bs) (g .few))
 
     pub going-fits : o + 8 * size ≤ length us
-    going-fits = omega (arith, next, to-fits m (listOf bs) h (s .list), s .room, g .long)
+    going-fits = omega (arith, next, to-fits m (listOf bs) h won, s .room, g .long)
 
     pub going-makes : Makes bs us m o size
     going-makes = record {
@@ -91,7 +97,7 @@ module _ (bs ws : List ℕ) (s : Starts bs ws) (us : List ℕ) (m o : ℕ) (g : 
       at = let q : m + 1 - 1 ≡ m = omega arith in rw q next;
       built = t .built;
       long = t .long ∙ g .long;
-      past = λ i k. t .past i (omega (arith, next, to-fits m (listOf bs) h (s .list))) (omega arith) ∙ g .past i k;
+      past = λ i k. t .past i (omega (arith, next, to-fits m (listOf bs) h won)) (omega arith) ∙ g .past i k;
     }
 
   pub going-end : 32 < m → Ends bs ws us
@@ -100,7 +106,7 @@ module _ (bs ws : List ℕ) (s : Starts bs ws) (us : List ℕ) (m o : ℕ) (g : 
       let z : m ≡ 33 = omega (arith, g .most) in
       let a : o ≡ headerWords + 8 * entriesTo 32 (listOf bs) = g .at ∙ rw q in
       let b = standing-on (listOf bs) us o (wordsFor (listOf bs)) m
-      (omega (arith, a, to-fits 32 (listOf bs) (omega arith) (s .list))) (g .built) in
+      (omega (arith, a, to-fits 32 (listOf bs) (omega arith) won)) (g .built) in
       record {
         laid = record {
           long = omega (arith, s .room, g .long);
@@ -113,26 +119,23 @@ module _ (bs ws : List ℕ) (s : Starts bs ws) (us : List ℕ) (m o : ℕ) (g : 
 
 -- ---- the default route
 
-pub default-empty : (bs : List ℕ) → length bs / 8 ≡ 0 → 0 ≡ bestAt (listOf bs) 0 0
-unfolding routesFrom last
-default-empty bs e = rw e
+module _ (bs : List ℕ) (n : ℕ) (en : n ≡ recordsIn bs) where
+  pub default-empty : n ≡ 0 → 0 ≡ bestAt (listOf bs) 0 0
+  unfolding candidatesFrom last
+  default-empty e = rw (sym en ∙ e)
 
--- keys from the first on are not 0, where its length is not
-none-held : (bs : List ℕ) (k : ℕ) → From 0 (routesFrom bs k 0) → 1 ≤ routeAt bs 0 .len → hopAt (routesFrom bs k 0) 0 ≡ 0
-unfolding routesFrom
-none-held bs zero f h = refl
-none-held bs (suc k) f h = hop-below (key (routeAt bs 0)) 0 (routeAt bs 0 ∷ routesFrom bs k 1) (omega arith, f .1) (omega arith)
+  module _ (s : IsList 32 (candidatesIn bs)) (some : n ≢ 0) (l : ℕ) (e : l ≡ candidateAt bs 0 .len) where
+    here : 0 < recordsIn bs
+    here = omega arith
 
-pub default-none : (bs : List ℕ) (l : ℕ) → IsList 32 (listOf bs) → l ≡ routeAt bs 0 .len → l ≢ 0 → 0 ≡ bestAt (listOf bs) 0 0
-unfolding last
-default-none bs l s e d = rw (none-held bs (length bs / 8) (s .sorted) (omega (arith, e)))
+    pub default-none : l ≢ 0 → 0 ≡ bestAt (listOf bs) 0 0
+    unfolding last
+    default-none d = rw (default-unheld bs s here (omega arith))
 
-pub default-held : (bs : List ℕ) (l h : ℕ) → IsList 32 (listOf bs) → length bs / 8 ≢ 0 → l ≡ routeAt bs 0 .len → l ≡ 0
-    → h ≡ routeAt bs 0 .hop → h * 256 ≡ bestAt (listOf bs) 0 0
-default-held bs l h s n e z q =
-    let k : 0 < length bs / 8 = omega arith in
-    let a : 0 ≡ routeAt bs 0 .addr / 2 ^ (32 - 0) = omega (arith, head-fits bs s 0 k 0 (omega arith)) in
-    omega (arith, q, best-own bs s 0 k 0 0 (omega arith) (sym e ∙ z) a)
+    pub default-held : (h : ℕ) → l ≡ 0 → h ≡ winningAt bs 0 → h * 256 ≡ bestAt (listOf bs) 0 0
+    default-held h z q =
+        let a : 0 ≡ candidateAt bs 0 .addr / 2 ^ (32 - 0) = omega (arith, head-fits bs s 0 here 0 (omega arith)) in
+        omega (arith, q, best-own bs s 0 here 0 0 (omega arith) (sym e ∙ z) a)
 
 -- ---- the call
 
@@ -177,8 +180,8 @@ module _ (bs ws : List ℕ) (n : ℕ) (g : Given bs n) where
         },
       )
 
-  pub build-list : Bytes bs → IsList 32 (listOf bs)
-  build-list b = listed-out bs b (listOf bs) (g .is) .list
+  pub build-list : Bytes bs → IsList 32 (candidatesIn bs)
+  build-list b = listed-candidates bs b (listOf bs) (g .is)
 
   pub build-starts : Bytes bs → (d : ℕ) → n ≤ length ws → d ≡ bestAt (listOf bs) 0 0 → Starts bs (set ws 0 d)
   build-starts b d h e = record {
@@ -187,13 +190,11 @@ module _ (bs ws : List ℕ) (n : ℕ) (g : Given bs n) where
     default = getD-set-same ws 0 d 0 (omega (arith, g .words)) ∙ e;
   }
 
-  pub build-built : (d : ℕ) (us : List ℕ) → n ≤ length ws → Ends bs (set ws 0 d) us
-      → (gives (record { routes = length bs / 8; markers = (n - headerWords) / 8 - length bs / 8 })
-      ≡ buildOn (listedIn bs) (length ws))
+  pub build-built : (d : ℕ) (us : List ℕ) (k : ℕ) → n ≤ length ws → Ends bs (set ws 0 d) us → k ≡ length (listOf bs)
+      → (gives (record { routes = k; markers = (n - headerWords) / 8 - k }) ≡ buildOn (listedIn bs) (length ws))
       × LeavesOn (listedIn bs) ws us
-  build-built d us h e =
-      let r : length (listOf bs) ≡ length bs / 8 = records-length bs (length bs / 8) 0 in
-      let m : (n - headerWords) / 8 - length bs / 8 ≡ markers (listOf bs) = omega (arith, g .words) in
+  build-built d us k h e r =
+      let m : (n - headerWords) / 8 - k ≡ markers (listOf bs) = omega (arith, g .words) in
       rw (g .is, le-ltb (length ws) (wordsFor (listOf bs)) (omega (arith, g .words)), m, r) (
         refl,
         record {
@@ -204,6 +205,5 @@ module _ (bs ws : List ℕ) (n : ℕ) (g : Given bs n) where
         },
       )
 
-  pub build-sub : (headerWords ≤ n) × (length bs / 8 ≤ (n - headerWords) / 8)
-  build-sub = let r : length (listOf bs) ≡ length bs / 8 = records-length bs (length bs / 8) 0 in
-      (omega (arith, g .words), omega (arith, g .words))
+  pub build-sub : (headerWords ≤ n) × ((k : ℕ) → k ≡ length (listOf bs) → k ≤ (n - headerWords) / 8)
+  build-sub = (omega (arith, g .words), λ k e. omega (arith, g .words))

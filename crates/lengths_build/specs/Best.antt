@@ -9,7 +9,7 @@ use lib.Dec.{eqb}
 use native.Mathlib.Nat.{div-eq-of-lt}
 use lib.Pow.{shr-shr}
 use borrow.Author.Tests.{le-leb}
-use Rattle.routes.specs.Route.{Route, IsList}
+use Rattle.routes.specs.Route.{Route, route, hopAt}
 use Rattle.routes.specs.Room.{mem}
 use Rattle.logic.specs.Cases.{bool, same}
 use Rattle.laws.specs.Longest.{Wfs, last-found, last-past}
@@ -19,24 +19,42 @@ use Rattle.lengths.specs.Marks.{heldAt, entries, bestAt}
 use Rattle.logic.specs.Bools.{or-left}
 use Rattle.lengths.specs.Entries.{own, own-held, key-own, mem-either}
 use Rattle.lengths.specs.Held.{best-same}
-use Rattle.listing.specs.Listed.{routeAt, listOf}
-use Rattle.listing.specs.Records.{route-of, hop-of}
+use Rattle.candidates.specs.Candidate.{Candidate, prefixKey, IsList}
+use Rattle.rivals.specs.Won.{winners-hop}
+use Rattle.listing.specs.Listed.{recordsIn, candidateAt, candidatesIn, listOf}
+use Rattle.listing.specs.Records.{candidate-of}
+use Rattle.listing.specs.Winning.{winningAt, winning-before, record-won}
 use Rattle.lengths.specs.Layout.{beginOf, sizeOf, look}
 use Rattle.lengths_build.specs.Filling.{Standing, below}
 
 -- ---- a route's best match is its own
 
-module _ (bs : List ℕ) (l : IsList 32 (listOf bs)) (i : ℕ) (h : i < length bs / 8) where
-  pub best-own : (m v : ℕ) → m ≤ 32 → routeAt bs i .len ≡ m → v ≡ routeAt bs i .addr / 2 ^ (32 - m)
-      → routeAt bs i .hop * 256 + m ≡ bestAt (listOf bs) m v
+module _ (bs : List ℕ) (l : IsList 32 (candidatesIn bs)) (i : ℕ) (h : i < recordsIn bs) where
+  abbrev c : Candidate
+  c = candidateAt bs i
+
+  pub best-own : (m v : ℕ) → m ≤ 32 → candidateAt bs i .len ≡ m → v ≡ candidateAt bs i .addr / 2 ^ (32 - m)
+      → winningAt bs i * 256 + m ≡ bestAt (listOf bs) m v
   best-own m v k e q =
-      let r = route-of bs l i h in
+      let r = candidate-of bs l i h .route in
       let z : m - m ≡ 0 = omega arith in
       let y : v / 2 ^ 0 ≡ v = omega arith in
-      let g : heldAt (listOf bs) m (v / 2 ^ (m - m)) ≡ routeAt bs i .hop =
-      rw (z, y, q, key-own m (routeAt bs i) (r .wf) e) (hop-of bs l i h) in
-      sym (ap code (last-found (λ x. heldAt (listOf bs) x (v / 2 ^ (m - x))) m (routeAt bs i .hop) m g (r .wf .some)
+      let g : heldAt (listOf bs) m (v / 2 ^ (m - m)) ≡ winningAt bs i =
+      rw (z, y, q, key-own m (route (c .addr) (c .len) (c .hop)) (r .wf) e) (winners-hop (candidatesIn bs) (prefixKey c)) in
+      sym (ap code (last-found (λ x. heldAt (listOf bs) x (v / 2 ^ (m - x))) m (winningAt bs i) m g (record-won bs l i h)
       (omega arith) (λ x a b. absurd (omega arith))))
+
+-- ---- the default route: its records are the first ones
+
+module _ (bs : List ℕ) (l : IsList 32 (candidatesIn bs)) (h : 0 < recordsIn bs) where
+  pub default-unheld : 1 ≤ candidateAt bs 0 .len → hopAt (listOf bs) 0 ≡ 0
+  default-unheld e = winners-hop (candidatesIn bs) 0 ∙ winning-before bs l 0 h (omega arith)
+
+  pub default-hop : candidateAt bs 0 .len ≡ 0 → hopAt (listOf bs) 0 ≡ winningAt bs 0
+  default-hop e =
+      let w = candidate-of bs l 0 h .route .wf in
+      let z : prefixKey (candidateAt bs 0) ≡ 0 = omega (arith, w .inside, rw e at (w .clean)) in
+      winners-hop (candidatesIn bs) 0 ∙ rw z
 
 -- ---- a marker's best match
 

@@ -4,10 +4,11 @@ use mathlib.Core.Logic.{_≢_}
 use mathlib.Core.List.{List}
 use Prim.Native.Nat.{ℕ, _+_, _*_, _/_, _^_, _-_, _≤_, _<_}
 use lib.ListN.{length, getD}
-use Rattle.routes.specs.Route.{Route, IsList}
+use Rattle.routes.specs.Route.{Route}
 use Rattle.routes.specs.Room.{distinct}
 use Rattle.lengths.specs.Marks.{heldAt, entries, bestAt, wordsFor}
-use Rattle.listing.specs.Listed.{routeAt, listOf, Listed, unlisted, listed}
+use Rattle.candidates.specs.Candidate.{IsList}
+use Rattle.listing.specs.Listed.{recordsIn, candidateAt, candidatesIn, listOf, Listed, unlisted, listed}
 use Rattle.lengths.specs.Layout.{headerWords, beginOf, sizeOf}
 use Rattle.lengths.specs.Laid.{Laid}
 use Rattle.lengths_build.specs.Filling.{Kept, Standing}
@@ -30,14 +31,14 @@ LeavesOn (listed rs) ws us = Leaves rs ws us
 
 -- a record of which the best match is asked: its head v is a route of m bits, or is held by none
 pub record Bests (bs ws : List ℕ) (i m v : ℕ) : Type 0 where
-  pub list : IsList 32 (listOf bs)
-  pub here : i < length bs / 8
+  pub list : IsList 32 (candidatesIn bs)
+  pub here : i < recordsIn bs
   pub few : 1 ≤ m
   pub most : m ≤ 32
   pub long : headerWords ≤ length ws
   pub built : Standing (listOf bs) ws (length ws) m
-  pub value : v ≡ routeAt bs i .addr / 2 ^ (32 - m)
-  pub marker : routeAt bs i .len ≢ m → heldAt (listOf bs) m v ≡ 0
+  pub value : v ≡ candidateAt bs i .addr / 2 ^ (32 - m)
+  pub marker : candidateAt bs i .len ≢ m → heldAt (listOf bs) m v ≡ 0
 
 pub record Cleared (ws us : List ℕ) (from to : ℕ) : Type 0 where
   pub zero : (i : ℕ) → from ≤ i → i < to → getD us i 0 ≡ 0
@@ -50,7 +51,7 @@ pub record Headed (ws us : List ℕ) (m o size : ℕ) : Type 0 where
 
 -- the table of length m is to be made at word o
 pub record Makes (bs ws : List ℕ) (m o size : ℕ) : Type 0 where
-  pub list : IsList 32 (listOf bs)
+  pub list : IsList 32 (candidatesIn bs)
   pub few : 1 ≤ m
   pub most : m ≤ 32
   pub low : headerWords ≤ o
@@ -65,7 +66,7 @@ pub record Made (bs ws us : List ℕ) (m to : ℕ) : Type 0 where
 
 -- all tables are to be made
 pub record Starts (bs ws : List ℕ) : Type 0 where
-  pub list : IsList 32 (listOf bs)
+  pub list : IsList 32 (candidatesIn bs)
   pub room : wordsFor (listOf bs) ≤ length ws
   pub default : getD ws 0 0 ≡ bestAt (listOf bs) 0 0
 

@@ -9,16 +9,19 @@ use native.Mathlib.Omega.{arith}
 use lib.ListN.{length, getD}
 use lib.Dec.{eqb}
 use borrow.Author.Tests.{eqb-true, eq-eqb}
-use Rattle.routes.specs.Route.{Route, IsList}
+use Rattle.routes.specs.Route.{Route, route}
 use Rattle.routes.specs.Room.{mem, distinct}
 use Rattle.logic.specs.Cases.{bool, same}
 use Rattle.logic.specs.Bools.{or-left, or-right, or-to}
 use Rattle.laws.specs.Room.{distinct-le}
 use Rattle.lengths.specs.Way.{miss, hit, turnsAt}
-use Rattle.listing.specs.Heads.{picks, picks-more}
+use Rattle.listing.specs.Heads.{picks, picks-more, picks-winners}
 use Rattle.lengths.specs.Marks.{heldAt, entries, bestAt}
 use Rattle.lengths.specs.Entries.{own, mem-append, mem-either}
-use Rattle.listing.specs.Listed.{routeAt, routesFrom, listOf}
+use Rattle.candidates.specs.Candidate.{IsList}
+use Rattle.candidates.specs.Winners.{prefixes}
+use Rattle.rivals.specs.Won.{are-good, winners-list}
+use Rattle.listing.specs.Listed.{recordsIn, candidateAt, candidatesFrom, candidatesIn, listOf}
 use Rattle.listing.specs.Records.{tail-step, tail-end}
 use Rattle.laws.specs.Longest.{wfs}
 use Rattle.lengths.specs.Layout.{headerWords, beginOf, sizeOf, placesOf, find}
@@ -48,90 +51,100 @@ standing-kept rs ws us o m hi h k s b = record {
 
 -- ---- what is entered is among the entries
 
-picks-on : (P : ℕ → Bool) (m z d k i : ℕ) (bs : List ℕ) → mem z (picks P m (routesFrom bs k (d + i))) ≡ true
-    → mem z (picks P m (routesFrom bs (d + k) i)) ≡ true
-unfolding routesFrom
+picks-on : (P : ℕ → Bool) (m z d k i : ℕ) (bs : List ℕ) → mem z (picks P m (prefixes (candidatesFrom bs k (d + i)))) ≡ true
+    → mem z (picks P m (prefixes (candidatesFrom bs (d + k) i))) ≡ true
+unfolding candidatesFrom
 picks-on P m z zero k i bs e = let a : 0 + i ≡ i = omega arith in let b : 0 + k ≡ k = omega arith in rw b (rw a at e)
 picks-on P m z (suc d) k i bs e =
     let a : d + suc i ≡ suc d + i = omega arith in
     let b : suc d + k ≡ suc (d + k) = omega arith in
-    rw b (picks-more P m z (routeAt bs i) (routesFrom bs (d + k) (suc i)) (picks-on P m z d k (suc i) bs (rw a e)))
+    let c = candidateAt bs i in
+    rw b (picks-more P m z (route (c .addr) (c .len) 0) (prefixes (candidatesFrom bs (d + k) (suc i)))
+    (picks-on P m z d k (suc i) bs (rw a e)))
 
-picks-tail : (P : ℕ → Bool) (m z i : ℕ) (bs : List ℕ) → i ≤ length bs / 8 → mem z (picks P m (tail bs i)) ≡ true
-    → mem z (picks P m (listOf bs)) ≡ true
-picks-tail P m z i bs h e =
+-- all prefixes have the heads of the winners
+picks-all : (P : ℕ → Bool) (m z : ℕ) (bs : List ℕ) → IsList 32 (candidatesIn bs)
+    → mem z (picks P m (tail bs 0)) ≡ mem z (picks P m (listOf bs))
+picks-all P m z bs l =
+    let a : recordsIn bs - 0 ≡ recordsIn bs = omega arith in
+    rw a (sym (picks-winners P m z (candidatesIn bs) (are-good 32 (omega arith) (candidatesIn bs) l)))
+
+picks-tail : (P : ℕ → Bool) (m z i : ℕ) (bs : List ℕ) → IsList 32 (candidatesIn bs) → i ≤ recordsIn bs
+    → mem z (picks P m (tail bs i)) ≡ true → mem z (picks P m (listOf bs)) ≡ true
+picks-tail P m z i bs l h e =
     let a : i + 0 ≡ i = omega arith in
-    let b : i + (length bs / 8 - i) ≡ length bs / 8 = omega arith in
-    rw b at (picks-on P m z i (length bs / 8 - i) 0 bs (rw a e))
+    let b : i + (recordsIn bs - i) ≡ recordsIn bs - 0 = omega arith in
+    sym (picks-all P m z bs l) ∙ (rw b at (picks-on P m z i (recordsIn bs - i) 0 bs (rw a e)))
 
 chosen-entry : (k : Bool) (m z : ℕ) (rs : List Route) → mem z (picks (chosen k m) m rs) ≡ true → mem z (entries m rs) ≡ true
 chosen-entry false m z rs e = own-entered rs m z e
 chosen-entry true m z rs e = mem-either (λ l. eqb l m) (turnsAt m) m z rs
     ∙ or-right (mem z (own m rs)) (mem z (picks (turnsAt m) m rs)) e
 
-base-entry : (k : Bool) (bs : List ℕ) (m z : ℕ) → mem z (base k bs m) ≡ true → mem z (entries m (listOf bs)) ≡ true
-base-entry false bs m z e = absurd (false≢true e)
-base-entry true bs m z e =
+base-entry : (k : Bool) (bs : List ℕ) (m z : ℕ) → IsList 32 (candidatesIn bs) → mem z (base k bs m) ≡ true
+    → mem z (entries m (listOf bs)) ≡ true
+base-entry false bs m z s e = absurd (false≢true e)
+base-entry true bs m z s e =
     ⊎-elim
     (λ (q : mem z (picks (chosen false m) m (tail bs 0)) ≡ true). chosen-entry false m z (listOf bs)
-    (picks-tail (chosen false m) m z 0 bs (omega arith) q))
+    (picks-tail (chosen false m) m z 0 bs s (omega arith) q))
     (λ (q : false ≡ true). absurd (false≢true q))
     (or-to (mem z (picks (chosen false m) m (tail bs 0))) false
     (sym (mem-append z (picks (chosen false m) m (tail bs 0)) []) ∙ e))
 
-sofar-entry : (k : Bool) (bs : List ℕ) (m i z : ℕ) → i ≤ length bs / 8 → mem z (sofar k bs m i) ≡ true
-    → mem z (entries m (listOf bs)) ≡ true
-sofar-entry k bs m i z h e =
+sofar-entry : (k : Bool) (bs : List ℕ) (m i z : ℕ) → IsList 32 (candidatesIn bs) → i ≤ recordsIn bs
+    → mem z (sofar k bs m i) ≡ true → mem z (entries m (listOf bs)) ≡ true
+sofar-entry k bs m i z s h e =
     ⊎-elim
     (λ (q : mem z (picks (chosen k m) m (tail bs i)) ≡ true). chosen-entry k m z (listOf bs)
-    (picks-tail (chosen k m) m z i bs h q))
-    (λ (q : mem z (base k bs m) ≡ true). base-entry k bs m z q)
+    (picks-tail (chosen k m) m z i bs s h q))
+    (λ (q : mem z (base k bs m) ≡ true). base-entry k bs m z s q)
     (or-to (mem z (picks (chosen k m) m (tail bs i))) (mem z (base k bs m))
     (sym (mem-append z (picks (chosen k m) m (tail bs i)) (base k bs m)) ∙ e))
 
 -- ---- one record
 
-module _ (k : Bool) (bs : List ℕ) (i m : ℕ) (h : i < length bs / 8) where
+module _ (k : Bool) (bs : List ℕ) (i m : ℕ) (h : i < recordsIn bs) where
   abbrev v : ℕ
-  v = routeAt bs i .addr / 2 ^ (32 - m)
+  v = candidateAt bs i .addr / 2 ^ (32 - m)
 
-  step : tail bs i ≡ routeAt bs i ∷ tail bs (i + 1)
-  step = tail-step bs (length bs / 8) (i + 1) i refl (omega arith)
+  step : tail bs i ≡ route (candidateAt bs i .addr) (candidateAt bs i .len) 0 ∷ tail bs (i + 1)
+  step = ap prefixes (tail-step bs (recordsIn bs) (i + 1) i refl (omega arith))
 
-  sofar-skip : chosen k m (routeAt bs i .len) ≡ false → sofar k bs m i ≡ sofar k bs m (i + 1)
+  sofar-skip : chosen k m (candidateAt bs i .len) ≡ false → sofar k bs m i ≡ sofar k bs m (i + 1)
   sofar-skip e = rw (step, e)
 
-  sofar-more : chosen k m (routeAt bs i .len) ≡ true → sofar k bs m i ≡ v ∷ sofar k bs m (i + 1)
+  sofar-more : chosen k m (candidateAt bs i .len) ≡ true → sofar k bs m i ≡ v ∷ sofar k bs m (i + 1)
   sofar-more e = rw (step, e)
 
-  head-entry : chosen k m (routeAt bs i .len) ≡ true → mem v (entries m (listOf bs)) ≡ true
-  head-entry e = sofar-entry k bs m i v (omega arith)
+  head-entry : IsList 32 (candidatesIn bs) → chosen k m (candidateAt bs i .len) ≡ true → mem v (entries m (listOf bs)) ≡ true
+  head-entry s e = sofar-entry k bs m i v s (omega arith)
       (rw (sofar-more e) (or-left (eqb v v) (mem v (sofar k bs m (i + 1))) (eq-eqb v v refl)))
 
 -- a new value leaves room for itself
-room-for : (k : Bool) (bs : List ℕ) (i m v p : ℕ) → i ≤ length bs / 8 → mem v (entries m (listOf bs)) ≡ true
-    → mem v (sofar k bs m i) ≡ false → p ≡ 2 * distinct (entries m (listOf bs))
+room-for : (k : Bool) (bs : List ℕ) (i m v p : ℕ) → IsList 32 (candidatesIn bs) → i ≤ recordsIn bs
+    → mem v (entries m (listOf bs)) ≡ true → mem v (sofar k bs m i) ≡ false → p ≡ 2 * distinct (entries m (listOf bs))
     → distinct (sofar k bs m i) < p
-room-for k bs i m v p h e f q =
+room-for k bs i m v p l h e f q =
     let d : distinct (v ∷ sofar k bs m i) ≤ distinct (entries m (listOf bs)) =
     distinct-le (v ∷ sofar k bs m i) (entries m (listOf bs)) all in
     let s : distinct (v ∷ sofar k bs m i) ≡ suc (distinct (sofar k bs m i)) = rw f in
     omega arith
   where
     all : (z : ℕ) → mem z (v ∷ sofar k bs m i) ≡ true → mem z (entries m (listOf bs)) ≡ true
-    all z y = same v z (λ a d. rw (← a) e) (λ a d. sofar-entry k bs m i z h (rw d at y))
+    all z y = same v z (λ a d. rw (← a) e) (λ a d. sofar-entry k bs m i z l h (rw d at y))
 
 -- in the second pass, a value that is not there is no route
-no-route : (k : Bool) (bs : List ℕ) (i m v l : ℕ) → m ≤ 32 → IsList 32 (listOf bs) → mem v (sofar k bs m i) ≡ false
+no-route : (k : Bool) (bs : List ℕ) (i m v l : ℕ) → m ≤ 32 → IsList 32 (candidatesIn bs) → mem v (sofar k bs m i) ≡ false
     → chosen k m l ≡ true → l ≢ m → heldAt (listOf bs) m v ≡ 0
 no-route false bs i m v l h s e c n = absurd (n (eqb-true l m c))
 no-route true bs i m x l h s e c n =
     let a = mem-append x (picks (chosen true m) m (tail bs i)) (base true bs m) in
     let b = mem-append x (picks (chosen false m) m (tail bs 0)) [] in
-    let z : length bs / 8 - 0 ≡ length bs / 8 = omega arith in
     let o : mem x (picks (chosen false m) m (tail bs 0)) ≡ false =
     out (mem x (picks (chosen true m) m (tail bs i))) (mem x (picks (chosen false m) m (tail bs 0))) (rw (a, b) at e) in
-    unentered (listOf bs) m x h (wfs 32 (listOf bs) (s .routes)) (rw z at o)
+    unentered (listOf bs) m x h (wfs 32 (listOf bs) (winners-list 32 (candidatesIn bs) s .routes))
+    (sym (picks-all (chosen false m) m x bs s) ∙ o)
   where
     out : (a b : Bool) → (a || (b || false)) ≡ false → b ≡ false
     out true b q = absurd (true≢false q)
@@ -141,7 +154,7 @@ no-route true bs i m x l h s e c n =
 -- ---- the steps
 
 module _ (k : Bool) (bs ws : List ℕ) (i m o p : ℕ) (f : Filling k bs ws (i + 1) m o p) where
-  here : i < length bs / 8
+  here : i < recordsIn bs
   here = omega (arith, f .upto)
 
   -- another list of what is held, for the record before
@@ -159,10 +172,10 @@ module _ (k : Bool) (bs ws : List ℕ) (i m o p : ℕ) (f : Filling k bs ws (i +
     holds = h;
   }
 
-  pub filling-skip : (c : Bool) → c ≡ chosen k m (routeAt bs i .len) → c ≡ false → Filling k bs ws i m o p
+  pub filling-skip : (c : Bool) → c ≡ chosen k m (candidateAt bs i .len) → c ≡ false → Filling k bs ws i m o p
   filling-skip c e q = before ws refl (f .built) (rw (sofar-skip k bs i m here (sym e ∙ q)) (f .holds))
 
-  module _ (c : chosen k m (routeAt bs i .len) ≡ true) (x : ℕ) (xe : x ≡ routeAt bs i .addr / 2 ^ (32 - m)) where
+  module _ (c : chosen k m (candidateAt bs i .len) ≡ true) (x : ℕ) (xe : x ≡ candidateAt bs i .addr / 2 ^ (32 - m)) where
     -- the probe tells whether the head is there
     there : (b : Bool) → b ≡ isMiss (find (placesOf ws o) m p x) → b ≡ false → mem x (sofar k bs m (i + 1)) ≡ true
     there b e q = bool (mem x (sofar k bs m (i + 1))) (λ z. z)
@@ -182,11 +195,12 @@ module _ (k : Bool) (bs ws : List ℕ) (i m o p : ℕ) (f : Filling k bs ws (i +
     pub filling-room : (b : Bool) → b ≡ isMiss (find (placesOf ws o) m p x) → b ≡ true → Room (placesOf ws o) p
     filling-room b e q =
         room-left (placesOf ws o) p
-        (rw (f .holds .count) (room-for k bs (i + 1) m x p (f .upto) (rw xe (head-entry k bs i m here c)) (away b e q) (f .size)))
+        (rw (f .holds .count)
+        (room-for k bs (i + 1) m x p (f .list) (f .upto) (rw xe (head-entry k bs i m here (f .list) c)) (away b e q) (f .size)))
 
-    pub filling-new : (b : Bool) → b ≡ isMiss (find (placesOf ws o) m p x) → b ≡ true → routeAt bs i .len ≢ m
+    pub filling-new : (b : Bool) → b ≡ isMiss (find (placesOf ws o) m p x) → b ≡ true → candidateAt bs i .len ≢ m
         → heldAt (listOf bs) m x ≡ 0
-    filling-new b e q n = no-route k bs (i + 1) m x (routeAt bs i .len) (f .most) (f .list) (away b e q) c n
+    filling-new b e q n = no-route k bs (i + 1) m x (candidateAt bs i .len) (f .most) (f .list) (away b e q) c n
 
     pub filling-put : (us : List ℕ) (b : Bool) (y : ℕ) → b ≡ isMiss (find (placesOf ws o) m p x) → b ≡ true
         → y ≡ bestAt (listOf bs) m x → Put ws us o p x y → Filled k bs ws us i m o p
@@ -196,17 +210,18 @@ module _ (k : Bool) (bs ws : List ℕ) (i m o p : ℕ) (f : Filling k bs ws (i +
           (rw (sofar-more k bs i m here c, ← xe)
           (holds-put (placesOf ws o) (placesOf us o) m p (s .at) (bestAt (listOf bs) m) (sofar k bs m (i + 1)) x (f .holds)
           (away b e q)
-          (best-fine (listOf bs) m x (f .most) (f .list .routes)) (s .free) (rw (← w) (s .puts))));
+          (best-fine (listOf bs) m x (f .most) (winners-list 32 (candidatesIn bs) (f .list) .routes))
+          (s .free) (rw (← w) (s .puts))));
       kept = s .kept;
     }
 
 -- ---- its begin, its turn and its end
 
 -- an empty table, before the first pass
-pub filling-start : (bs ws : List ℕ) (m o p : ℕ) → IsList 32 (listOf bs) → 1 ≤ m → m ≤ 32 → headerWords ≤ o
+pub filling-start : (bs ws : List ℕ) (m o p : ℕ) → IsList 32 (candidatesIn bs) → 1 ≤ m → m ≤ 32 → headerWords ≤ o
     → o + 4 * p ≤ length ws → p ≡ 2 * distinct (entries m (listOf bs))
     → Standing (listOf bs) ws o m → ((i : ℕ) → o ≤ i → i < o + 4 * p → getD ws i 0 ≡ 0)
-    → Filling false bs ws (length bs / 8) m o p
+    → Filling false bs ws (recordsIn bs) m o p
 filling-start bs ws m o p l a b c d e f z = record {
   list = l;
   few = a;
@@ -216,12 +231,12 @@ filling-start bs ws m o p l a b c d e f z = record {
   fits = d;
   size = e;
   built = f;
-  holds = rw (tail-end bs (length bs / 8))
+  holds = rw (tail-end bs (recordsIn bs))
       (holds-none (placesOf ws o) m p (bestAt (listOf bs) m) (λ i h. z (o + 4 * i) (omega arith) (omega arith)));
 }
 
 -- the end of the first pass begins the second
-pub filling-turn : (bs ws : List ℕ) (m o p : ℕ) → Filling false bs ws 0 m o p → Filling true bs ws (length bs / 8) m o p
+pub filling-turn : (bs ws : List ℕ) (m o p : ℕ) → Filling false bs ws 0 m o p → Filling true bs ws (recordsIn bs) m o p
 filling-turn bs ws m o p f = record {
   list = f .list;
   few = f .few;
@@ -231,17 +246,17 @@ filling-turn bs ws m o p f = record {
   fits = f .fits;
   size = f .size;
   built = f .built;
-  holds = rw (tail-end bs (length bs / 8)) (f .holds);
+  holds = rw (tail-end bs (recordsIn bs)) (f .holds);
 }
 
 -- both passes together enter what the list has
-sofar-all : (bs : List ℕ) (m z : ℕ) → mem z (sofar true bs m 0) ≡ mem z (entries m (listOf bs))
-sofar-all bs m z =
-    let q : length bs / 8 - 0 ≡ length bs / 8 = omega arith in
+sofar-all : (bs : List ℕ) (m z : ℕ) → IsList 32 (candidatesIn bs) → mem z (sofar true bs m 0) ≡ mem z (entries m (listOf bs))
+sofar-all bs m z l =
     rw (
       mem-append z (picks (turnsAt m) m (tail bs 0)) (picks (λ l. eqb l m) m (tail bs 0) ++ []),
       mem-append z (picks (λ l. eqb l m) m (tail bs 0)) [],
-      q,
+      picks-all (turnsAt m) m z bs l,
+      picks-all (λ l. eqb l m) m z bs l,
       mem-either (λ l. eqb l m) (turnsAt m) m z (listOf bs),
     )
     (swap (mem z (picks (turnsAt m) m (listOf bs))) (mem z (own m (listOf bs))))
@@ -258,7 +273,7 @@ pub filling-end : (bs ws : List ℕ) (m o p e : ℕ) → p ≡ 2 * e → beginOf
 filling-end bs ws m o p e q b s f = record {
   begins = rw b (f .low);
   ends = rw (b, s) (omega arith);
-  finds = λ v. rw (b, s, ← q) (f .holds .finds v ∙ rw (sofar-all bs m v));
+  finds = λ v. rw (b, s, ← q) (f .holds .finds v ∙ rw (sofar-all bs m v (f .list)));
 }
 
 table-on : (rs : List Route) (ws : List ℕ) (o to m : ℕ) → o ≤ to → Table rs ws o m → Table rs ws to m

@@ -6,12 +6,14 @@ use mathlib.Core.List.{List, [], _++_}
 use Prim.Native.Nat.{ℕ, zero, suc, _+_, _-_, _*_, _/_, _^_, _≤_, _<_}
 use lib.ListN.{length, getD, set}
 use lib.Dec.{eqb}
-use Rattle.routes.specs.Route.{Route, IsList}
+use Rattle.routes.specs.Route.{Route}
 use Rattle.routes.specs.Room.{distinct}
 use Rattle.lengths.specs.Way.{Look, miss, hit, outside, turnsAt}
 use Rattle.listing.specs.Heads.{picks}
 use Rattle.lengths.specs.Marks.{entries, bestAt}
-use Rattle.listing.specs.Listed.{routesFrom, listOf}
+use Rattle.candidates.specs.Candidate.{IsList}
+use Rattle.candidates.specs.Winners.{prefixes}
+use Rattle.listing.specs.Listed.{recordsIn, candidatesFrom, candidatesIn, listOf}
 use Rattle.lengths.specs.Layout.{headerWords, placesOf, look}
 use Rattle.lengths.specs.Hash.{Free, Puts, Holds}
 use Rattle.lengths.specs.Laid.{Table}
@@ -34,9 +36,9 @@ abbrev pub chosen : Bool → ℕ → ℕ → Bool
 chosen false m l = eqb l m
 chosen true m l = turnsAt m l
 
--- the routes from record i on
+-- the prefixes from record i on
 abbrev pub tail : List ℕ → ℕ → List Route
-tail bs i = routesFrom bs (length bs / 8 - i) i
+tail bs i = prefixes (candidatesFrom bs (recordsIn bs - i) i)
 
 -- what the table holds before a pass
 abbrev pub base : Bool → List ℕ → ℕ → List ℕ
@@ -48,10 +50,10 @@ abbrev pub sofar : Bool → List ℕ → ℕ → ℕ → List ℕ
 sofar k bs m i = picks (chosen k m) m (tail bs i) ++ base k bs m
 
 pub record Filling (k : Bool) (bs ws : List ℕ) (i m o p : ℕ) : Type 0 where
-  pub list : IsList 32 (listOf bs)
+  pub list : IsList 32 (candidatesIn bs)
   pub few : 1 ≤ m
   pub most : m ≤ 32
-  pub upto : i ≤ length bs / 8
+  pub upto : i ≤ recordsIn bs
   pub low : headerWords ≤ o
   pub fits : o + 4 * p ≤ length ws
   pub size : p ≡ 2 * distinct (entries m (listOf bs))

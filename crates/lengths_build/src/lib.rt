@@ -6,11 +6,11 @@ ghost use mathlib.Core.Path.{_≡_};
 ghost use mathlib.Core.Bool.{true};
 ghost use Prim.Native.Nat.{_+_, _*_, _-_, _/_, _<_, _≤_};
 ghost use lib.ListN.{length};
-ghost use Rattle.routes.specs.Route.{IsList};
 ghost use Rattle.routes.specs.Room.{distinct};
+ghost use Rattle.candidates.specs.Candidate.{IsList};
 ghost use Rattle.lengths.specs.Marks.{bestAt, markers, entries as entriesOf};
 ghost use Rattle.lengths.specs.Entries.{tally};
-ghost use Rattle.listing.specs.Listed.{routeAt, listOf, listedIn};
+ghost use Rattle.listing.specs.Listed.{recordsIn, candidateAt, candidatesIn, listOf, listedIn};
 ghost use Rattle.listing.specs.Records.{keyBound};
 ghost use Rattle.lengths.specs.Layout.{headerWords, placesOf, find};
 ghost use Rattle.lengths.specs.Hash.{Room, Free};
@@ -66,18 +66,18 @@ fn reach(m: u32) -> u32
 
 // How many entries the length m has.
 fn entries(bytes: &[u8], m: u32) -> usize
-    requires { ⌜ IsList 32 (listOf (now bytes)) × (1 ≤ m) × (m ≤ 32) ⌝ }
+    requires { ⌜ IsList 32 (candidatesIn (now bytes)) × (1 ≤ m) × (m ≤ 32) ⌝ }
     ensures { λ r. ⌜ (r ≡ distinct (entriesOf m (listOf (now (bytes .entry))))) × (r ≤ keyBound) ⌝ }
 {
     listing::count(bytes, m, reach(m), m)
 }
 
-// How many default routes the list has: its first record, or none.
+// How many default routes the list has: its first record tells.
 fn defaults(bytes: &[u8]) -> usize
-    requires { ⌜ IsList 32 (listOf (now bytes)) ⌝ }
+    requires { ⌜ IsList 32 (candidatesIn (now bytes)) ⌝ }
     ensures { λ r. ⌜ (r ≡ tally 0 (listOf (now (bytes .entry)))) × (r ≤ 1) ⌝ }
 {
-    if bytes.len() / 8 == 0 {
+    if listing::records(bytes) == 0 {
         return 0;
     }
     if listing::bits(bytes, 0) != 0 {
@@ -88,7 +88,7 @@ fn defaults(bytes: &[u8]) -> usize
 
 // The entries of all lengths, and the default route: as many as there are routes and markers.
 fn total(bytes: &[u8]) -> usize
-    requires { ⌜ IsList 32 (listOf (now bytes)) ⌝ }
+    requires { ⌜ IsList 32 (candidatesIn (now bytes)) ⌝ }
     ensures { λ r. ⌜ (r ≡ length (listOf (now (bytes .entry))) + markers (listOf (now (bytes .entry)))) × (r ≤ 33 * keyBound) ⌝ }
 {
     let mut sum = defaults(bytes);
@@ -172,20 +172,21 @@ fn shorter(words: &[u32], m: u32, v: u32) -> u32
     words[0]
 }
 
-// The best match of the head v of record i: its own if it is a route of that length.
+// The best match of the head v of record i: its prefix's winner if it is a route of that length.
 fn best_of(bytes: &[u8], words: &[u32], i: usize, m: u32, v: u32) -> u32
     requires { ⌜ Bests (now bytes) (now words) i m v ⌝ }
     ensures { λ r. ⌜ r ≡ bestAt (listOf (now (bytes .entry))) m v ⌝ }
 {
     if listing::bits(bytes, i) == m {
-        return listing::hop(bytes, i) * 256 + m;
+        return listing::winner(bytes, i) * 256 + m;
     }
     shorter(words, m, v)
 }
 
 // The head of record i, entered unless it is there.
 fn enter(bytes: &[u8], words: &mut [u32], marks: bool, i: usize, m: u32, o: usize, p: usize)
-    requires { ⌜ Filling marks (now bytes) (now words) (i + 1) m o p × (chosen marks m (routeAt (now bytes) i .len) ≡ true) ⌝ }
+    requires { ⌜ Filling marks (now bytes) (now words) (i + 1) m o p
+        × (chosen marks m (candidateAt (now bytes) i .len) ≡ true) ⌝ }
     ensures { λ _. ⌜ Filled marks (now (bytes .entry)) (now (words .entry)) (now (words .exit)) i m o p ⌝ }
 {
     let v = listing::head(bytes, i, m);
@@ -211,10 +212,10 @@ fn is_chosen(marks: bool, m: u32, l: u32) -> bool
 
 // A pass over all records, from the last to the first.
 fn fill(bytes: &[u8], words: &mut [u32], marks: bool, m: u32, o: usize, p: usize)
-    requires { ⌜ Filling marks (now bytes) (now words) (length (now bytes) / 8) m o p ⌝ }
+    requires { ⌜ Filling marks (now bytes) (now words) (recordsIn (now bytes)) m o p ⌝ }
     ensures { λ _. ⌜ Filled marks (now (bytes .entry)) (now (words .entry)) (now (words .exit)) 0 m o p ⌝ }
 {
-    let mut i = bytes.len() / 8;
+    let mut i = listing::records(bytes);
     while i > 0 {
         i -= 1;
         if is_chosen(marks, m, listing::bits(bytes, i)) {
@@ -276,18 +277,18 @@ fn tables(bytes: &[u8], words: &mut [u32])
     }
 }
 
-// The best match of length 0: the default route is the first record, if it is held.
+// The best match of length 0: the default route's records are the first ones, if it is held.
 fn default_of(bytes: &[u8]) -> u32
-    requires { ⌜ IsList 32 (listOf (now bytes)) ⌝ }
+    requires { ⌜ IsList 32 (candidatesIn (now bytes)) ⌝ }
     ensures { λ r. ⌜ r ≡ bestAt (listOf (now (bytes .entry))) 0 0 ⌝ }
 {
-    if bytes.len() / 8 == 0 {
+    if listing::records(bytes) == 0 {
         return 0;
     }
     if listing::bits(bytes, 0) != 0 {
         return 0;
     }
-    listing::hop(bytes, 0) * 256
+    listing::winner(bytes, 0) * 256
 }
 
 // A written-out list laid out: the counts of its routes and markers.
@@ -303,6 +304,6 @@ pub fn build(bytes: &[u8], words: &mut [u32]) -> Built
     }
     words[0] = default_of(bytes);
     tables(bytes, words);
-    let routes = bytes.len() / 8;
+    let routes = listing::routes(bytes);
     Built::Counts(routes, (n - HEADER_WORDS) / 8 - routes)
 }

@@ -9,14 +9,17 @@ use native.Mathlib.Omega.{arith}
 use lib.Dec.{eqb}
 use lib.Pow.{shr-le}
 use borrow.Author.Tests.{eq-eqb, ne-eqb, eqb-true, eqb-false}
-use Rattle.routes.specs.Route.{Route, IsList}
+use Rattle.routes.specs.Route.{Route}
+use Rattle.routes.specs.Route as routes
 use Rattle.routes.specs.Room.{distinct, need, needTo}
 use Rattle.logic.specs.Cases.{same}
 use Rattle.laws.specs.Longest.{wfs}
-use Rattle.listing.specs.Listed.{routeAt, routesFrom}
+use Rattle.candidates.specs.Candidate.{IsList}
+use Rattle.candidates.specs.Winners.{winners, prefixes}
+use Rattle.rivals.specs.Won.{are-good, winners-list}
+use Rattle.listing.specs.Listed.{candidateAt, candidatesFrom}
 use Rattle.listing.specs.Heads.{picks, between, noHead, lastHead, Counted, firstOr, head-low, heads-picks, count-skip}
-use Rattle.listing.specs.Heads.{count-same, count-new}
-use Rattle.listing.specs.Heads.{count-first, distinct-length}
+use Rattle.listing.specs.Heads.{count-same, count-new, count-first, distinct-length, prefixes-length, distinct-winners}
 use Rattle.listing.specs.Records.{keyBound, tail-step, tail-end, tail-list, records-length, list-short}
 
 -- what was counted so far, over the records from i on: the count, and the address met last
@@ -50,30 +53,31 @@ module _ (seen a last m : ℕ) where
         more = λ _. refl;
       })
 
-pub counts-none : (P : ℕ → Bool) (m n : ℕ) (bs : List ℕ) → Counts P m (routesFrom bs (n - n) n) 0 0
+pub counts-none : (P : ℕ → Bool) (m n : ℕ) (bs : List ℕ) → Counts P m (prefixes (candidatesFrom bs (n - n) n)) 0 0
 counts-none P m n bs = rw (tail-end bs n) (record { count = refl; first = refl })
 
-module _ (P : ℕ → Bool) (m n i j : ℕ) (bs : List ℕ) (e : j + 1 ≡ i) (h : i ≤ n) (l : IsList 32 (routesFrom bs n 0))
-    (seen last : ℕ) (s : Counts P m (routesFrom bs (n - i) i) seen last) where
-  list : IsList 32 (routeAt bs j ∷ routesFrom bs (n - i) i)
+module _ (P : ℕ → Bool) (m n i j : ℕ) (bs : List ℕ) (e : j + 1 ≡ i) (h : i ≤ n) (l : IsList 32 (candidatesFrom bs n 0))
+    (seen last : ℕ) (s : Counts P m (prefixes (candidatesFrom bs (n - i) i)) seen last) where
+  list : IsList 32 (candidateAt bs j ∷ candidatesFrom bs (n - i) i)
   list = rw (tail-step bs n i j e h) at (tail-list bs n j (omega arith) l)
 
-  pub counts-past : (b : Bool) → b ≡ P (routeAt bs j .len) → b ≡ false → Counts P m (routesFrom bs (n - j) j) seen last
+  pub counts-past : (b : Bool) → b ≡ P (candidateAt bs j .len) → b ≡ false
+      → Counts P m (prefixes (candidatesFrom bs (n - j) j)) seen last
   counts-past b q f =
-      let z = count-skip P m (routeAt bs j) (routesFrom bs (n - i) i) list (sym q ∙ f) in
+      let z = count-skip P m (candidateAt bs j) (candidatesFrom bs (n - i) i) list (sym q ∙ f) in
       rw (tail-step bs n i j e h) (record {
         count = s .count ∙ ap distinct (sym z);
         first = s .first
             ∙ ap (firstOr noHead) (sym z);
       })
 
-  pub counts-more : (b : Bool) (a r : ℕ) → b ≡ P (routeAt bs j .len) → b ≡ true → a ≡ routeAt bs j .addr
+  pub counts-more : (b : Bool) (a r : ℕ) → b ≡ P (candidateAt bs j .len) → b ≡ true → a ≡ candidateAt bs j .addr
       → Counted seen (a / 2 ^ (32 - m)) (lastHead m seen last) r
-      → Counts P m (routesFrom bs (n - j) j) r a
+      → Counts P m (prefixes (candidatesFrom bs (n - j) j)) r a
   counts-more b a r q f ea c =
-      let p : P (routeAt bs j .len) ≡ true = sym q ∙ f in
-      let x = routeAt bs j in
-      let xs = routesFrom bs (n - i) i in
+      let p : P (candidateAt bs j .len) ≡ true = sym q ∙ f in
+      let x = candidateAt bs j in
+      let xs = candidatesFrom bs (n - i) i in
       let v = a / 2 ^ (32 - m) in
       let ev : v ≡ x .addr / 2 ^ (32 - m) = rw ea in
       let low : v < noHead = rw ev (head-low P m x xs list) in
@@ -90,24 +94,28 @@ module _ (P : ℕ → Bool) (m n i j : ℕ) (bs : List ℕ) (e : j + 1 ≡ i) (h
         first = rw (ne-eqb r 0 some) (ev ∙ sym (count-first P m x xs list p));
       })
 
-pub counts-low : (P : ℕ → Bool) (m n i : ℕ) (bs : List ℕ) (seen last : ℕ) → Counts P m (routesFrom bs (n - i) i) seen last
-    → seen ≤ n - i
-counts-low P m n i bs seen last s = omega
-    (arith, s .count, distinct-length P m (routesFrom bs (n - i) i), records-length bs (n - i) i)
+pub counts-low : (P : ℕ → Bool) (m n i : ℕ) (bs : List ℕ) (seen last : ℕ)
+    → Counts P m (prefixes (candidatesFrom bs (n - i) i)) seen last → seen ≤ n - i
+counts-low P m n i bs seen last s =
+    let cs = candidatesFrom bs (n - i) i in
+    omega (arith, s .count, distinct-length P m (prefixes cs), prefixes-length cs, records-length bs (n - i) i)
 
-pub counts-end : (P : ℕ → Bool) (m n i : ℕ) (bs : List ℕ) (seen last : ℕ) → i ≤ 0 → IsList 32 (routesFrom bs n 0)
-    → Counts P m (routesFrom bs (n - i) i) seen last
-    → (seen ≡ distinct (picks P m (routesFrom bs n 0))) × (seen ≤ keyBound)
+pub counts-end : (P : ℕ → Bool) (m n i : ℕ) (bs : List ℕ) (seen last : ℕ) → i ≤ 0 → IsList 32 (candidatesFrom bs n 0)
+    → Counts P m (prefixes (candidatesFrom bs (n - i) i)) seen last
+    → (seen ≡ distinct (picks P m (winners (candidatesFrom bs n 0)))) × (seen ≤ keyBound)
 counts-end P m n i bs seen last h l s =
+    let cs = candidatesFrom bs n 0 in
     let z : i ≡ 0 = omega arith in
     let d : n - 0 ≡ n = omega arith in
-    let e : seen ≡ distinct (picks P m (routesFrom bs n 0)) = rw (z, d) at (s .count) in (
+    let w = winners-list 32 cs l in
+    let e : seen ≡ distinct (picks P m (winners cs)) =
+    (rw (z, d) at (s .count)) ∙ distinct-winners P m cs (are-good 32 (omega arith) cs l) in (
       e,
       omega (
         arith,
         e,
-        distinct-length P m (routesFrom bs n 0),
-        list-short 0 (routesFrom bs n 0) (l .sorted) (wfs 32 (routesFrom bs n 0) (l .routes)) (omega arith),
+        distinct-length P m (winners cs),
+        list-short 0 (winners cs) (w .sorted) (wfs 32 (winners cs) (w .routes)) (omega arith),
       ),
     )
 
@@ -118,7 +126,7 @@ unfolding needTo
 arrays-none rs = refl
 
 -- those of one level more
-pub arrays-more : (rs : List Route) (sum k j c : ℕ) → IsList 32 rs → sum ≡ needTo 32 k rs → j ≡ k + 1
+pub arrays-more : (rs : List Route) (sum k j c : ℕ) → routes.IsList 32 rs → sum ≡ needTo 32 k rs → j ≡ k + 1
     → c ≡ distinct (picks (between (8 * j + 1) 32) (8 * j) rs) → sum + c ≡ needTo 32 j rs
 unfolding needTo
 arrays-more rs sum k j c l e s q =

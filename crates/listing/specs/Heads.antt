@@ -1,8 +1,9 @@
--- The heads of routes: their first m bits, of those whose length is picked. Heads rise with the records, so equal ones are
--- neighbours, and a comparison with the one before counts the different ones. Assumes nothing.
-use mathlib.Core.Path.{_≡_, refl, sym, _∙_}
+-- The heads of routes: their first m bits, of those whose length is picked. The winners' are those of the candidates' prefixes.
+-- They rise with the candidates, so equal ones are neighbours, and a comparison with the one before counts the different ones.
+-- Assumes nothing.
+use mathlib.Core.Path.{_≡_, refl, sym, ap, _∙_}
 use mathlib.Core.Logic.{_≢_}
-use mathlib.Core.Bool.{Bool, true, false, cond, _&&_}
+use mathlib.Core.Bool.{Bool, true, false, cond, _&&_, _||_}
 use mathlib.Core.List.{List, [], _∷_}
 use Prim.Native.Nat.{ℕ, suc, _+_, _-_, _/_, _^_, _≤_, _<_}
 use native.Mathlib.Nat.{le-trans}
@@ -11,11 +12,18 @@ use lib.ListN.{length}
 use lib.Dec.{ltb, leb, eqb}
 use lib.Pow.{shr-mono, shr-le}
 use borrow.Author.Tests.{le-leb, lt-leb, eq-eqb, ne-eqb}
-use Rattle.routes.specs.Route.{Route, key, From, IsList}
+use Rattle.routes.specs.Route.{Route, route, All, insert}
+use Rattle.routes.specs.Route as routes
 use Rattle.routes.specs.Room.{mem, distinct, heads}
-use Rattle.logic.specs.Cases.{bool, same, less}
-use Rattle.logic.specs.Bools.{or-right}
-use Rattle.laws.specs.Longest.{Wfs, wfs}
+use Rattle.logic.specs.Cases.{bool, same, less, tri}
+use Rattle.logic.specs.Bools.{or-right, or-swap, or-twice}
+use Rattle.laws.specs.Longest.{Wfs}
+use Rattle.laws.specs.Room.{distinct-mem}
+use Rattle.laws.specs.Sorted as sorted
+use Rattle.candidates.specs.Keyed.{Ordered, Every}
+use Rattle.candidates.specs.Candidate.{Candidate, prefixKey, key, IsCandidate, IsList}
+use Rattle.candidates.specs.Winners.{winning, winners, prefixes}
+use Rattle.rivals.specs.Won.{Good, head-pos, winners-good}
 
 -- the first m bits of the routes whose length P takes
 abbrev pub picks : (ℕ → Bool) → ℕ → List Route → List ℕ
@@ -90,40 +98,44 @@ distinct-step v d (x ∷ xs) h r =
     (λ q e. rw (e, eq-eqb x v (sym q)))
     (λ q e. rw (e, ne-eqb x v (λ z. q (sym z)), rising-past v x xs (omega (arith, r .0)) (r .1)))
 
-picks-rising : (P : ℕ → Bool) (m lo h : ℕ) (rs : List Route) → From lo rs → Wfs 32 rs → h ≤ lo / 256 / 2 ^ (32 - m)
-    → Rising h (picks P m rs)
+picks-rising : (P : ℕ → Bool) (m lo h : ℕ) (cs : List Candidate) → Ordered key lo cs → Every (IsCandidate 32) cs
+    → h ≤ lo / 2048 / 2 ^ (32 - m) → Rising h (picks P m (prefixes cs))
 picks-rising P m lo h [] f w b = tt
-picks-rising P m lo h (r ∷ rs) f w b =
-    let u : h ≤ r .addr / 2 ^ (32 - m) = le-trans b (shr-mono (32 - m) (omega (arith, f .0, w .0 .fits))) in
-    let v : r .addr / 2 ^ (32 - m) ≤ suc (key r) / 256 / 2 ^ (32 - m) = shr-mono (32 - m) (omega arith) in
-    bool (P (r .len))
-    (λ e. rw e (u, picks-rising P m (suc (key r)) (r .addr / 2 ^ (32 - m)) rs (f .1) (w .1) v))
-    (λ e. rw e (picks-rising P m (suc (key r)) h rs (f .1) (w .1) (le-trans u v)))
+picks-rising P m lo h (c ∷ cs) f w b =
+    let u : h ≤ c .addr / 2 ^ (32 - m) =
+    le-trans b (shr-mono (32 - m) (omega (arith, f .0, w .0 .high, w .0 .route .wf .fits))) in
+    let v : c .addr / 2 ^ (32 - m) ≤ suc (key c) / 2048 / 2 ^ (32 - m) = shr-mono (32 - m) (omega arith) in
+    bool (P (c .len))
+    (λ e. rw e (u, picks-rising P m (suc (key c)) (c .addr / 2 ^ (32 - m)) cs (f .1) (w .1) v))
+    (λ e. rw e (picks-rising P m (suc (key c)) h cs (f .1) (w .1) (le-trans u v)))
 
--- ---- one route more, before the others
+-- ---- one candidate more, before the others
 
-module _ (P : ℕ → Bool) (m : ℕ) (r : Route) (rs : List Route) (l : IsList 32 (r ∷ rs)) where
+module _ (P : ℕ → Bool) (m : ℕ) (c : Candidate) (cs : List Candidate) (l : IsList 32 (c ∷ cs)) where
   abbrev v : ℕ
-  v = r .addr / 2 ^ (32 - m)
+  v = c .addr / 2 ^ (32 - m)
 
-  pub head-low : r .addr / 2 ^ (32 - m) < noHead
-  head-low = omega (arith, shr-le (r .addr) (32 - m), l .routes .0 .wf .inside)
+  abbrev others : List ℕ
+  others = picks P m (prefixes cs)
 
-  rising : Rising v (picks P m rs)
-  rising = picks-rising P m (suc (key r)) v rs (l .sorted .1) (wfs 32 rs (l .routes .1)) (shr-mono (32 - m) (omega arith))
+  pub head-low : c .addr / 2 ^ (32 - m) < noHead
+  head-low = omega (arith, shr-le (c .addr) (32 - m), l .candidates .0 .route .wf .inside)
 
-  pub count-skip : P (r .len) ≡ false → picks P m (r ∷ rs) ≡ picks P m rs
+  rising : Rising v others
+  rising = picks-rising P m (suc (key c)) v cs (l .sorted .1) (l .candidates .1) (shr-mono (32 - m) (omega arith))
+
+  pub count-skip : P (c .len) ≡ false → picks P m (prefixes (c ∷ cs)) ≡ picks P m (prefixes cs)
   count-skip e = rw e
 
-  pub count-same : P (r .len) ≡ true → r .addr / 2 ^ (32 - m) ≡ firstOr noHead (picks P m rs)
-      → distinct (picks P m (r ∷ rs)) ≡ distinct (picks P m rs)
-  count-same e q = rw e (distinct-step v noHead (picks P m rs) head-low rising ∙ rw (eq-eqb v (firstOr noHead (picks P m rs)) q))
+  pub count-same : P (c .len) ≡ true → c .addr / 2 ^ (32 - m) ≡ firstOr noHead (picks P m (prefixes cs))
+      → distinct (picks P m (prefixes (c ∷ cs))) ≡ distinct (picks P m (prefixes cs))
+  count-same e q = rw e (distinct-step v noHead others head-low rising ∙ rw (eq-eqb v (firstOr noHead others) q))
 
-  pub count-new : P (r .len) ≡ true → r .addr / 2 ^ (32 - m) ≢ firstOr noHead (picks P m rs)
-      → distinct (picks P m (r ∷ rs)) ≡ suc (distinct (picks P m rs))
-  count-new e q = rw e (distinct-step v noHead (picks P m rs) head-low rising ∙ rw (ne-eqb v (firstOr noHead (picks P m rs)) q))
+  pub count-new : P (c .len) ≡ true → c .addr / 2 ^ (32 - m) ≢ firstOr noHead (picks P m (prefixes cs))
+      → distinct (picks P m (prefixes (c ∷ cs))) ≡ suc (distinct (picks P m (prefixes cs)))
+  count-new e q = rw e (distinct-step v noHead others head-low rising ∙ rw (ne-eqb v (firstOr noHead others) q))
 
-  pub count-first : P (r .len) ≡ true → firstOr noHead (picks P m (r ∷ rs)) ≡ r .addr / 2 ^ (32 - m)
+  pub count-first : P (c .len) ≡ true → firstOr noHead (picks P m (prefixes (c ∷ cs))) ≡ c .addr / 2 ^ (32 - m)
   count-first e = rw e
 
 pub distinct-length : (P : ℕ → Bool) (m : ℕ) (rs : List Route) → distinct (picks P m rs) ≤ length rs
@@ -133,3 +145,55 @@ distinct-length P m (r ∷ rs) =
     bool (P (r .len))
     (λ e. rw e (bool (mem (r .addr / 2 ^ (32 - m)) (picks P m rs)) (λ d. rw d (omega arith)) (λ d. rw d (omega arith))))
     (λ e. rw e (omega arith))
+
+pub prefixes-length : (cs : List Candidate) → length (prefixes cs) ≡ length cs
+prefixes-length [] = refl
+prefixes-length (c ∷ cs) = ap suc (prefixes-length cs)
+
+-- ---- the winners' heads
+
+module _ (P : ℕ → Bool) (m z : ℕ) where
+  -- z is the head of a route that is picked
+  unfoldable isPick : Route → Bool
+  isPick r = P (r .len) && eqb (r .addr / 2 ^ (32 - m)) z
+
+  mem-picks : (r : Route) (rs : List Route) → mem z (picks P m (r ∷ rs)) ≡ (isPick r || mem z (picks P m rs))
+  unfolding isPick
+  mem-picks r rs = bool (P (r .len)) (λ e. rw e) (λ e. rw e)
+
+  same-pick : (r s : Route) → sorted.Good r → sorted.Good s → routes.key r ≡ routes.key s → isPick s ≡ isPick r
+  unfolding isPick
+  same-pick r s g g′ e =
+      let a : r .addr ≡ s .addr = omega (arith, g .short, g′ .short) in
+      let l : r .len ≡ s .len = omega (arith, g .short, g′ .short) in
+      rw (a, l)
+
+  picks-insert : (r : Route) (rs : List Route) → sorted.Good r → All sorted.Good rs
+      → mem z (picks P m (insert r rs)) ≡ (isPick r || mem z (picks P m rs))
+  picks-insert r [] g p = mem-picks r []
+  picks-insert r (s ∷ rs) g p =
+      tri (routes.key r) (routes.key s)
+      (λ l e. rw e (mem-picks r (s ∷ rs)))
+      (λ q e d. rw (e, d, mem-picks r rs, mem-picks s rs, same-pick r s g (p .0) q)
+      (sym (or-twice (isPick r) (mem z (picks P m rs)))))
+      (λ l e d. rw (e, d, mem-picks s (insert r rs), picks-insert r rs g (p .1), mem-picks s rs)
+      (or-swap (isPick s) (isPick r) (mem z (picks P m rs))))
+
+  -- a head hangs on no hop
+  pick-hop : (a l h i : ℕ) → isPick (route a l h) ≡ isPick (route a l i)
+  unfolding isPick
+  pick-hop a l h i = refl
+
+  pub picks-winners : (cs : List Candidate) → Every Good cs → mem z (picks P m (winners cs)) ≡ mem z (picks P m (prefixes cs))
+  picks-winners [] p = refl
+  picks-winners (c ∷ cs) p =
+      let r : Route = route (c .addr) (c .len) (winning (c ∷ cs) (prefixKey c)) in
+      picks-insert r (winners cs) (record { pos = head-pos c cs p; short = p .0 .short }) (winners-good cs (p .1))
+      ∙ ap (λ (b : Bool). b || mem z (picks P m (winners cs))) (pick-hop (c .addr) (c .len) (winning (c ∷ cs) (prefixKey c)) 0)
+      ∙ ap (λ (b : Bool). isPick (route (c .addr) (c .len) 0) || b) (picks-winners cs (p .1))
+      ∙ sym (mem-picks (route (c .addr) (c .len) 0) (prefixes cs))
+
+pub distinct-winners : (P : ℕ → Bool) (m : ℕ) (cs : List Candidate) → Every Good cs
+    → distinct (picks P m (prefixes cs)) ≡ distinct (picks P m (winners cs))
+distinct-winners P m cs p =
+    distinct-mem (picks P m (prefixes cs)) (picks P m (winners cs)) (λ z. sym (picks-winners P m z cs p))

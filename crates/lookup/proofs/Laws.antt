@@ -12,7 +12,7 @@ use Rattle.logic.specs.Cases.{bool, same}
 use Rattle.sizes.specs.Sizes.{cellAt, hopBound, bestBound}
 use Rattle.routes.specs.Match.{Match, none}
 use Rattle.routes.specs.Answers.{Reply, found, none as nothing, refused}
-use Rattle.routes.specs.Seen.{misfits}
+use Rattle.candidates.specs.Seen.{misfits}
 use Rattle.numbers.specs.Front.{byteOf}
 use Rattle.array.specs.Cell.{bestIn, linkIn, blockIn}
 use Rattle.words.specs.Words.{arrayCount}

@@ -12,6 +12,7 @@ use native.Mathlib.Omega.{arith}
 use lib.Dec.{ltb}
 use borrow.Author.Tests.{eq-eqb, ne-eqb, le-ltb}
 use Rattle.sizes.specs.Sizes.{cellSlots, hopBound, levelBound}
+use Rattle.routes.specs.Route.{Route}
 use Rattle.routes.specs.Match.{Match, longest, last}
 use Rattle.routes.specs.Block.{block}
 use Rattle.routes.specs.Answers.{Reply, matched}
@@ -26,9 +27,11 @@ use Rattle.words.specs.Words.{arraysOf, arrayCount, slotsOf, bestsOf, blocksOf}
 use Rattle.words.specs.Table.{listOf}
 use Rattle.words.specs.TableBut.{Table}
 use Rattle.words.specs.View.{seen-cases}
+use Rattle.words.specs.Stock.{table-winners}
+use Rattle.candidates.specs.Answers as candidates
 use Rattle.lookup.specs.Walk.{deeper, walkFrom, walk, walked, lookedUp}
 use Rattle.lookup.specs.Path.{along-slot, below-cell, nothing-longer}
-use Rattle.lookup.specs.Tied.{block-at}
+use Rattle.lookup.specs.Tied.{wonOf, block-at}
 use Rattle.lookup.specs.Level.{best-inside, level-last, level-first, upTo}
 
 -- length 0 is held in the array of level 0
@@ -46,7 +49,7 @@ module _ (L : ℕ) (ws : List ℕ) (o : Table L ws) (x : ℕ) (small : x < 2 ^ (
 
   -- what the walk is to give
   abbrev given : Reply
-  given = matched (last along (8 * L)) (block (8 * L) (listOf L ws) x)
+  given = matched (last along (8 * L)) (block (8 * L) (wonOf L ws) x)
 
   -- ---- level k, n levels above the last: its array, and the cell of the address there
   module _ (k n : ℕ) (p : k + suc n ≡ L) where
@@ -116,13 +119,19 @@ module _ (L : ℕ) (ws : List ℕ) (o : Table L ws) (x : ℕ) (small : x < 2 ^ (
   onward zero k p there = turns k zero p there (λ h b. absurd (omega arith))
   onward (suc n) k p there = turns k (suc n) p there (λ h b. onward n (suc k) (omega arith) b)
 
-  walk-longest : walk L ws x ≡ matched (longest (8 * L) x (listOf L ws)) (block (8 * L) (listOf L ws) x)
+  walk-won : walk L ws x ≡ matched (longest (8 * L) x (wonOf L ws)) (block (8 * L) (wonOf L ws) x)
   unfolding node
-  walk-longest =
+  walk-won =
       let e : suc (L - 1) ≡ L = omega (arith, o .shape .some-level) in
       (rw e at (onward (L - 1) 0 (omega (arith, o .shape .some-level)) (omega arith)))
-      ∙ ap (λ (m : Match). matched m (block (8 * L) (listOf L ws) x))
+      ∙ ap (λ (m : Match). matched m (block (8 * L) (wonOf L ws) x))
       (sym (longest-walk (8 * L) (held t) x (omega (arith, o .shape .levels)) small))
+
+  -- the winning hops are the winners of the list
+  walk-longest : walk L ws x ≡ candidates.lookedUp (8 * L) (listOf L ws) x
+  walk-longest =
+      walk-won
+      ∙ ap (λ (rs : List Route). matched (longest (8 * L) x rs) (block (8 * L) rs x)) (sym (table-winners L ws o))
 
 -- ---- on any words: by what they are seen to be
 

@@ -10,6 +10,8 @@ use Prim.Native.Nat.{ℕ, suc, _+_, _-_, _*_, _/_, _^_, _≤_, _<_}
 use native.Mathlib.Nat.{mul-div-cancel, le-antisymm}
 use native.Mathlib.Omega.{arith}
 use lib.Pow.{pow-pos, shr-shr, shr-lt, shl-lt}
+use Rattle.routes.specs.Route.{Route}
+use Rattle.routes.specs.Collect.{routes}
 use Rattle.routes.specs.Block.{Share, block}
 use Rattle.logic.specs.Cases.{same, most}
 use Rattle.laws.specs.Heads.{Below}
@@ -22,9 +24,12 @@ use Rattle.tree.specs.Arrays.{Arrays, node, held}
 use Rattle.tree.specs.Tree.{pow8}
 use Rattle.tree.specs.Need.{node-child, below}
 use Rattle.words.specs.Words.{arraysOf, arrayCount}
-use Rattle.words.specs.Table.{listOf}
 use Rattle.words.specs.TableBut.{Table}
 use Rattle.lookup.specs.Path.{bits, slot-held, along-slot, nothing-longer}
+
+-- the winning hops of a table as a route list
+abbrev pub wonOf : ℕ → List ℕ → List Route
+wonOf L ws = routes (8 * L) (held (arraysOf ws))
 
 -- ---- quiet, said of the prefixes below the first q bits
 
@@ -138,13 +143,13 @@ module _ (L : ℕ) (ws : List ℕ) (o : Table L ws) (x : ℕ) (small : x < 2 ^ (
 
   -- ---- the block of the address
 
-  pub block-at : (d : ℕ) → Block (t .slot a) (t .link a) i d → block (8 * L) (listOf L ws) x ≡ 8 * k + d
+  pub block-at : (d : ℕ) → Block (t .slot a) (t .link a) i d → block (8 * L) (wonOf L ws) x ≡ 8 * k + d
   block-at d c = le-antisymm upper lower
     where
       wide : 8 * L < 256
       wide = omega (arith, o .shape .levels)
 
-      upper : block (8 * L) (listOf L ws) x ≤ 8 * k + d
+      upper : block (8 * L) (wonOf L ws) x ≤ 8 * k + d
       upper =
           let e : 8 - d + d ≡ 8 = omega (arith, c .fits) in
           quiet-block (8 * L) (held t) x (8 * k + d) wide small (omega (arith, c .fits)) (calm-quiet (8 - d) d e (c .calm))
@@ -160,8 +165,8 @@ module _ (L : ℕ) (ws : List ℕ) (o : Table L ws) (x : ℕ) (small : x < 2 ^ (
           (λ l _. never-calm (omega arith)
           (quiet-calm 8 0 (omega arith) (quiet-more (8 * L) (held t) x q (8 * k + 0) (omega arith) z)))
 
-      lower : 8 * k + d ≤ block (8 * L) (listOf L ws) x
+      lower : 8 * k + d ≤ block (8 * L) (wonOf L ws) x
       lower =
-          let q = block (8 * L) (listOf L ws) x in
+          let q = block (8 * L) (wonOf L ws) x in
           most (8 * k + d) q (λ l _. l)
           (λ l _. absurd (none q l (block-quiet (8 * L) (held t) x q wide small (omega (arith, upper, c .fits)) (omega arith))))

@@ -10,7 +10,7 @@ use lib.Dec.{ltb, eqb}
 use lib.ListN.{length}
 use Rattle.sizes.specs.Sizes.{hopBound}
 use Rattle.routes.specs.Match.{Match, none, found}
-use Rattle.routes.specs.Seen.{misfits, lookupOn}
+use Rattle.candidates.specs.Seen.{misfits, lookupOn}
 use Rattle.routes.specs.Answers.{Reply, refused, refuse, matched}
 use Rattle.numbers.specs.Front.{byteOf}
 use Rattle.words.specs.Words.{arraysOf, arrayCount, bestsOf, blocksOf}

@@ -10,7 +10,7 @@ ghost use Rattle.sizes.specs.Sizes.{hopBound, bestBound};
 ghost use Rattle.numbers.specs.Number.{number};
 ghost use Rattle.routes.specs.Match.{none};
 ghost use Rattle.routes.specs.Answers.{refused};
-ghost use Rattle.routes.specs.Seen.{lookupOn};
+ghost use Rattle.candidates.specs.Seen.{lookupOn};
 ghost use Rattle.array.specs.Cell.{bestIn, linkIn, blockIn};
 ghost use Rattle.words.specs.Table.{seen};
 ghost use Rattle.words.specs.CheckReflects.{Fits};

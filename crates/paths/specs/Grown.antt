@@ -10,15 +10,17 @@ use Prim.Native.Nat.{ℕ, suc, _+_, _-_, _*_, _/_, _≤_, _<_}
 use native.Mathlib.Omega.{arith}
 use lib.ListN.{length, getD}
 use Rattle.sizes.specs.Sizes.{cellCount, perGroup}
-use Rattle.tree.specs.Arrays.{node, held}
+use Rattle.slots.specs.Word.{IsFeed}
+use Rattle.tree.specs.Arrays.{node}
 use Rattle.tree.specs.Tree.{Level, node-level}
 use Rattle.tree.specs.Need.{node-child, node-above}
-use Rattle.words.specs.Words.{arraysOf, arrayCount}
+use Rattle.gather.specs.Views.{feedView, wordHeld, view-shape}
+use Rattle.words.specs.Words.{feedsOf, arraysOf, arrayCount}
 use Rattle.words.specs.TableBut.{TableBut}
 use Rattle.tree.specs.Free.{firstFree}
 use Rattle.words.specs.Gained.{Gains, Gained}
 use Rattle.tree.specs.HungBelow.{HungBelow, hang-held, other, node-cases}
-use Rattle.words.specs.Gain.{Gain, gain-ends, gained-hung-below, gained-table-but}
+use Rattle.words.specs.Gain.{Gain, gain-ends, gained-hung-below, gained-feed, gained-table-but}
 use Rattle.tree.specs.Free.{Found, used-full}
 use Rattle.words.specs.Stock.{find-some}
 use Rattle.numbers.specs.Front.{front, byteOf, byte-lt, front-more, front-up}
@@ -38,7 +40,7 @@ pub record Grown (L : ℕ) (ws vs : List ℕ) (a j k r : ℕ) : Type 0 where
   pub some : 1 ≤ r
   pub size : length vs ≡ length ws
   pub leads : node (arraysOf vs) (front L a k) k ≡ r
-  pub held : (v l : ℕ) → held (arraysOf vs) v l ≡ held (arraysOf ws) v l
+  pub held : (v l f : ℕ) → IsFeed f → wordHeld (feedsOf vs) v l f ≡ wordHeld (feedsOf ws) v l f
   pub count : getD vs 0 0 ≡ getD ws 0 0 + (k - j)
   pub others : (c : ℕ) → 1 ≤ c → ((i : ℕ) → j ≤ i → i ≤ k → node (arraysOf vs) (front L a i) i ≢ c) → Alike ws vs c
 
@@ -83,6 +85,9 @@ module _ (L : ℕ) (ws : List ℕ) (q j b i : ℕ) (tip : OpenCell L ws q j b i)
     hang : HungBelow (arrayCount ws) L (arraysOf ws) (arraysOf vs) b i f
     hang = gained-hung-below L ws b i f (tip .ok) gn vs re
 
+    hang-feed : (j : ℕ) → IsFeed j → HungBelow (arrayCount ws) L (feedView (feedsOf ws) j) (feedView (feedsOf vs) j) b i f
+    hang-feed = gained-feed L ws b i f (tip .ok) gn vs re
+
     -- a path that led somewhere leads there
     stay : (v k : ℕ) → 1 ≤ node (arraysOf ws) v k → node (arraysOf vs) v k ≡ node (arraysOf ws) v k
     stay v k p = ⊎-elim
@@ -126,7 +131,7 @@ grown-none L ws a j b ok h e = record {
   some = h;
   size = refl;
   leads = e;
-  held = λ v l. refl;
+  held = λ v l f y. refl;
   count = omega arith;
   others = λ c l n w m. refl;
 }
@@ -177,14 +182,16 @@ module _ {L : ℕ} {ws vs : List ℕ} {a j i b : ℕ} (t : Turn L ws vs a j i b)
 
       grown : Grown L ws U a j (suc i) F
       grown =
-          let hg = hang L vs (front L a i) i b Y (t .tip) deep room U re in
           record {
             ok = ok L vs (front L a i) i b Y (t .tip) deep room U re;
             some = fo L vs (front L a i) i b Y (t .tip) deep room .low;
             size = re .size ∙ t .grown .size;
             leads = leads-on;
-            held = λ v l. hang-held (arrayCount vs) L (arraysOf vs) (arraysOf U) b Y F hg (t .tip .ok .shape) v l
-                ∙ t .grown .held v l;
+            held = λ v l f y.
+                hang-held (arrayCount vs) L (feedView (feedsOf vs) f) (feedView (feedsOf U) f) b Y F
+                (hang-feed L vs (front L a i) i b Y (t .tip) deep room U re f y)
+                (view-shape (feedsOf vs) (arrayCount vs) L f (t .tip .ok .shape)) v l
+                ∙ t .grown .held v l f y;
             count = omega (arith, re .count, t .grown .count, t .low);
             others = others;
           }

@@ -7,6 +7,7 @@ ghost use Prim.Native.Nat.{_+_, _-_, _^_, _<_, _≤_};
 ghost use lib.ListN.{length as size, getD};
 ghost use Rattle.sizes.specs.Sizes.{leastWords, mostWords, arrayAt};
 ghost use Rattle.tree.specs.Shape.{Shape};
+ghost use Rattle.slots.specs.Word.{IsFeed};
 ghost use Rattle.words.specs.Words.{arraysOf, arrayCount};
 ghost use Rattle.words.specs.TableBut.{Table};
 ghost use Rattle.numbers.specs.Front.{front, byteOf};
@@ -15,7 +16,7 @@ ghost use Rattle.numbers.specs.Number.{number};
 ghost use Rattle.paths.specs.Grown.{OpenCell, Grown};
 ghost use Rattle.paths.specs.Stop.{Stops, Opened};
 ghost use Rattle.paths.specs.Shrunk.{EmptyAllowed, Pruned};
-ghost use Rattle.paths.specs.Held.{hopFound, Sought};
+ghost use Rattle.paths.specs.Held.{wordFound, Sought};
 
 // An array and its level.
 pub struct Stop {
@@ -44,10 +45,10 @@ fn walk_down(words: &[u32], address: &[u8], k: usize) -> Stop
     Stop { array: a, level: j }
 }
 
-// The hop of the prefix at a place whose path stops at s, 0 where it is not held.
-fn hop_at(words: &[u32], s: Stop, p: Place) -> u32
-    requires { ⌜ (arrayAt (s .array + 1) ≤ size (now words)) × (p .depth ≤ 8) × (p .value < 2 ^ p .depth) ⌝ }
-    ensures { λ r. ⌜ r ≡ hopFound (now (words .entry)) (s .array) (s .level) (p .level) (p .depth) (p .value) ⌝ }
+// A feed's word at a place whose path stops at s, 0 where it has no candidate there.
+fn word_at(words: &[u32], s: Stop, p: Place, feed: usize) -> u32
+    requires { ⌜ (arrayAt (s .array + 1) ≤ size (now words)) × (p .depth ≤ 8) × (p .value < 2 ^ p .depth) × IsFeed feed ⌝ }
+    ensures { λ r. ⌜ r ≡ wordFound (now (words .entry)) (s .array) (s .level) (p .level) (p .depth) (p .value) feed ⌝ }
 {
     let j = s.level;
     let k = p.level;
@@ -57,29 +58,30 @@ fn hop_at(words: &[u32], s: Stop, p: Place) -> u32
     let a = s.array;
     let d = p.depth;
     let x = p.value;
-    words::part::slot(words, a, array::place::slot_of(d, x))
+    words::part::word(words, a, array::place::slot_of(d, x), feed)
 }
 
-// A prefix that was sought: where it stands, where its path stops, and its hop, 0 where it is not held.
+// A candidate that was sought: where its prefix stands, where the prefix's path stops, and its word, 0 where it is not held.
 pub struct Found {
     pub place: Place,
     pub stop: Stop,
-    pub hop: u32,
+    pub word: u32,
 }
 
-pub fn find(words: &[u32], address: &[u8], length: u32) -> Found
-    requires { ⌜ Table (size (now address)) (now words) × IsPrefix (size (now address)) (number (now address)) length ⌝ }
-    ensures { λ r. ⌜ Sought (size (now (address .entry))) (now (words .entry)) (number (now (address .entry))) length
-        (r .place .level) (r .place .depth) (r .place .value) (r .stop .level) (r .stop .array) (r .hop) ⌝ }
+pub fn find(words: &[u32], address: &[u8], length: u32, feed: usize) -> Found
+    requires { ⌜ Table (size (now address)) (now words) × IsPrefix (size (now address)) (number (now address)) length
+        × IsFeed feed ⌝ }
+    ensures { λ r. ⌜ Sought (size (now (address .entry))) (now (words .entry)) (number (now (address .entry))) length feed
+        (r .place .level) (r .place .depth) (r .place .value) (r .stop .level) (r .stop .array) (r .word) ⌝ }
 {
     let p = address::place_of(address, length);
     let k = p.level;
     let s = walk_down(words, address, k);
-    let hop = hop_at(words, s, p);
+    let word = word_at(words, s, p, feed);
     Found {
         place: p,
         stop: s,
-        hop: hop,
+        word: word,
     }
 }
 

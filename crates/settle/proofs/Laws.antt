@@ -3,20 +3,26 @@ use mathlib.Core.Path.{_≡_, sym, _∙_}
 use mathlib.Core.Logic.{_≢_}
 use mathlib.Core.Bool.{Bool, true, false, not, _&&_}
 use mathlib.Core.List.{List}
-use Prim.Native.Nat.{ℕ, _+_, _-_, _/_, _^_, _≤_, _<_}
+use Prim.Native.Nat.{ℕ, _+_, _-_, _*_, _/_, _^_, _≤_, _<_}
 use native.Mathlib.Omega.{arith}
 use lib.Bits.{bitOr}
 use lib.Dec.{leb, eqb}
-use lib.ListN.{getD}
+use lib.ListN.{getD, set}
 use borrow.Author.Tests.{eq-eqb, ne-eqb, le-leb}
 use Rattle.logic.specs.Cases.{most}
 use Rattle.logic.specs.Bools.{not-true, not-false}
 use Rattle.logic.specs.Ors.{or-none}
-use Rattle.sizes.specs.Sizes.{cellSlots}
+use Rattle.sizes.specs.Sizes.{cellCount, cellSlots}
 use Rattle.calm.specs.Climb.{across, rests, joins}
+use Rattle.slots.specs.Word.{IsFeed}
 use Rattle.array.specs.Cell.{linkIn, blockIn}
 use Rattle.array.specs.Page.{slots, links, blocks}
-use Rattle.settle.specs.Busy.{endsB, cellIs}
+use Rattle.array.specs.Reslot.{Reslots}
+use Rattle.array.specs.declared.change.Changed.{Changed}
+use Rattle.settle.specs.Busy.{Busy, busy-more, endsB, cellIs}
+use Rattle.settle.specs.Settled.{SettledPage, Resettled}
+use Rattle.settle.specs.Was.{Was, was-so, reset, reset-word}
+use Rattle.settle.specs.Reset.{Resets}
 
 -- ---- a cell across
 
@@ -28,19 +34,27 @@ pub rests-plain : (w m q : ℕ) (r : Bool) → r ≡ not (eqb (linkIn w) 0) → 
     → leb q m ≡ rests (λ _. linkIn w) (λ _. blockIn w) 0 m
 rests-plain w m q r e t d = rw (not-false (eqb (linkIn w) 0) (sym e ∙ t), d)
 
--- ---- the two halves below a slot
+-- ---- the two halves below a slot, and what was read of them
 
-module _ (l : List ℕ) (i m own : ℕ) (e : own ≡ (cellSlots + i) / 2 ^ (8 - m)) where
-  pub joins-own : slots l own ≢ 0 → false ≡ joins (slots l) (links l) (blocks l) i m
-  joins-own n = rw (← e, ne-eqb (slots l own) 0 n)
+module _ (l : List ℕ) (i m own : ℕ) (e : own ≡ (cellSlots + i) / 2 ^ (8 - m)) (h : ℕ) (p : h ≡ slots l own) where
+  pub joins-own : h ≢ 0 → false ≡ joins (slots l) (links l) (blocks l) i m
+  joins-own n = rw (← e, ← p, ne-eqb h 0 n)
 
-  module _ (j other : ℕ) (d : j ≡ across i (8 - m)) (o : other ≡ (cellSlots + j) / 2 ^ (8 - m)) (z : slots l own ≡ 0) where
-    pub joins-other : slots l other ≢ 0 → false ≡ joins (slots l) (links l) (blocks l) i m
-    joins-other n = rw (← e, ← d, ← o, eq-eqb (slots l own) 0 z, ne-eqb (slots l other) 0 n)
+  module _ (j other : ℕ) (d : j ≡ across i (8 - m)) (o : other ≡ (cellSlots + j) / 2 ^ (8 - m)) (z : h ≡ 0) (k : ℕ)
+      (q : k ≡ slots l other) where
+    pub joins-other : k ≢ 0 → false ≡ joins (slots l) (links l) (blocks l) i m
+    joins-other n = rw (← e, ← d, ← o, ← p, ← q, eq-eqb h 0 z, ne-eqb k 0 n)
 
-    pub joins-rest : slots l other ≡ 0 → (r : Bool) → r ≡ rests (λ _. links l j) (λ _. blocks l j) 0 m
+    pub joins-rest : k ≡ 0 → (r : Bool) → r ≡ rests (λ _. links l j) (λ _. blocks l j) 0 m
         → r ≡ joins (slots l) (links l) (blocks l) i m
-    joins-rest y r x = rw (← e, ← d, ← o, eq-eqb (slots l own) 0 z, eq-eqb (slots l other) 0 y) x
+    joins-rest y r x = rw (← e, ← d, ← o, ← p, ← q, eq-eqb h 0 z, eq-eqb k 0 y) x
+
+-- ---- a turn of the loop over the slots above two others, whose hops are a and b
+
+pub busy-turn : (l c : List ℕ) (k v a b : ℕ) → k < 255 → a ≡ slots l (2 * (255 - k)) → b ≡ slots l (2 * (255 - k) + 1)
+    → eqb v 0 ≡ ((eqb a 0 && eqb b 0) && (eqb (getD c (2 * (255 - k)) 0) 0 && eqb (getD c (2 * (255 - k) + 1) 0) 0))
+    → Busy (slots l) (links l) c (cellSlots - k) → Busy (slots l) (links l) (set c (255 - k) v) (cellSlots - (k + 1))
+busy-turn l c k v a b h p q e y = busy-more l c k v h (rw (p, q) at e) y
 
 -- ---- an or of words is 0 where all are
 
@@ -71,3 +85,21 @@ cell-linked c w i r e t = rw (not-true (eqb (linkIn w) 0) (sym e ∙ t))
 pub cell-plain : (c : List ℕ) (w i q : ℕ) (r s : Bool) → r ≡ not (eqb (linkIn w) 0) → r ≡ false → q ≡ blockIn w
     → s ≡ endsB c i q → s ≡ cellIs c w i
 cell-plain c w i q r s e t d p = rw (not-false (eqb (linkIn w) 0) (sym e ∙ t), ← d) p
+
+-- ---- a slot's word set, and then the blocks around it
+
+module _ (l m : List ℕ) (d x f w i : ℕ) (c : Changed) (ie : i ≡ x * 2 ^ (8 - d)) (ib : i < cellCount) (high : d ≤ 8)
+    (z : SettledPage l) (r : Reslots l m d x f w c) where
+  pub reslot-was : Was m i d (c .before) (c .after)
+  reslot-was = rw (r .after) (was-so l m d x _ i (c .before) ie ib high (r .before) z (r .slot) (r .blocks))
+
+  pub reslot-resets : IsFeed f → (n : List ℕ) → Resettled m n → Resets l n d x f w (c .cells)
+  reslot-resets p n y =
+      let e = reset l m d x _ i (c .before) ie ib high (r .before) z (r .slot) (r .blocks) n y in
+      record {
+        word = reset-word l m d x _ i (c .before) ie ib high (r .before) z (r .slot) (r .blocks) f w p (r .word) n y;
+        slot = e .0;
+        settled = e .1;
+        cells = r .cells;
+        small = r .small;
+      }

@@ -84,13 +84,13 @@ busy-slot f g c s v l h e b = record {
 
 -- ---- in the loops
 
-pub marks-more : (l c : List ℕ) (i v : ℕ) → i < cellCount → v ≡ mark (getD l (767 - i) 0)
+pub marks-more : (l c : List ℕ) (i v : ℕ) → i < cellCount → v ≡ mark (getD l (2303 - i) 0)
     → Busy (slots l) (links l) c (slotEnd - i) → Busy (slots l) (links l) (set c (lastSlot - i) v) (slotEnd - (i + 1))
 marks-more l c i v h e b =
     let p : cellSlots + (255 - i) ≡ lastSlot - i = omega arith in
     let q : cellSlots + (255 - i) + 1 ≡ slotEnd - i = omega arith in
     let r : slotEnd - (i + 1) ≡ cellSlots + (255 - i) = omega arith in
-    let w : 767 - i ≡ cellsAt + (255 - i) = omega arith in
+    let w : 2303 - i ≡ cellsAt + (255 - i) = omega arith in
     rw (r, ← p) (busy-cell (slots l) (links l) c (255 - i) v (omega arith)
     (rw (e, w) (sym (link-tells (getD l (cellsAt + (255 - i)) 0)))) (rw q b))
 

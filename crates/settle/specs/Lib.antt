@@ -4,5 +4,6 @@ pub mod Settled
 pub mod Slot
 pub mod Link
 pub mod Was
+pub mod Reset
 pub mod Busy
 pub mod Exists

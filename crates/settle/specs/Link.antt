@@ -14,7 +14,7 @@ use lib.Seq.{getD-set-same, getD-set-other}
 use borrow.Author.Tests.{leb-true}
 use Rattle.logic.specs.Cases.{same, most, less}
 use Rattle.logic.specs.Bools.{and-to}
-use Rattle.sizes.specs.Sizes.{arrayWords, mostArrays, slotEnd, cellCount, cellsAt, unusedAt, blockBound, bestBound}
+use Rattle.sizes.specs.Sizes.{arrayWords, mostArrays, cellCount, cellsAt, unusedAt, blockBound, bestBound}
 use Rattle.numbers.specs.Agree.{agreement}
 use Rattle.calm.specs.Calm.{Calm, Block, Settled}
 use Rattle.calm.specs.Taken.{Taken, parted, shares-to, taken-some, freed-some}
@@ -22,6 +22,7 @@ use Rattle.calm.specs.Slotted.{link-taken}
 use Rattle.calm.specs.Climb.{climbOf, climbs, freed-sides}
 use Rattle.array.specs.Cell.{bestIn, linkIn, blockIn}
 use Rattle.array.specs.With.{plain, linked, withBlock, plain-link, plain-best, linked-link, linked-best}
+use Rattle.array.specs.Low.{low-slots}
 use Rattle.array.specs.Page.{slots, word, bests, links, blocks}
 use Rattle.settle.specs.Part.{Recelled, stage}
 use Rattle.calm.specs.Same.{settled-ext}
@@ -30,7 +31,7 @@ use Rattle.settle.specs.Settled.{SettledPage, Resettled, put-link, put-b
 -- m is l but for the link of cell i, which is a, and for blocks, and has them right
 pub record Relinked (l m : List ℕ) (i a : ℕ) : Type 0 where
   pub size : length m ≡ length l
-  pub low : (r : ℕ) → r < slotEnd → getD m r 0 ≡ getD l r 0
+  pub low : (r : ℕ) → r < cellsAt → getD m r 0 ≡ getD l r 0
   pub high : (r : ℕ) → unusedAt ≤ r → getD m r 0 ≡ getD l r 0
   pub same-bests : (j : ℕ) → j < cellCount → bests m j ≡ bests l j
   pub here : links m i ≡ a
@@ -49,7 +50,7 @@ module _ (l : List ℕ) (i v : ℕ) (size : length l ≡ arrayWords) (ib : i < c
   pub set-other : (j : ℕ) → j ≢ i → word (set l (cellsAt + i) v) j ≡ word l j
   set-other j n = getD-set-other l (cellsAt + i) (cellsAt + j) v 0 (λ e. n (omega arith))
 
-  pub set-low : (r : ℕ) → r < slotEnd → getD (set l (cellsAt + i) v) r 0 ≡ getD l r 0
+  pub set-low : (r : ℕ) → r < cellsAt → getD (set l (cellsAt + i) v) r 0 ≡ getD l r 0
   set-low r h = getD-set-other l (cellsAt + i) r v 0 (λ e. omega arith)
 
   pub set-high : (r : ℕ) → unusedAt ≤ r → getD (set l (cellsAt + i) v) r 0 ≡ getD l r 0
@@ -71,7 +72,8 @@ link-set l m i a q b size ib low high z o be bb qe x = record {
   settled = settled-ext (slots n) (links n) (parted i 9 q (blocks l)) (slots n) (links n) (blocks n)
       (λ r p y. refl) (λ j h. refl) new
       (taken-some (slots l) (links l) (slots n) (links n) i 9
-      (link-taken (slots l) (links l) (slots n) (links n) i ib (λ r p y. set-low m i v ms ib r y ∙ x .low r y)
+      (link-taken (slots l) (links l) (slots n) (links n) i ib
+      (λ r p y. low-slots l n (λ k h. set-low m i v ms ib k h ∙ x .low k h) r y)
       o (omega (arith, here)) others)
       (blocks l) q z o (sym qe) (omega (arith, z i ib o .fits)));
 }
@@ -151,7 +153,8 @@ link-cut l m i q v b size ib z o be bb qe ve x = record {
 
     u : Taken (slots n) (links n) (slots l) (links l) i 9
     u =
-        link-taken (slots n) (links n) (slots l) (links l) i ib (λ y p h. sym (set-low l i w size ib y h)) gone (omega arith)
+        link-taken (slots n) (links n) (slots l) (links l) i ib (λ y p h. sym (low-slots l n (set-low l i w size ib) y h)) gone
+        (omega arith)
         (λ j h e. sym (ap linkIn (set-other l i w size ib j e)))
 
     -- the block of a cell with a link is not asked for

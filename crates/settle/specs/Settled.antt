@@ -10,12 +10,13 @@ use Prim.Native.Nat.{ℕ, _+_, _/_, _^_, _≤_, _<_}
 use native.Mathlib.Omega.{arith}
 use lib.ListN.{length, getD}
 use Rattle.logic.specs.Cases.{bool}
-use Rattle.sizes.specs.Sizes.{slotEnd, cellCount, cellSlots, unusedAt, blockBound}
+use Rattle.sizes.specs.Sizes.{slotEnd, cellCount, cellSlots, cellsAt, unusedAt, blockBound}
 use Rattle.calm.specs.Same.{settled-ext}
 use Rattle.calm.specs.Calm.{Settled}
 use Rattle.calm.specs.Slotted.{slot-range}
 use Rattle.array.specs.Cell.{bestIn, linkIn, blockIn}
 use Rattle.array.specs.With.{withBlock, block-set, block-link, block-best}
+use Rattle.array.specs.Low.{low-slots}
 use Rattle.array.specs.Page.{slots, word, bests, links, blocks}
 use Rattle.settle.specs.Part.{Recelled}
 
@@ -26,7 +27,7 @@ SettledPage l = Settled (slots l) (links l) (blocks l)
 -- m is l but for blocks, and has them right
 pub record Resettled (l m : List ℕ) : Type 0 where
   pub size : length m ≡ length l
-  pub low : (r : ℕ) → r < slotEnd → getD m r 0 ≡ getD l r 0
+  pub low : (r : ℕ) → r < cellsAt → getD m r 0 ≡ getD l r 0
   pub high : (r : ℕ) → unusedAt ≤ r → getD m r 0 ≡ getD l r 0
   pub same-bests : (j : ℕ) → j < cellCount → bests m j ≡ bests l j
   pub same-links : (j : ℕ) → j < cellCount → links m j ≡ links l j
@@ -88,6 +89,6 @@ module _ (l m : List ℕ) (t : ℕ → Bool) (v : ℕ → ℕ) (x : Recelled l m
     high = x .high;
     same-bests = put-best;
     same-links = put-link;
-    settled = settled-ext (slots l) (links l) b (slots m) (links m) (blocks m) (λ r p q. x .low r q) put-link
+    settled = settled-ext (slots l) (links l) b (slots m) (links m) (blocks m) (λ r p q. low-slots l m (x .low) r q) put-link
         (λ j h o. put-block j h ∙ e j h o) z;
   }

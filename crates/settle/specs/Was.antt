@@ -18,7 +18,9 @@ use Rattle.sizes.specs.Sizes.{slotEnd, cellCount, cellSlots}
 use Rattle.calm.specs.Calm.{Settled}
 use Rattle.calm.specs.Slotted.{slot-of, slot-range, slot-taken}
 use Rattle.array.specs.Page.{slots, bests, links, blocks}
-use Rattle.array.specs.Put.{PageSlotSet, BlocksKept}
+use Rattle.slots.specs.Word.{IsFeed}
+use Rattle.array.specs.Low.{low-words, low-slots}
+use Rattle.array.specs.Put.{PageWordSet, PageSlotSet, BlocksKept}
 use Rattle.array.specs.Right.{sound-ext}
 use Rattle.calm.specs.Same.{settled-ext}
 use Rattle.settle.specs.Settled.{SettledPage, Resettled, hop-settled}
@@ -97,19 +99,27 @@ module _ (l m : List ℕ) (d x hop i old : ℕ) (ie : i ≡ x * 2 ^ (8 - d)) (ib
     other = λ a b. kept (λ e. absurd (a e)) (λ e. absurd (b e));
   }
 
-  -- blocks written after it leave the slot as it was set
+  below : 2 ^ d + x < slotEnd
+  below = rw (← over) (slot-range i (8 - d) ib (omega arith) .1)
+
+  -- blocks written after it leave the slot as it was set, and the words of all slots
   pub reset : (n : List ℕ) → Resettled m n → PageSlotSet l n (2 ^ d + x) hop × SettledPage n
   reset n r = (
     record {
       size = r .size ∙ s .size;
       tag = r .low 0 (omega arith) ∙ s .tag;
       same-links = λ j b. r .same-links j b ∙ s .same-links j b;
-      here = r .low (2 ^ d + x) below ∙ s .here;
-      same-slots = λ q a b e. r .low q b ∙ s .same-slots q a b e;
-      sound = sound-ext (slots m) (bests m) (slots n) (bests n) (λ q a b. r .low q b) (r .same-bests) (s .sound);
+      here = low-slots m n (r .low) (2 ^ d + x) below ∙ s .here;
+      same-slots = λ q a b e. low-slots m n (r .low) q b ∙ s .same-slots q a b e;
+      sound = sound-ext (slots m) (bests m) (slots n) (bests n) (λ q a b. low-slots m n (r .low) q b) (r .same-bests) (s .sound);
     },
     r .settled,
   )
-    where
-      below : 2 ^ d + x < slotEnd
-      below = rw (← over) (slot-range i (8 - d) ib (omega arith) .1)
+
+  pub reset-word : (f w : ℕ) → IsFeed f → PageWordSet l m (2 ^ d + x) f w → (n : List ℕ) → Resettled m n
+      → PageWordSet l n (2 ^ d + x) f w
+  reset-word f w p y n r = record {
+    here = low-words m n (r .low) (2 ^ d + x) below f p ∙ y .here;
+    feeds = λ j q e. low-words m n (r .low) (2 ^ d + x) below j q ∙ y .feeds j q e;
+    slots = λ v a b e j q. low-words m n (r .low) v b j q ∙ y .slots v a b e j q;
+  }

@@ -7,6 +7,7 @@ use sizes::CELLS_AT;
 use sizes::LAST_SLOT;
 use sizes::MARK_UNIT;
 use sizes::SLOT_END;
+use slots::slot::hop_of;
 ghost use mathlib.Core.Path.{_≡_};
 ghost use mathlib.Core.Bool.{_&&_};
 ghost use Prim.Native.Nat.{_+_, _-_, _/_, _^_, _<_, _≤_};
@@ -18,7 +19,7 @@ ghost use Rattle.array.specs.Page.{slots, links, blocks};
 ghost use Rattle.settle.specs.Busy.{Busy, endsB, cellIs};
 
 // The last cell's word, and the last slot that stands above two others.
-const LAST_CELL_AT: usize = 767;
+const LAST_CELL_AT: usize = 2303;
 
 const LAST_INNER: usize = 255;
 
@@ -50,7 +51,12 @@ fn busy(page: &[u32]) -> [u32; SLOT_END]
     for k in 0..LAST_INNER {
         let s = LAST_INNER - k;
         let two = 2 * s;
-        all[s] = any(page[two], page[two + 1], all[two], all[two + 1]);
+        all[s] = any(
+            hop_of(page, two),
+            hop_of(page, two + 1),
+            all[two],
+            all[two + 1],
+        );
     }
     all
 }

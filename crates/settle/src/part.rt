@@ -5,6 +5,7 @@ use array::cell::with_block;
 use array::place::pow2;
 use sizes::CELL_SLOTS;
 use sizes::CELLS_AT;
+use slots::slot::hop_of;
 ghost use mathlib.Core.Path.{_≡_};
 ghost use mathlib.Core.Bool.{cond};
 ghost use Prim.Native.Nat.{_+_, _-_, _/_, _^_, _<_, _≤_};
@@ -99,11 +100,11 @@ fn joins(page: &[u32], i: usize, m: usize) -> bool
 {
     let j = across(i, m);
     let own = slot_over(i, m);
-    if page[own] != 0 {
+    if hop_of(page, own) != 0 {
         return false;
     }
     let other = slot_over(j, m);
-    if page[other] != 0 {
+    if hop_of(page, other) != 0 {
         return false;
     }
     rests(page[CELLS_AT + j], m)

@@ -1,21 +1,21 @@
-// A slot of an array set to a hop, or to 0 for none, with the blocks around it.
+// A word of a slot set, with the blocks around the slot.
 use super::part::climb;
 use super::part::fill_below;
 use super::part::part;
 use array::cell::block_in;
 use array::cell::has_link;
 use array::place::first_cell;
-use array::place::slot_of;
 use sizes::CELLS_AT;
 ghost use mathlib.Core.Path.{_≡_};
-ghost use Prim.Native.Nat.{_+_, _*_, _-_, _^_, _<_, _≤_};
+ghost use Prim.Native.Nat.{_<_, _≤_};
 ghost use lib.ListN.{length};
-ghost use Rattle.sizes.specs.Sizes.{arrayWords, cellCount, hopBound};
-ghost use Rattle.array.specs.Page.{slots};
-ghost use Rattle.array.specs.Put.{exposed, SlotAt, PageSlotSet};
+ghost use Rattle.sizes.specs.Sizes.{arrayWords, cellCount};
+ghost use Rattle.slots.specs.Word.{IsFeed};
+ghost use Rattle.array.specs.Put.{SlotAt};
 ghost use Rattle.settle.specs.Settled.{SettledPage, Resettled};
 ghost use Rattle.settle.specs.Slot.{WasFree, WasTaken};
 ghost use Rattle.settle.specs.Was.{Was};
+ghost use Rattle.settle.specs.Reset.{Resets};
 
 // The slot of depth d over cell i was taken. Where nothing above it was calm, as in a crowded array, there is nothing to write.
 fn took(page: &mut [u32], i: usize, d: usize)
@@ -69,16 +69,13 @@ fn resettle(page: &mut [u32], i: usize, d: usize, old: u32, hop: u32)
     freed(page, i, d)
 }
 
-// Sets the slot of in-array length d and value x to a hop, or to 0 for none: the cells below it that no longer slot covers take
-// its cover, and are counted; and every cell without a link has its block.
-pub fn reslot(page: &mut [u32], d: usize, x: usize, hop: u32) -> u32
-    requires { ⌜ SlotAt (now page) d x × SettledPage (now page) × (hop < hopBound) ⌝ }
-    ensures { λ r. ⌜ PageSlotSet (now (page .entry)) (now (page .exit)) (2 ^ d + x) hop × SettledPage (now (page .exit))
-        × (r ≡ exposed (slots (now (page .entry))) d (x * 2 ^ (8 - d)) (2 ^ (8 - d))) × (r ≤ cellCount) ⌝ }
+// Sets the word of a feed in the slot of in-array length d and value x, to 0 for none. Where another hop wins there then, the
+// cells below that no longer slot covers take the slot's cover, and are counted; and every cell without a link has its block.
+pub fn reslot(page: &mut [u32], d: usize, x: usize, feed: usize, word: u32) -> u32
+    requires { ⌜ SlotAt (now page) d x × SettledPage (now page) × IsFeed feed ⌝ }
+    ensures { λ r. ⌜ Resets (now (page .entry)) (now (page .exit)) d x feed word r ⌝ }
 {
-    let slot = slot_of(d, x);
-    let old = page[slot];
-    let cells = array::change::reslot(page, d, x, hop);
-    resettle(page, first_cell(d, x), d, old, hop);
-    cells
+    let changed = array::change::reslot(page, d, x, feed, word);
+    resettle(page, first_cell(d, x), d, changed.before, changed.after);
+    changed.cells
 }

@@ -6,21 +6,27 @@ use Prim.Native.Nat.{ℕ, _+_, _*_}
 
 -- the words of an array, and of the header
 abbrev pub arrayWords : ℕ
-arrayWords = 1024
+arrayWords = 3072
 
 abbrev pub mostArrays : ℕ
 mostArrays = 4096
 
 -- the words of a table of one array, and of one of the most
 abbrev pub leastWords : ℕ
-leastWords = 2048
+leastWords = 6144
 
 abbrev pub mostWords : ℕ
-mostWords = 4195328
+mostWords = 12585984
 
 -- ---- an array: its tag, its slots, its cells, and words without use
 
--- the slots have the numbers 1 .. lastSlot, each the word of that number
+-- the slots have the numbers 1 .. lastSlot, and slot s has a word for each feed, from slotAt s on
+abbrev pub slotWords : ℕ
+slotWords = 4
+
+abbrev pub slotAt : ℕ → ℕ
+slotAt s = slotWords * s
+
 abbrev pub lastSlot : ℕ
 lastSlot = 511
 
@@ -32,7 +38,7 @@ abbrev pub cellCount : ℕ
 cellCount = 256
 
 abbrev pub cellsAt : ℕ
-cellsAt = 512
+cellsAt = 2048
 
 -- slot cellSlots + i is the longest above cell i
 abbrev pub cellSlots : ℕ
@@ -50,7 +56,11 @@ slotStrides = 15
 
 -- the words from here on have no use, whatever they hold
 abbrev pub unusedAt : ℕ
-unusedAt = 768
+unusedAt = 2304
+
+-- how many words the slots and the cells are, from the first slot's on
+abbrev pub bodyWords : ℕ
+bodyWords = 2300
 
 -- ---- where array a stands in the words, its word k, and its cell i
 
@@ -65,7 +75,7 @@ cellAt a i = arrayWords * a + cellsAt + i
 
 -- the slot of length 0, which is the root's first
 abbrev pub rootSlot : ℕ
-rootSlot = wordAt 1 1
+rootSlot = wordAt 1 (slotAt 1)
 
 -- ---- a cell's word: mark * markUnit + hop * linkBound + rest. The rest is the number of the array below, less 1; where the
 -- mark is 0 there is none, and the rest is in-array length * blockBound + block. A best: in-array length * hopBound + hop
@@ -114,4 +124,4 @@ abbrev pub restAt : ℕ
 restAt = 513
 
 abbrev pub restWords : ℕ
-restWords = 511
+restWords = 2559

@@ -1,15 +1,17 @@
 // The sizes of a table, of an array, of a cell's word and of a tag: those of specs/Sizes, for the code.
 
 // The words of an array, and of the header before the first.
-pub const ARRAY_WORDS: usize = 1024;
+pub const ARRAY_WORDS: usize = 3072;
 // The arrays of a table at most.
 pub const MOST_ARRAYS: usize = 4096;
 // The words of a table of one array.
-pub const LEAST_WORDS: usize = 2048;
+pub const LEAST_WORDS: usize = 6144;
 // The words of a table of the most arrays.
-pub const MOST_WORDS: usize = 4195328;
+pub const MOST_WORDS: usize = 12585984;
 
-// The last slot of an array: the slots are its words from 1 to this one.
+// The words of a slot, one for each feed: those of slot s of an array begin at SLOT_WORDS * s.
+pub const SLOT_WORDS: usize = 4;
+// The last slot of an array: they have the numbers from 1 to this one.
 pub const LAST_SLOT: usize = 511;
 // One past the last slot.
 pub const SLOT_END: usize = 512;
@@ -20,13 +22,15 @@ pub const SLOT_STRIDES: usize = 15;
 // How many cells an array has.
 pub const CELL_COUNT: usize = 256;
 // The first cell's word in an array.
-pub const CELLS_AT: usize = 512;
+pub const CELLS_AT: usize = 2048;
 // Slot CELL_SLOTS + i is the longest above cell i.
 pub const CELL_SLOTS: usize = 256;
 // The first word of an array after the cells: from there on no word has a use, whatever it holds.
-pub const UNUSED_AT: usize = 768;
+pub const UNUSED_AT: usize = 2304;
+// How many words the slots and the cells are, from the first slot's on.
+pub const BODY_WORDS: usize = 2300;
 // The word of the root's first slot, which is that of length 0.
-pub const ROOT_SLOT: usize = 1025;
+pub const ROOT_SLOT: usize = 3076;
 
 // A cell's word is its mark times this, ..
 pub const MARK_UNIT: u32 = 268435456;
@@ -53,4 +57,4 @@ pub const STRIDE_ARRAYS: usize = 64;
 // The header's first word after the groups.
 pub const REST_AT: usize = 513;
 // How many words of the header are left from there: they are 0.
-pub const REST_WORDS: usize = 511;
+pub const REST_WORDS: usize = 2559;

@@ -6,18 +6,19 @@ use mathlib.Core.List.{List}
 use Prim.Native.Nat.{ℕ, _+_, _-_, _*_, _/_, _%_, _≤_, _<_}
 use native.Mathlib.Nat.{le-antisymm}
 use native.Mathlib.Omega.{arith}
+use native.Mathlib.Numerals.{add-one}
 use lib.Bits.{bitOr}
 use lib.Dec.{leb, eqb}
 use lib.ListN.{length, getD}
+use borrow.Author.Tests.{eq-eqb, ne-eqb}
 use Rattle.logic.specs.Cases.{bool, less}
 use Rattle.logic.specs.Every.{allB}
 use Rattle.logic.specs.Reflects.{all-to, all-from, all-stop, all-done}
 use Rattle.logic.specs.Ors.{or-none}
-use Rattle.sizes.specs.Sizes.{lastSlot, laterSlots, slotStride, slotStrides, hopBound}
-use Rattle.array.specs.Check.{zeroAt}
-use Rattle.array.specs.Taken.{taken}
-use Rattle.array.proofs.Laws.{taken-none, taken-more, taken-same}
-use Rattle.slots.specs.Word.{slotWords, slotAt, IsFeed, hopIn, rightWordB}
+use Rattle.sizes.specs.Sizes.{slotWords, slotAt, lastSlot, laterSlots, slotStride, slotStrides, hopBound}
+use Rattle.slots.specs.Zeros.{zeroAt}
+use Rattle.slots.specs.Taken.{taken}
+use Rattle.slots.specs.Word.{IsFeed, hopIn, rightWordB}
 use Rattle.slots.specs.Winner.{winner4, wonHop}
 use Rattle.slots.specs.Slot.{freeSlotB, rightSlotB}
 use Rattle.slots.specs.Page.{wordsAt, pageWith, each-at}
@@ -25,6 +26,27 @@ use Rattle.slots.specs.Stored.{HasStored, after-stored}
 use Rattle.slots.specs.Count.{slotWord, candidatesTo, words-count}
 use Rattle.slots.specs.Check.{rightSlotsB, bareSlotsB, bare-words}
 use Rattle.slots.specs.declared.slot.Hops.{Hops}
+
+-- one word more is 0
+pub or-more : (ws : List ℕ) (from i m : ℕ) → eqb m 0 ≡ allB (zeroAt ws from) i
+    → eqb (bitOr m (getD ws (from + i) 0)) 0 ≡ allB (zeroAt ws from) (i + 1)
+unfolding allB
+or-more ws from i m e = rw (add-one i, ← e) (or-none m (getD ws (from + i) 0))
+
+-- one slot more is counted
+pub taken-more : (f : ℕ → ℕ) (s : ℕ) → f (s + 1) ≢ 0 → taken f (s + 1) ≡ taken f s + 1
+unfolding taken
+taken-more f s h = rw (add-one s, ne-eqb (f (s + 1)) 0 h)
+
+pub taken-same : (f : ℕ → ℕ) (s : ℕ) → f (s + 1) ≡ 0 → taken f (s + 1) ≡ taken f s
+unfolding taken
+taken-same f s h = rw (add-one s, eq-eqb (f (s + 1)) 0 h) (omega arith)
+
+pub taken-none : (f : ℕ → ℕ) → 0 ≡ taken f 0
+unfolding taken
+taken-none f = refl
+
+-- ---- one slot
 
 pub right-told : (w : ℕ) → (eqb w 0 || (leb 1 (w % hopBound) && leb (w / hopBound) 255)) ≡ rightWordB w
 unfolding rightWordB

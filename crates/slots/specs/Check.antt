@@ -9,9 +9,8 @@ use lib.Dec.{eqb}
 use Rattle.logic.specs.Cases.{bool, same}
 use Rattle.logic.specs.Every.{allB}
 use Rattle.logic.specs.Reflects.{Reflects, reflects-all, reflects-as}
-use Rattle.sizes.specs.Sizes.{lastSlot, slotEnd, laterSlots}
-use Rattle.array.specs.Check.{zeroAt}
-use Rattle.slots.specs.Word.{slotWords, slotAt}
+use Rattle.sizes.specs.Sizes.{slotWords, slotAt, lastSlot, slotEnd, laterSlots}
+use Rattle.slots.specs.Zeros.{zeroAt}
 use Rattle.slots.specs.Winner.{wonHop}
 use Rattle.slots.specs.Slot.{RightSlot, rightSlotB, right-slot-reflects, freeSlotB, free-slot-reflects}
 use Rattle.slots.specs.Slot.{free-won, won-free}

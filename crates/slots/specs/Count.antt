@@ -8,8 +8,8 @@ use Prim.Native.Nat.{ℕ, zero, suc, _+_, _-_, _*_}
 use native.Mathlib.Omega.{arith}
 use lib.Dec.{eqb}
 use lib.ListN.{getD}
-use Rattle.array.specs.Taken.{taken}
-use Rattle.slots.specs.Word.{slotWords, slotAt}
+use Rattle.sizes.specs.Sizes.{slotWords, slotAt}
+use Rattle.slots.specs.Taken.{taken}
 use Rattle.slots.specs.Page.{wordsAt}
 
 -- the sum of h f over n feeds from f on

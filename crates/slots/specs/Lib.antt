@@ -1,3 +1,5 @@
+pub mod Zeros
+pub mod Taken
 pub mod Word
 pub mod Winner
 pub mod Slot

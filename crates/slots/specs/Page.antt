@@ -9,8 +9,9 @@ use Prim.Native.Nat.{ℕ, _+_, _-_, _≤_, _<_}
 use native.Mathlib.Omega.{arith}
 use lib.ListN.{length, getD, set}
 use lib.Seq.{getD-set-same, getD-set-other}
+use Rattle.sizes.specs.Sizes.{slotWords, slotAt}
 use Rattle.logic.specs.Cases.{same}
-use Rattle.slots.specs.Word.{slotWords, slotAt, IsFeed}
+use Rattle.slots.specs.Word.{IsFeed}
 use Rattle.slots.specs.Slot.{withWord}
 
 abbrev pub wordsAt : List ℕ → ℕ → ℕ → ℕ

@@ -3,7 +3,8 @@ use mathlib.Core.Path.{_≡_, ap, _∙_}
 use mathlib.Core.List.{List}
 use Prim.Native.Nat.{ℕ, _+_, _≤_}
 use lib.ListN.{length}
-use Rattle.slots.specs.Word.{slotWords, IsFeed, hopIn}
+use Rattle.sizes.specs.Sizes.{slotWords}
+use Rattle.slots.specs.Word.{IsFeed, hopIn}
 use Rattle.slots.specs.Winner.{winnerOf, wonHop, winner-same}
 use Rattle.slots.specs.Slot.{withWord}
 use Rattle.slots.specs.Page.{wordsAt, pageWith, set-words}

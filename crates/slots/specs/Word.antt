@@ -11,15 +11,8 @@ use native.Mathlib.Omega.{arith}
 use lib.Dec.{leb, eqb}
 use Rattle.logic.specs.Cases.{same}
 use Rattle.logic.specs.Reflects.{Reflects, reflects-eq, reflects-le, reflects-and, reflects-or, reflects-as}
-use Rattle.sizes.specs.Sizes.{hopBound}
+use Rattle.sizes.specs.Sizes.{slotWords, hopBound}
 use Rattle.candidates.specs.Candidate.{Candidate}
-
--- the words of a slot, one for each feed, and where those of slot s begin
-abbrev pub slotWords : ℕ
-slotWords = 4
-
-abbrev pub slotAt : ℕ → ℕ
-slotAt s = slotWords * s
 
 -- a feed's number
 pub record IsFeed (f : ℕ) : Type 0 where

@@ -1,14 +1,13 @@
 // The slots of a page: whether they are right, whether one past the first has a candidate, and how many candidates they have.
-use super::SLOT_WORDS;
+use super::blank::zeros;
 use super::slot::is_right;
-use array::check::zeros;
 use sizes::LAST_SLOT;
 use sizes::SLOT_STRIDES;
+use sizes::SLOT_WORDS;
 ghost use mathlib.Core.Path.{_≡_};
 ghost use Prim.Native.Nat.{_*_, _≤_};
 ghost use lib.ListN.{length};
-ghost use Rattle.sizes.specs.Sizes.{lastSlot, slotEnd};
-ghost use Rattle.slots.specs.Word.{slotWords, slotAt};
+ghost use Rattle.sizes.specs.Sizes.{slotWords, slotAt, lastSlot, slotEnd};
 ghost use Rattle.slots.specs.Count.{candidatesTo};
 ghost use Rattle.slots.specs.Check.{rightSlotsB, bareSlotsB};
 

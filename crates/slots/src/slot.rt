@@ -2,11 +2,12 @@
 use super::word::hop_in;
 use super::word::right;
 use sizes::HOP_BOUND;
+use sizes::SLOT_WORDS;
 ghost use mathlib.Core.Path.{_≡_};
 ghost use Prim.Native.Nat.{_+_, _<_, _≤_};
 ghost use lib.ListN.{length};
-ghost use Rattle.sizes.specs.Sizes.{hopBound};
-ghost use Rattle.slots.specs.Word.{slotWords, IsFeed};
+ghost use Rattle.sizes.specs.Sizes.{slotWords, slotAt, hopBound};
+ghost use Rattle.slots.specs.Word.{IsFeed};
 ghost use Rattle.slots.specs.Winner.{lower as lowerOf, winner4 as winnerOf4, wonHop};
 ghost use Rattle.slots.specs.Slot.{freeSlotB, rightSlotB};
 ghost use Rattle.slots.specs.Page.{wordsAt, pageWith};
@@ -47,6 +48,14 @@ pub fn hop_at(page: &[u32], i: usize) -> u32
     ensures { λ r. ⌜ (r ≡ wonHop (wordsAt (now (page .entry)) i)) × (r < hopBound) ⌝ }
 {
     hop_in(winner4(page[i], page[i + 1], page[i + 2], page[i + 3]))
+}
+
+// The same of slot s.
+pub fn hop_of(page: &[u32], s: usize) -> u32
+    requires { ⌜ slotAt (s + 1) ≤ length (now page) ⌝ }
+    ensures { λ r. ⌜ (r ≡ wonHop (wordsAt (now (page .entry)) (slotAt s))) × (r < hopBound) ⌝ }
+{
+    hop_at(page, SLOT_WORDS * s)
 }
 
 // No feed has a candidate there.

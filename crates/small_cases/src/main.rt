@@ -1,10 +1,10 @@
-// Document 01's small cases by the calls themselves: P1 to P12, and the case of four arrays. A line for each call tells its case,
-// what was sent, the answer, and the arrays that the check then counts.
+// Document 01's small cases by the calls themselves, for feed 1 and with preference 0: P1 to P12, and the case of four arrays.
+// A line for each call tells its case, what was sent, the answer, and the arrays that the check then counts.
 use replies::Reply;
 
 fn main() {
-    let mut one = [0u32; 2048];
-    let mut four = [0u32; 5120];
+    let mut one = [0u32; 6144];
+    let mut four = [0u32; 15360];
     found(&mut one);
     covered(&mut one);
     covered_whole(&mut one);
@@ -74,7 +74,7 @@ fn freed(words: &mut [u32]) {
 }
 
 fn announce(words: &mut [u32], case: &[u8], address: u32, length: u32, hop: u32) {
-    let r = update::announce(words, address, length, hop);
+    let r = update::announce(words, address, length, hop, 1, 0);
     sent(case, b" announce ", address);
     field(b"/", length);
     answered(r);
@@ -82,7 +82,7 @@ fn announce(words: &mut [u32], case: &[u8], address: u32, length: u32, hop: u32)
 }
 
 fn withdraw(words: &mut [u32], case: &[u8], address: u32, length: u32) {
-    let r = update::withdraw(words, address, length);
+    let r = update::withdraw(words, address, length, 1);
     sent(case, b" withdraw ", address);
     field(b"/", length);
     answered(r);

@@ -8,8 +8,10 @@ use native.Mathlib.Nat.{zero-mul, one-mul}
 use native.Mathlib.Omega.{arith}
 use lib.Dec.{eqb}
 use lib.ListN.{length, drop}
-use Rattle.routes.specs.Answers.{Update, refused, isRefused}
-use Rattle.routes.specs.Seen.{Answer, gives, refuses, countOn, frontOn}
+use Rattle.routes.specs.Answers.{refused, isRefused}
+use Rattle.routes.specs.Seen.{Answer, gives, refuses}
+use Rattle.candidates.specs.Answers.{Update}
+use Rattle.candidates.specs.Seen.{countOn, frontOn}
 use borrow.Author.Tests.{lt-ltb, le-ltb}
 use Rattle.logic.specs.Cases.{less, same}
 use Rattle.sizes.specs.Sizes.{hopBound}

@@ -3,9 +3,11 @@ use mathlib.Core.Path.{_≡_}
 use mathlib.Core.List.{List, _++_}
 use Prim.Native.Nat.{ℕ, _≤_}
 use lib.ListN.{length, drop}
-use Rattle.routes.specs.Answers.{Update, Reply, done, found, none, refused}
-use Rattle.routes.specs.Seen.{Answer, gives, refuses, Counts, answerOn, afterOn, clearOn, clearedOn, countOn, frontOn}
-use Rattle.routes.specs.Seen.{runOn, ranOn, repliedOn, recordsOn, answersOn}
+use Rattle.routes.specs.Answers.{Reply, done, found, none, refused}
+use Rattle.routes.specs.Seen.{Answer, gives, refuses, Counts}
+use Rattle.candidates.specs.Answers.{Update}
+use Rattle.candidates.specs.Seen.{answerOn, afterOn, clearOn, clearedOn, countOn, frontOn}
+use Rattle.candidates.specs.Seen.{runOn, ranOn, repliedOn, recordsOn, answersOn}
 use Rattle.words.specs.Table.{seen}
 use Rattle.paths.specs.Alike.{Alike}
 use Rattle.update.specs.Update.{Touches}
@@ -67,9 +69,9 @@ pub record HasUpdated (ws vs : List ℕ) (u : Update) (r : Updated) : Type 0 whe
   pub answer : r ≡ updated (answerOn 32 (seen 4 ws) u)
   pub list : seen 4 vs ≡ afterOn 32 (seen 4 ws) u
   pub kept : (n : ℕ) → answerOn 32 (seen 4 ws) u ≡ refused n → vs ≡ ws
-  -- a hop that is held already changes no word
+  -- a candidate that is held already changes no word
   pub still : seen 4 vs ≡ seen 4 ws → vs ≡ ws
-  -- an array that the route's path does not touch has the same words
+  -- an array that the prefix's path does not touch has the same words
   pub frame : (c : ℕ) → 1 ≤ c → ¬ Touches 4 u ws vs c → Alike ws vs c
 
 pub record HasWritten (ws b c : List ℕ) (r : Written) : Type 0 where

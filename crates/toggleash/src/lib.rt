@@ -9,8 +9,8 @@ ghost use mathlib.Core.Bool.{cond};
 ghost use Prim.Native.Nat.{_≤_};
 ghost use lib.Dec.{eqb};
 ghost use lib.ListN.{length};
-ghost use Rattle.routes.specs.Answers.{announce as announced, withdraw as withdrawn};
-ghost use Rattle.routes.specs.Seen.{lookupOn, checkOn};
+ghost use Rattle.candidates.specs.Answers.{announce as announced, withdraw as withdrawn};
+ghost use Rattle.candidates.specs.Seen.{lookupOn, checkOn};
 ghost use Rattle.words.specs.Table.{seen};
 ghost use Rattle.lookup.specs.Walk.{walk};
 ghost use Rattle.lookup.specs.Ended.{ended};
@@ -191,10 +191,10 @@ fn report(answer: feed::Ran) -> Ran
 // The version is in the name, so that a caller made for another one does not link (bindings/c/toggleash.h). It rises with any
 // change that such a caller would not notice: of a call, of its answer, or of what words are a table or a copy.
 #[no_mangle]
-pub extern "C" fn toggleash_version_2() -> u32
-    ensures { λ r. ⌜ r ≡ 2 ⌝ }
+pub extern "C" fn toggleash_version_3() -> u32
+    ensures { λ r. ⌜ r ≡ 3 ⌝ }
 {
-    2
+    3
 }
 
 #[no_mangle]
@@ -224,17 +224,24 @@ pub extern "C" fn toggleash_announce(
     address: u32,
     length: u32,
     hop: u32,
+    feed: u32,
+    preference: u8,
 ) -> Updated
-    ensures { λ r. ⌜ HasUpdated (now (words .entry)) (now (words .exit)) (announced address length hop) r ⌝ }
+    ensures { λ r. ⌜ HasUpdated (now (words .entry)) (now (words .exit)) (announced address length hop feed preference) r ⌝ }
 {
-    change(update::announce(words, address, length, hop))
+    change(update::announce(words, address, length, hop, feed, preference))
 }
 
 #[no_mangle]
-pub extern "C" fn toggleash_withdraw(words: &mut [u32], address: u32, length: u32) -> Updated
-    ensures { λ r. ⌜ HasUpdated (now (words .entry)) (now (words .exit)) (withdrawn address length) r ⌝ }
+pub extern "C" fn toggleash_withdraw(
+    words: &mut [u32],
+    address: u32,
+    length: u32,
+    feed: u32,
+) -> Updated
+    ensures { λ r. ⌜ HasUpdated (now (words .entry)) (now (words .exit)) (withdrawn address length feed) r ⌝ }
 {
-    change(update::withdraw(words, address, length))
+    change(update::withdraw(words, address, length, feed))
 }
 
 #[no_mangle]

@@ -16,7 +16,7 @@ use Rattle.logic.specs.Cases.{same}
 use Rattle.laws.specs.Sorted.{hop-skip}
 use Rattle.laws.specs.Collect.{collect-none, routes-hop}
 use Rattle.routes.specs.Collect.{routes, routeOf}
-use Rattle.array.specs.Taken.{taken}
+use Rattle.slots.specs.Taken.{taken}
 use Rattle.tree.specs.Arrays.{Arrays, lev, held}
 use Rattle.tree.specs.Shape.{Shape}
 use Rattle.tree.specs.Tree.{used-level, reach, path}

@@ -1,45 +1,56 @@
--- An announcement to a table: each of its answers is the list's, and a table is left that stands for the list with the route.
+-- An announcement to a table: each of its answers is the list's, and a table is left that stands for the list with the candidate.
 -- Assumes nothing.
 use mathlib.Core.Path.{_≡_, refl, sym, ap, ap₂, _∙_}
 use mathlib.Core.Logic.{_⊎_, _≢_, inl, inr, ⊎-elim}
 use mathlib.Core.Bool.{false, false≢true}
 use mathlib.Core.List.{List}
+use mathlib.Core.Option.{some}
 use Prim.Native.Nat.{ℕ, _+_, _-_, _*_, _/_, _^_, _≤_, _<_}
 use native.Mathlib.Omega.{arith}
 use lib.Dec.{eqb}
 use lib.ListN.{getD}
 use lib.Pow.{pow-mono}
 use borrow.Author.Tests.{eq-eqb, ne-eqb, lt-ltb, le-ltb}
-use Rattle.sizes.specs.Sizes.{arrayWords}
-use Rattle.routes.specs.Route.{Route, route, insert}
-use Rattle.routes.specs.Route as list
+use Rattle.sizes.specs.Sizes.{arrayWords, hopBound, slotEnd}
+use Rattle.routes.specs.Route.{Route, route, hopAt, insert}
+use Rattle.routes.specs.Collect.{routes}
 use Rattle.routes.specs.Room.{needTo, need}
-use Rattle.routes.specs.Cells.{cells}
-use Rattle.routes.specs.Answers.{Update, announce, done, refused, lacking, verdict}
-use Rattle.logic.specs.Cases.{bool, same}
-use Rattle.laws.specs.Sorted.{insert-same, insert-held}
-use Rattle.laws.specs.Collect.{routes-from, routes-goods}
-use Rattle.routes.specs.Collect.{routes, routeOf}
+use Rattle.routes.specs.Answers.{done, refused, lacking}
+use Rattle.logic.specs.Cases.{bool}
+use Rattle.laws.specs.Collect.{routes-hop}
+use Rattle.candidates.specs.Keyed.{Ordered, find, put, Every}
+use Rattle.candidates.specs.Candidate.{Candidate, candidate, place, key}
+use Rattle.candidates.specs.Winners.{winning, winners}
+use Rattle.candidates.specs.Answers.{Update, announce, reloaded, verdict}
+use Rattle.rivals.specs.Maps.{put-same, put-held}
+use Rattle.rivals.specs.Won.{Good, are-good, found-won, winners-hop}
+use Rattle.slots.specs.Word.{wordOf, wordFor, RightWord, right-of}
+use Rattle.slots.specs.Slot.{withWord, with-same, with-right, won-free}
 use Rattle.tree.specs.Arrays.{Arrays, node, held}
 use Rattle.tree.specs.Shape.{HasSlot, HasLink}
-use Rattle.words.specs.Words.{arraysOf, arrayCount}
-use Rattle.words.specs.TableBut.{TableBut, Table}
-use Rattle.words.specs.Table.{listOf}
 use Rattle.tree.specs.Tree.{Level, node-level}
-use Rattle.tree.specs.SlotSet.{Place, TreeSlotSet, slot-set-insert}
-use Rattle.words.specs.SlotSet.{slot-set-tree, slot-set-table-but, but-is-table}
-use Rattle.words.specs.Stock.{table-need}
+use Rattle.tree.specs.SlotSet.{Place}
 use Rattle.tree.specs.Free.{used-full}
 use Rattle.tree.specs.Missing.{need-more}
+use Rattle.gather.specs.Views.{wordHeld}
+use Rattle.gather.specs.WordSet.{TreeWordSet, tree-put}
+use Rattle.gather.specs.Hung.{gathered-same}
+use Rattle.words.specs.Words.{feedsOf, arraysOf, arrayCount, wordsOf}
+use Rattle.words.specs.TableBut.{TableBut, Table}
+use Rattle.words.specs.Table.{listOf}
+use Rattle.words.specs.Listed.{table-list}
+use Rattle.words.specs.SlotSet.{slot-set-table-but, but-is-table}
+use Rattle.words.specs.Stock.{table-winners, table-count}
 use Rattle.numbers.specs.Front.{front}
 use Rattle.address.specs.Address.{stands-level}
 use Rattle.paths.specs.Grown.{Grown}
 use Rattle.paths.specs.Stop.{Opened, stops-missing}
-use Rattle.paths.specs.Held.{Sought, sought-wide, sought-head, sought-small, sought-at, sought-route, sought-held}
+use Rattle.paths.specs.Held.{Sought, sought-wide, sought-head, sought-small, sought-fits, sought-bits, sought-as, sought-at}
+use Rattle.paths.specs.Held.{sought-gone, sought-word, sought-same}
 use Rattle.replies.specs.declared.Reply.the-variants.{Done, Refused}
 use Rattle.update.specs.Update.{HasApplied}
 use Rattle.update.specs.Seat.{Seat, Seated, seat-at}
-use Rattle.update.specs.Cells.{cells-place}
+use Rattle.update.specs.Reloaded.{seated-tree, seated-won, seated-cells}
 use Rattle.update.specs.Spared.{spared-hung}
 
 -- a refusal leaves the words
@@ -55,132 +66,168 @@ refuses L ws u n ok e = record {
   frame = λ c h n w b. refl;
 }
 
--- what is held alike is one list
-pub same-list : (W : ℕ) (f g : ℕ → ℕ → ℕ) → ((v l : ℕ) → f v l ≡ g v l) → routes W f ≡ routes W g
-same-list W f g e = ap (routes W) (λ i v l. e v l i)
-
 node-root : (t : Arrays) (v : ℕ) → node t v 0 ≡ 1
 unfolding node
 node-root t v = refl
 
-module _ {L : ℕ} {ws : List ℕ} {a l k d x j b g : ℕ} (s : Sought L ws a l k d x j b g) (h : ℕ) where
+module _ {L : ℕ} {ws : List ℕ} {a l f k d x j b w : ℕ} (s : Sought L ws a l f k d x j b w) (h n : ℕ) (hop : 1 ≤ h)
+    (low : h < hopBound) where
   wide : 8 * L < 256
   wide = sought-wide s
 
-  -- this hop is held already: the list with the route is the list
-  pub announce-same : g ≡ h → 1 ≤ h → HasApplied L ws ws (announce a l h) (Done h 0)
-  announce-same e hop =
-      let q : list.held (listOf L ws) a l ≡ h = sym (sought-held s) ∙ e in
+  abbrev new : Candidate
+  new = candidate a l f n h
+
+  goods : Every Good (listOf L ws)
+  goods = are-good (8 * L) wide (listOf L ws) (table-list L ws (s .ok))
+
+  ordered : Ordered key 0 (listOf L ws)
+  ordered = table-list L ws (s .ok) .sorted
+
+  -- this candidate is held already: the list with it is the list
+  pub announce-same : w ≡ wordOf n h → HasApplied L ws ws (announce a l h f n) (Done h 0)
+  announce-same e =
+      let q = sought-same s n h hop low e in
+      let o = put-held key new (listOf L ws) ordered q in
+      let z : 0 < winning (listOf L ws) (a * 256 + l) =
+      found-won (listOf L ws) a l f new (omega (arith, s .feed .high)) goods q in
       record {
-        answer = rw (ne-eqb (list.held (listOf L ws) a l) 0 (λ z. omega arith), eq-eqb h (list.held (listOf L ws) a l) (sym q));
+        answer = rw (
+          winners-hop (listOf L ws) (a * 256 + l),
+          ne-eqb (winning (listOf L ws) (a * 256 + l)) 0 (λ t. omega arith),
+          o,
+          eq-eqb (winning (listOf L ws) (a * 256 + l)) (winning (listOf L ws) (a * 256 + l)) refl,
+        );
         table = s .ok;
         size = refl;
-        list =
-            let f = held (arraysOf ws) in
-            sym (insert-held (route a l h) (listOf L ws) (routes-from (8 * L) wide f) (routes-goods (8 * L) wide f)
-            (record { pos = hop; short = omega (arith, wide, s .prefix .fits) }) q);
+        list = sym o;
         kept = λ _. refl;
         still = λ _. refl;
         frame = λ c h n w b. refl;
       }
 
-  -- it is not: the prefix is not held, or held with another hop
-  module _ (other : g ≢ h) (hop : 1 ≤ h) where
-    same-route : routeOf (8 * L - (8 * k + d)) (front L a k * 2 ^ d + x) (8 * k + d) h ≡ route a l h
-    same-route = sought-route s h
+  -- it is not: the feed has no candidate for the prefix, or another
+  module _ (other : w ≢ wordOf n h) where
+    -- the routes of the winning hops
+    abbrev won : List Route
+    won = routes (8 * L) (held (arraysOf ws))
 
-    -- the list with the route needs the arrays that the path lacks besides those used
-    needs : need (8 * L) (insert (route a l h) (listOf L ws)) ≡ getD ws 0 0 + (k - j)
+    -- the winners with the route need the arrays that the path lacks besides those used
+    needs : need (8 * L) (insert (route a l h) (winners (listOf L ws))) ≡ getD ws 0 0 + (k - j)
     needs =
         let e : 8 * L / 8 - 1 ≡ L - 1 = omega arith in
-        ap₂ (λ (n : ℕ) (r : Route). needTo (8 * L) n (insert r (listOf L ws))) e (sym same-route)
+        let t = table-winners L ws (s .ok) in
+        rw t (ap₂ (λ (m : ℕ) (r : Route). needTo (8 * L) m (insert r won)) e (sym (sought-as s (λ (y z : ℕ). route y z h)))
         ∙ need-more (arrayCount ws) L (arraysOf ws) (s .ok .shape) (s .ok .filled) (front L a k) k d x h
         (s .stands .deep) (s .stands .own) (s .stands .top) (sought-head s) (sought-small s)
         (L - 1) (omega (arith, s .ok .shape .some-level)) hop
-        ∙ ap₂ _+_ (sym (rw e at (table-need L ws (s .ok))))
-        (stops-missing L ws a (s .ok .shape) k j b (s .stands .top) (s .stops))
+        ∙ ap₂ _+_ (sym (rw t at (table-count L ws (s .ok))))
+        (stops-missing L ws a (s .ok .shape) k j b (s .stands .top) (s .stops)))
+
+    -- a prefix whose path stops short has no winner
+    no-winner : j ≢ k → hopAt (winners (listOf L ws)) (a * 256 + l) ≡ 0
+    no-winner m =
+        rw (table-winners L ws (s .ok))
+        (sym (sought-as s (λ (y z : ℕ). hopAt won (y * 256 + z)))
+        ∙ routes-hop (8 * L) wide (held (arraysOf ws)) (front L a k * 2 ^ d + x) (8 * k + d) (sought-fits s) (sought-bits s)
+        ∙ sought-gone s (arraysOf ws) refl m)
 
     module _ (vs : List ℕ) (r : ℕ) (o : Opened L ws vs a j k r) where
-      -- 8: there is no room. The path lacks an array then, so the prefix is not held
-      pub announce-full : r ≡ 0 → HasApplied L ws vs (announce a l h) (Refused 8)
+      -- 8: there is no room. The path lacks an array then, so the prefix has no candidate
+      pub announce-full : r ≡ 0 → HasApplied L ws vs (announce a l h f n) (Refused 8)
       announce-full z =
-          let w = o .none z in
+          let g = o .none z in
           let used = used-full (arraysOf ws) 0 (arrayCount ws) in
-          let free : g ≡ 0 = s .hop ∙ same j k (λ e _. absurd (omega (arith, w .1, s .ok .header .count, used))) (λ _ t. rw t) in
-          let none = eq-eqb (list.held (listOf L ws) a l) 0 (sym (sought-held s) ∙ free) in
-          rw (w .0) (refuses L ws (announce a l h) 8 (s .ok)
-          (rw (none, needs, lt-ltb (arrayCount ws) (getD ws 0 0 + (k - j)) (w .1))))
+          let short : j ≢ k = λ e. omega (arith, g .1, s .ok .header .count, used) in
+          let none = eq-eqb (hopAt (winners (listOf L ws)) (a * 256 + l)) 0 (no-winner short) in
+          rw (g .0) (refuses L ws (announce a l h f n) 8 (s .ok)
+          (rw (none, needs, lt-ltb (arrayCount ws) (getD ws 0 0 + (k - j)) (g .1))))
 
-      -- the path is open, and its last array has a seat for the route
-      module _ (some : r ≢ 0) where
+      -- the path is open, and its last array has a seat for the candidate
+      module _ (there : r ≢ 0) where
         grown : Grown L ws vs a j k r
-        grown = o .some some
+        grown = o .some there
 
-        place : Place (arrayCount vs) L (arraysOf vs) r (front L a k) k d x
-        place = sought-at s (arrayCount vs) (arraysOf vs) r (grown .leads) (grown .some)
+        spot : Place (arrayCount vs) L (arraysOf vs) r (front L a k) k d x
+        spot = sought-at s (arrayCount vs) (arraysOf vs) r (grown .leads) (grown .some)
 
         pub announce-seat : Seat vs r k d x
-        announce-seat = seat-at L r vs r (front L a k) k d x (grown .ok) place
+        announce-seat = seat-at L r vs r (front L a k) k d x (grown .ok) spot
 
         same-before : listOf L vs ≡ listOf L ws
-        same-before = same-list (8 * L) (held (arraysOf vs)) (held (arraysOf ws)) (grown .held)
+        same-before = gathered-same (wordHeld (feedsOf vs)) (wordHeld (feedsOf ws)) (grown .held) (8 * L)
 
         lv : Level (arrayCount vs) (arraysOf vs) r k
         lv =
             rw (grown .leads) at
             (node-level (arrayCount vs) L (arraysOf vs) (grown .ok .shape) (front L a k) k (rw (grown .leads) (grown .some)))
 
-        room : need (8 * L) (insert (route a l h) (listOf L ws)) ≤ arrayCount ws
+        room : need (8 * L) (insert (route a l h) (winners (listOf L ws))) ≤ arrayCount ws
         room =
             let e : arrayCount vs ≡ arrayCount ws = ap (λ (z : ℕ). z / arrayWords - 1) (grown .size) in
             omega (arith, needs, grown .count, grown .ok .header .count, used-full (arraysOf vs) 0 (arrayCount vs))
 
-        roomy : lacking (8 * L) (arrayCount ws) (listOf L ws) a l h ≡ false
+        roomy : lacking (8 * L) (arrayCount ws) (winners (listOf L ws)) a l h ≡ false
         roomy =
-            let e = le-ltb (arrayCount ws) (need (8 * L) (insert (route a l h) (listOf L ws))) room in
-            bool (eqb (list.held (listOf L ws) a l) 0) (λ t. rw (t, e)) (λ t. rw t)
+            let e = le-ltb (arrayCount ws) (need (8 * L) (insert (route a l h) (winners (listOf L ws)))) room in
+            bool (eqb (hopAt (winners (listOf L ws)) (a * 256 + l)) 0) (λ t. rw (t, e)) (λ t. rw t)
 
-        module _ (us : List ℕ) (c : ℕ) (p : Seated vs us r d x h c) where
-          -- the array is not empty
+        module _ (byte : n ≤ 255) (us : List ℕ) (c : ℕ) (p : Seated vs us r d x f (wordOf n h) c) where
+          right : RightWord (wordOf n h)
+          right = right-of n h byte hop low
+
+          almost : TableBut L r us
+          almost =
+              slot-set-table-but L r vs us r (2 ^ d + x) f (wordOf n h) (grown .some) (p .slot) (grown .ok) (inr refl)
+              (omega (arith, lv .level)) right
+
+          -- the candidate's slot has a winner
+          taken : 1 ≤ 2 ^ d + x → arraysOf us .slot r (2 ^ d + x) ≢ 0
+          taken lo z =
+              let g = wordsOf vs r (2 ^ d + x) in
+              let hi : 2 ^ d + x < slotEnd = omega (arith, spot .small, pow-mono {i = d} {j = 8} (spot .deep)) in
+              let q = with-right g f (wordOf n h)
+              (grown .ok .words r (2 ^ d + x) (grown .some) (lv .within) (omega (arith, lv .level)) lo hi) right in
+              let e = won-free (withWord g f (wordOf n h)) q (sym (seated-won (grown .ok) spot p .here) ∙ z) f (s .feed) in
+              omega (arith, sym (with-same g f (wordOf n h)) ∙ e)
+
+          -- so the array is not empty
           filled : 2 ≤ r → HasSlot (arraysOf us) r ⊎ HasLink (arraysOf us) r
           filled two =
               let root : k ≡ 0 → r ≡ 1 =
               λ z. sym (grown .leads) ∙ ap (node (arraysOf vs) (front L a k)) z ∙ node-root (arraysOf vs) (front L a k) in
               let lo : 1 ≤ d = ⊎-elim (λ (z : 1 ≤ d). z) (λ (z : k ≡ 0). absurd (omega (arith, root z))) (s .stands .own) in
+              let two : 2 ≤ 2 ^ d + x = omega (arith, pow-mono {i = 1} {j = d} lo) in
+              let some = taken (omega arith) in
               inl (record {
                 s = 2 ^ d + x;
-                low = omega (arith, pow-mono {i = 1} {j = d} lo);
-                high = omega (arith, place .small, pow-mono {i = d} {j = 8} (place .deep));
-                some = rw (p .slot .here) hop;
+                low = two;
+                high = omega (arith, spot .small, pow-mono {i = d} {j = 8} (spot .deep));
+                some = omega (arith, some);
               })
 
-          almost : TableBut L r us
-          almost =
-              slot-set-table-but L r vs us r (2 ^ d + x) h (grown .some) (p .slot) (grown .ok) (inr refl)
-              (omega (arith, lv .level))
+          tree : TreeWordSet (feedsOf vs) (feedsOf us) r (2 ^ d + x) f (wordOf n h)
+          tree = seated-tree (grown .ok) spot p
 
-          slotted : TreeSlotSet (arraysOf vs) (arraysOf us) r (2 ^ d + x) h
-          slotted = slot-set-tree L r vs us r (2 ^ d + x) h (grown .some) (p .slot)
+          with-candidate : listOf L us ≡ put key (candidate a l f n h) (listOf L ws)
+          with-candidate =
+              tree-put (arrayCount vs) L (feedsOf vs) (feedsOf us) r (front L a k) k d x f (wordOf n h) (grown .ok .shape) spot
+              (s .feed) tree (8 * L) wide (sought-fits s) n h hop low refl
+              ∙ ap₂ (put key) (sought-as s (λ (y z : ℕ). candidate y z f n h)) same-before
 
-          with-route : listOf L us ≡ insert (route a l h) (listOf L ws)
-          with-route =
-              slot-set-insert (arrayCount vs) L (arraysOf vs) (arraysOf us) r (front L a k) k d x h (grown .ok .shape) place
-              slotted (8 * L) wide (omega (arith, s .stands .top, s .stands .deep)) hop
-              ∙ ap₂ insert same-route same-before
-
-          pub announce-done : HasApplied L ws us (announce a l h) (Done h c)
+          pub announce-done : HasApplied L ws us (announce a l h f n) (Done h c)
           announce-done = record {
             answer =
-                rw (roomy, ne-eqb h (list.held (listOf L ws) a l) (λ z. other (sought-held s ∙ sym z)))
-                (ap (done h) (p .count
-                ∙ cells-place (arrayCount vs) L (arraysOf vs) r (front L a k) k d x h wide (s .stands .top) place
-                ∙ ap₂ (cells (8 * L)) same-route same-before));
+                rw roomy (ap (done h) (seated-cells (grown .ok) spot p (s .feed) right (s .stands .top)
+                ∙ sought-as s (λ (y z : ℕ). reloaded (8 * L) (listOf L vs) (listOf L us) y z)
+                ∙ ap₂ (λ (cs ds : List Candidate). reloaded (8 * L) cs ds a l) same-before with-candidate));
             table = but-is-table L r us almost filled;
             size = p .slot .size ∙ grown .size;
-            list = with-route;
+            list = with-candidate;
             kept = λ e. absurd (false≢true e);
-            still = λ e. absurd (other (sought-held s
-                ∙ ap (λ (rs : List Route). list.held rs a l) (sym e ∙ with-route) ∙ insert-same (route a l h) (listOf L ws)));
-            frame = λ c h n. spared-hung (s .ok .shape) (s .stands .top) (s .stops) grown (p .slot) slotted c h
-                (rw (stands-level L a l k d x (s .stands)) at n);
+            still = λ e. absurd (other (sym (sought-word s)
+                ∙ ap (λ (cs : List Candidate). wordFor (find key cs (place a l f))) (sym e ∙ with-candidate)
+                ∙ ap wordFor (put-same key new (listOf L ws))));
+            frame = λ c h n. spared-hung (s .ok .shape) (s .stands .top) (s .stops) grown (p .slot)
+                (seated-won (grown .ok) spot p) c h (rw (stands-level L a l k d x (s .stands)) at n);
           }

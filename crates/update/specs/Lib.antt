@@ -1,9 +1,11 @@
 pub mod Cells
 pub mod Update
 pub mod Seat
+pub mod Reloaded
 pub mod Announce
 pub mod Sharp
 pub mod Spared
 pub mod Withdraw
+pub mod Fault
 pub mod Refuse
 pub mod Passes

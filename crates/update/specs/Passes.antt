@@ -4,9 +4,9 @@ use mathlib.Core.Path.{_≡_, refl, sym}
 use mathlib.Core.List.{List}
 use Prim.Native.Nat.{ℕ}
 use native.Mathlib.Omega.{arith}
-use Rattle.routes.specs.Route.{Route}
-use Rattle.routes.specs.Answers.{Update}
-use Rattle.routes.specs.Seen.{table}
+use Rattle.candidates.specs.Candidate.{Candidate}
+use Rattle.candidates.specs.Answers.{Update}
+use Rattle.candidates.specs.Seen.{table}
 use Rattle.words.specs.Table.{seen}
 use Rattle.words.specs.CheckReflects.{table-reflects}
 use Rattle.words.specs.View.{seen-table, table-of, table-fits, fits-no-misfit}
@@ -18,9 +18,9 @@ use Rattle.update.specs.Refuse.{refusal-none, passed}
 abbrev pub Passes : List ℕ → Type 0
 Passes ws = refusalOf ws 0 ≡ 0
 
-pub seen-passes : (ws : List ℕ) (A : ℕ) (rs : List Route) → seen 4 ws ≡ table A rs → Passes ws
-seen-passes ws A rs e =
-    let t = table-of 4 ws (omega arith) (omega arith) A rs e .table in
+pub seen-passes : (ws : List ℕ) (A : ℕ) (cs : List Candidate) → seen 4 ws ≡ table A cs → Passes ws
+seen-passes ws A cs e =
+    let t = table-of 4 ws (omega arith) (omega arith) A cs e .table in
     let f = table-fits 4 ws t in
     sym (refusal-none ws 0 (fits-no-misfit _ f) refl (table-reflects 4 ws (omega arith) (omega arith) f .from t))
 

@@ -2,33 +2,33 @@
 -- Assumes nothing.
 use mathlib.Core.Path.{_≡_, refl, sym, ap, ap₂, _∙_}
 use mathlib.Core.Logic.{_≢_}
-use mathlib.Core.Bool.{true, false, cond, true≢false}
+use mathlib.Core.Bool.{true, false, true≢false}
 use mathlib.Core.List.{List}
-use Prim.Native.Nat.{ℕ, _-_, _*_, _/_, _%_, _^_, _≤_, _<_}
+use Prim.Native.Nat.{ℕ, _-_, _*_, _/_, _≤_, _<_}
 use native.Mathlib.Omega.{arith}
-use lib.Dec.{eqb}
 use lib.ListN.{length}
 use borrow.Author.Tests.{eq-eqb, ne-eqb}
-use Rattle.logic.specs.Cases.{bool, less, same}
+use Rattle.logic.specs.Cases.{bool, same}
 use Rattle.sizes.specs.Sizes.{arrayWords, levelBound}
-use Rattle.routes.specs.Route.{Route, tooLong, stray, badHop}
-use Rattle.routes.specs.Answers.{Update, announce, withdraw, Reply, refused, isDone, faulty, verdict, answer}
-use Rattle.routes.specs.Seen.{Seen, misfit, foreign, table, misfits, answerOn, afterOn}
+use Rattle.routes.specs.Answers.{Reply, refused, isDone}
+use Rattle.candidates.specs.Candidate.{Candidate}
+use Rattle.candidates.specs.Answers.{Update, faulty, verdict, answer}
+use Rattle.candidates.specs.Seen.{Seen, misfit, foreign, table, misfits, answerOn, afterOn}
 use Rattle.words.specs.Words.{arrayCount}
 use Rattle.words.specs.Table.{tableB, listOf, seen}
 use Rattle.words.specs.TableBut.{Table}
 use Rattle.words.specs.View.{fits-no-misfit, no-misfit-fits, table-fits, seen-misfit, seen-foreign, seen-table, seen-cases}
 use Rattle.words.specs.CheckReflects.{table-reflects}
-use Rattle.address.specs.Address.{IsPrefix}
 use Rattle.replies.specs.declared.Reply as code
 use Rattle.replies.specs.declared.Reply.the-variants.{Refused}
 use Rattle.update.specs.Update.{faultOf, refusalOf, HasUpdated, HasApplied}
+use Rattle.update.specs.Fault.{faulty-by}
 
 -- what is not accepted leaves what the words are seen to be
 pub unaccepted : (W : ℕ) (s : Seen) (u : Update) → isDone (answerOn W s u) ≡ false → afterOn W s u ≡ s
 unaccepted W misfit u e = refl
 unaccepted W foreign u e = refl
-unaccepted W (table A rs) u e = rw e
+unaccepted W (table A cs) u e = rw e
 
 -- a refusal that leaves the words
 refuses : (L : ℕ) (ws : List ℕ) (u : Update) (n : ℕ) → answerOn (8 * L) (seen L ws) u ≡ refused n
@@ -40,25 +40,6 @@ refuses L ws u n e =
 -- 1
 refuses-size : (L : ℕ) (ws : List ℕ) (u : Update) → misfits (length ws) ≡ true → HasUpdated L ws ws u (Refused 1)
 refuses-size L ws u e = refuses L ws u 1 (rw (seen-misfit L ws e))
-
--- 3, 4, 5
-faulty-by : (W : ℕ) (u : Update) (r : Reply) → faulty W u r ≡ cond (eqb (faultOf W u) 0) r (refused (faultOf W u))
-faulty-by W (announce a l h) r =
-    bool (tooLong W l) (λ e. rw e)
-    (λ e. rw e (bool (stray W a l) (λ f. rw f) (λ f. rw f (bool (badHop h) (λ g. rw g) (λ g. rw g)))))
-faulty-by W (withdraw a l) r =
-    bool (tooLong W l) (λ e. rw e) (λ e. rw e (bool (stray W a l) (λ f. rw f) (λ f. rw f)))
-
--- the prefix first, then the hop
-pub fault-prefix : (W a l h n : ℕ) → n ≡ faultOf W (withdraw a l) → n ≢ 0 → n ≡ faultOf W (announce a l h)
-fault-prefix W a l h n e z =
-    bool (tooLong W l) (λ t. rw t (rw t at e))
-    (λ t. bool (stray W a l) (λ f. rw (t, f) (rw (t, f) at e)) (λ f. absurd (z (rw (t, f) at e))))
-
-pub fault-hop : (W a l h n : ℕ) → faultOf W (withdraw a l) ≡ 0 → n ≡ cond (badHop h) 5 0 → n ≡ faultOf W (announce a l h)
-fault-hop W a l h n e q =
-    bool (tooLong W l) (λ t. absurd (omega (arith, rw t at e)))
-    (λ t. bool (stray W a l) (λ f. absurd (omega (arith, rw (t, f) at e))) (λ f. rw (t, f) q))
 
 module _ (L : ℕ) (ws : List ℕ) (u : Update) where
   refuses-fault : 1 ≤ L → L < levelBound → (n : ℕ) → misfits (length ws) ≡ false → n ≡ faultOf (8 * L) u → n ≢ 0
@@ -119,26 +100,6 @@ passed ws f e =
     (λ z _. bool (tableB 4 ws) (λ b. (is-table ws m b, z)) (λ b. absurd (omega (arith, refusal-foreign ws f m z b))))
     (λ z _. absurd (omega (arith, refusal-fault ws f m z))))
 
--- no fault, and what that says
-pub sound-prefix : (L a l : ℕ) → faultOf (8 * L) (withdraw a l) ≡ 0 → IsPrefix L a l
-sound-prefix L a l e =
-    less (8 * L) l (λ _ t. absurd (omega (arith, rw t at e)))
-    (λ h t. same (a % 2 ^ (8 * L - l)) 0 (λ q _. record { fits = h; clean = q }) (λ _ f. absurd (omega (arith, rw (t, f) at e))))
-
-hop-low : (h : ℕ) → badHop h ≡ false → 1 ≤ h
-hop-low h e = same h 0 (λ _ t. absurd (true≢false (rw t at e))) (λ n _. omega arith)
-
-hop-high : (h : ℕ) → badHop h ≡ false → h ≤ 65535
-hop-high h e = same h 0 (λ z _. omega arith) (λ _ t. less 65535 h (λ _ f. absurd (true≢false (rw (t, f) at e))) (λ w _. w))
-
-pub sound-route : (L a l h : ℕ) → faultOf (8 * L) (announce a l h) ≡ 0 → IsPrefix L a l × (1 ≤ h) × (h ≤ 65535)
-sound-route L a l h e =
-    less (8 * L) l (λ _ t. absurd (omega (arith, rw t at e)))
-    (λ w t. same (a % 2 ^ (8 * L - l)) 0
-    (λ q f. bool (badHop h) (λ g. absurd (omega (arith, rw (t, f, g) at e)))
-    (λ g. (record { fits = w; clean = q }, hop-low h g, hop-high h g)))
-    (λ _ f. absurd (omega (arith, rw (t, f) at e))))
-
 pub applied : (L : ℕ) (ws vs : List ℕ) (u : Update) (r : code.Reply) → Table L ws → faultOf (8 * L) u ≡ 0 → HasApplied L ws vs u r
     → HasUpdated L ws vs u r
 unfolding answer
@@ -151,7 +112,7 @@ applied L ws vs u r t f p = record {
   frame = p .frame;
 }
   where
-    held-in : {A B : ℕ} {xs ys : List Route} → table A xs ≡ table B ys → xs ≡ ys
+    held-in : {A B : ℕ} {xs ys : List Candidate} → table A xs ≡ table B ys → xs ≡ ys
     held-in e = cc
 
     none : faulty (8 * L) u (verdict (8 * L) (arrayCount ws) (listOf L ws) u) ≡ verdict (8 * L) (arrayCount ws) (listOf L ws) u

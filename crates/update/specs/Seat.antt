@@ -2,29 +2,38 @@
 -- words. Assumes nothing.
 use mathlib.Core.Path.{_≡_, refl, sym, ap, _∙_}
 use mathlib.Core.Logic.{_⊎_, ⊎-elim}
+use mathlib.Core.Bool.{cond}
 use mathlib.Core.List.{List}
 use Prim.Native.Nat.{ℕ, zero, suc, _+_, _-_, _*_, _/_, _^_, _≤_, _<_}
 use native.Mathlib.Nat.{mul-le-mul-right}
 use native.Mathlib.Omega.{arith}
+use lib.Dec.{eqb}
 use lib.ListN.{length, getD}
 use lib.Pow.{pow-add, pow-mono}
-use Rattle.sizes.specs.Sizes.{arrayWords, slotEnd, cellCount, cellSlots, cellsAt, arrayAt, wordAt, cellAt}
+use Rattle.logic.specs.Cases.{same}
+use Rattle.sizes.specs.Sizes.{arrayWords, slotAt, slotEnd, cellCount, cellSlots, cellsAt, arrayAt, wordAt, cellAt}
 use Rattle.calm.specs.Calm.{Settled}
 use Rattle.calm.specs.Same.{settled-ext}
+use Rattle.slots.specs.Word.{IsFeed, hopIn}
+use Rattle.slots.specs.Winner.{wonHop, winner-same}
+use Rattle.slots.specs.Slot.{withWord}
+use Rattle.slots.specs.Page.{wordsAt}
 use Rattle.settle.specs.Settled.{SettledPage}
+use Rattle.settle.specs.Reset.{Resets}
 use Rattle.array.specs.Tag.{levelIn}
 use Rattle.array.specs.Cell.{bestIn, linkIn, blockIn}
 use Rattle.array.specs.Page.{slots, bests, links, blocks}
 use Rattle.array.specs.Right.{Right, right-ext}
-use Rattle.array.specs.Put.{anyUp, exposed, SlotAt, PageSlotSet}
+use Rattle.array.specs.Put.{anyUp, exposed, SlotAt, wonWith, PageWordSet, PageSlotSet}
+use Rattle.array.specs.Reslot.{rewritten}
 use Rattle.array.specs.Frame.{pageOf, withPage, page-word, page-length, with-length, with-in, with-other}
 use Rattle.tree.specs.Arrays.{lev}
-use Rattle.words.specs.Words.{arraysOf, arrayCount, slotsOf, bestsOf, blocksOf}
+use Rattle.words.specs.Words.{arraysOf, arrayCount, wordsOf, slotsOf, bestsOf, blocksOf}
 use Rattle.words.specs.TableBut.{TableBut}
 use Rattle.tree.specs.Tree.{node-level}
 use Rattle.tree.specs.SlotSet.{Place}
 use Rattle.words.specs.SlotSet.{SlotSet}
-use Rattle.words.specs.Lent.{lent-slot, lent-best, lent-link, page-settled}
+use Rattle.words.specs.Lent.{lent-word, lent-slot, lent-best, lent-link, page-settled}
 
 -- array a, of level k, is right, and has a slot of length d and value x
 pub record Seat (ws : List ℕ) (a k d x : ℕ) : Type 0 where
@@ -64,6 +73,13 @@ module _ (f g : ℕ → ℕ) (e : (s : ℕ) → s < slotEnd → f s ≡ g s) whe
   exposed-ext d i zero h = refl
   exposed-ext d i (suc n) h = rw (any-ext (8 - d) (cellSlots + (i + n)) (omega arith), exposed-ext d i n (omega arith))
 
+-- the cells that are rewritten once feed f's word in the slot of length d and value x of array a is w: those that no longer slot
+-- covers, where another hop wins
+abbrev pub reseated : List ℕ → ℕ → ℕ → ℕ → ℕ → ℕ → ℕ
+reseated ws a d x f w =
+    cond (eqb (slotsOf ws a (2 ^ d + x)) (wonHop (withWord (wordsOf ws a (2 ^ d + x)) f w))) 0
+    (exposed (slotsOf ws a) d (x * 2 ^ (8 - d)) (2 ^ (8 - d)))
+
 -- ---- what the floor of one page asks and gives
 
 module _ (ws : List ℕ) (a k d x : ℕ) (s : Seat ws a k d x) where
@@ -93,8 +109,20 @@ module _ (ws : List ℕ) (a k d x : ℕ) (s : Seat ws a k d x) where
       let fits : x * 2 ^ (8 - d) + 2 ^ (8 - d) ≤ cellCount = omega (arith, mul-le-mul-right (2 ^ (8 - d)) (s .small)) in
       exposed-ext (slots (pageOf ws a)) (slotsOf ws a) page-slot d (x * 2 ^ (8 - d)) (2 ^ (8 - d)) fits
 
+  -- feed f's word set to w: the hop that wins then, and the cells that are rewritten
+  module _ (f w : ℕ) where
+    seat-won : wonWith (pageOf ws a) (2 ^ d + x) f w ≡ wonHop (withWord (wordsOf ws a (2 ^ d + x)) f w)
+    seat-won =
+        ap hopIn (winner-same
+        (withWord (wordsAt (pageOf ws a) (slotAt (2 ^ d + x))) f w) (withWord (wordsOf ws a (2 ^ d + x)) f w)
+        (λ j y. same j f (λ _ t. rw t) (λ _ t. rw t (lent-word ws a (2 ^ d + x) j slot-lt y))))
+
+    seat-rewritten : rewritten (pageOf ws a) d x f w ≡ reseated ws a d x f w
+    seat-rewritten = rw (page-slot (2 ^ d + x) slot-lt, seat-won, seat-exposed)
+
   -- the page m has come back
-  module _ (m : List ℕ) (h : ℕ) (g : PageSlotSet (pageOf ws a) m (2 ^ d + x) h) (b : SettledPage m) where
+  module _ (m : List ℕ) (f w h : ℕ) (o : PageWordSet (pageOf ws a) m (2 ^ d + x) f w)
+      (g : PageSlotSet (pageOf ws a) m (2 ^ d + x) h) (b : SettledPage m) where
     abbrev vs : List ℕ
     vs = withPage ws a m
 
@@ -109,8 +137,17 @@ module _ (ws : List ℕ) (a k d x : ℕ) (s : Seat ws a k d x) where
         let e : wordAt a 0 ≡ arrayAt a = omega arith in
         rw e at (word 0 (omega arith) ∙ g .tag ∙ page-word ws a 0 (omega arith))
 
+    slot-word : (r j : ℕ) → r < slotEnd → IsFeed j → wordsOf vs a r j ≡ wordsAt m (slotAt r) j
+    slot-word r j z y = word (slotAt r + j - 1) (omega (arith, y .high))
+
     slot : (r : ℕ) → r < slotEnd → slotsOf vs a r ≡ slots m r
-    slot r w = word r (omega arith)
+    slot r z = ap hopIn (winner-same (wordsOf vs a r) (wordsAt m (slotAt r)) (λ j y. slot-word r j z y))
+
+    here : (j : ℕ) → IsFeed j → wordsOf vs a (2 ^ d + x) j ≡ withWord (wordsOf ws a (2 ^ d + x)) f w j
+    here j y =
+        slot-word (2 ^ d + x) j slot-lt y ∙ same j f
+        (λ e t. rw (t, e) (o .here))
+        (λ n t. rw t (o .feeds j y n ∙ lent-word ws a (2 ^ d + x) j slot-lt y))
 
     cell : (i : ℕ) → i < cellCount → getD vs (cellAt a i) 0 ≡ getD m (cellsAt + i) 0
     cell i w = let e : cellAt a i ≡ wordAt a (cellsAt + i) = omega arith in rw e (word (cellsAt + i) (omega arith))
@@ -126,7 +163,7 @@ module _ (ws : List ℕ) (a k d x : ℕ) (s : Seat ws a k d x) where
       first = λ z. g .same-slots 1 (omega arith) (omega arith) (not-first z) ∙ page-slot 1 (omega arith) ∙ s .right .first z;
     }
 
-    seat-reslot : SlotSet ws (withPage ws a m) a (2 ^ d + x) h
+    seat-reslot : SlotSet ws (withPage ws a m) a (2 ^ d + x) f w
     seat-reslot =
         let lv : lev (arraysOf vs) a ≡ k + 1 = ap levelIn tag ∙ s .level in
         record {
@@ -134,24 +171,26 @@ module _ (ws : List ℕ) (a k d x : ℕ) (s : Seat ws a k d x) where
           outside = with-other ws a m (s .inside) whole;
           tag = tag;
           links = λ i w. ap linkIn (cell i w) ∙ g .same-links i w ∙ lent-link ws a i w;
-          here = slot (2 ^ d + x) slot-lt ∙ g .here;
-          slots = λ r l w n. slot r w ∙ g .same-slots r l w n ∙ page-slot r w;
+          here = here;
+          slots = λ r l z n j y. slot-word r j z y ∙ o .slots r l z n j y ∙ lent-word ws a r j z y;
           right = rw lv (right-ext (k + 1) (slots m) (bests m) (slotsOf vs a) (bestsOf vs a)
               (λ r l w. slot r w) (λ i w. ap bestIn (cell i w)) right);
           settled = settled-ext (slots m) (links m) (blocks m) (slotsOf vs a) (arraysOf vs .link a) (blocksOf vs a)
               (λ r l w. slot r w) (λ i w. ap linkIn (cell i w)) (λ i w _. ap blockIn (cell i w)) b;
         }
 
--- ---- a seat set to a hop, or to 0: vs is ws but for that slot and the array's best cells and blocks, and so many
--- cells took another best
+-- ---- feed f's word in a seat set to w, or to 0 for none: vs is ws but for that word and the array's best cells and blocks, and
+-- so many cells took another best
 
-pub record Seated (ws vs : List ℕ) (a d x hop cells : ℕ) : Type 0 where
-  pub slot : SlotSet ws vs a (2 ^ d + x) hop
-  pub count : cells ≡ exposed (slotsOf ws a) d (x * 2 ^ (8 - d)) (2 ^ (8 - d))
+pub record Seated (ws vs : List ℕ) (a d x f w cells : ℕ) : Type 0 where
+  pub slot : SlotSet ws vs a (2 ^ d + x) f w
+  pub count : cells ≡ reseated ws a d x f w
 
 -- with the words as the code has them
-pub seated : (ws vs m : List ℕ) (a k d x hop cells : ℕ) → Seat ws a k d x → PageSlotSet (pageOf ws a) m (2 ^ d + x) hop
-    → SettledPage m → cells ≡ exposed (slots (pageOf ws a)) d (x * 2 ^ (8 - d)) (2 ^ (8 - d)) → vs ≡ withPage ws a m
-    → Seated ws vs a d x hop cells
-seated ws vs m a k d x hop cells s g b c e =
-    rw e (record { slot = seat-reslot ws a k d x s m hop g b; count = c ∙ seat-exposed ws a k d x s })
+pub seated : (ws vs m : List ℕ) (a k d x f w cells : ℕ) → Seat ws a k d x → Resets (pageOf ws a) m d x f w cells
+    → vs ≡ withPage ws a m → Seated ws vs a d x f w cells
+seated ws vs m a k d x f w cells s r e =
+    rw e (record {
+      slot = seat-reslot ws a k d x s m f w _ (r .word) (r .slot) (r .settled);
+      count = r .cells ∙ seat-rewritten ws a k d x s f w;
+    })

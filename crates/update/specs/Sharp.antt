@@ -4,7 +4,8 @@ use mathlib.Core.Path.{_≡_, sym, _∙_}
 use mathlib.Core.Bool.{true}
 use mathlib.Core.List.{List}
 use Prim.Native.Nat.{ℕ}
-use Rattle.routes.specs.Answers.{Update, isRefused}
+use Rattle.routes.specs.Answers.{isRefused}
+use Rattle.candidates.specs.Answers.{Update}
 use Rattle.words.specs.Table.{seen}
 use Rattle.replies.specs.Said.{saidReply, reply-one}
 use Rattle.replies.specs.declared.Reply.{Reply}

@@ -22,12 +22,12 @@ use Rattle.paths.specs.Shrunk.{up, Freed}
 use Rattle.update.specs.Update.{Touched}
 
 -- a slot of array a set: the others are alike
-reslot-alike : {ws vs : List ℕ} {a s h : ℕ} → SlotSet ws vs a s h → (c : ℕ) → c ≢ a → Alike ws vs c
-reslot-alike {a = a} g c n w m = g .outside (wordAt c w) (less c a (λ l _. inl (omega arith)) (λ l _. inr (omega arith)))
+reslot-alike : {ws vs : List ℕ} {a s f w : ℕ} → SlotSet ws vs a s f w → (c : ℕ) → c ≢ a → Alike ws vs c
+reslot-alike {a = a} g c n i m = g .outside (wordAt c i) (less c a (λ l _. inl (omega arith)) (λ l _. inr (omega arith)))
 
 -- arrays hung at the levels j + 1 .. k, then a slot set in the last
-module _ {L : ℕ} {ws vs us : List ℕ} {a j k b r s h : ℕ} (shape : Shape (arrayCount ws) L (arraysOf ws)) (top : k < L)
-    (stop : Stops L ws a k j b) (g : Grown L ws vs a j k r) (re : SlotSet vs us r s h)
+module _ {L : ℕ} {ws vs us : List ℕ} {a j k b r s f w h : ℕ} (shape : Shape (arrayCount ws) L (arraysOf ws)) (top : k < L)
+    (stop : Stops L ws a k j b) (g : Grown L ws vs a j k r) (re : SlotSet vs us r s f w)
     (sl : TreeSlotSet (arraysOf vs) (arraysOf us) r s h) where
   hung-touched : (c i : ℕ) → j ≤ i → i ≤ k → node (arraysOf vs) (front L a i) i ≡ c → Touched L (arraysOf us) (arraysOf ws) a k c
   hung-touched c i lo hi e = record {
@@ -38,9 +38,9 @@ module _ {L : ℕ} {ws vs us : List ℕ} {a j k b r s h : ℕ} (shape : Shape (a
   }
 
   pub spared-hung : (c : ℕ) → 1 ≤ c → ¬ Touched L (arraysOf us) (arraysOf ws) a k c → Alike ws us c
-  spared-hung c l n w m =
-      reslot-alike re c (λ e. n (hung-touched c k (stop .low) (omega arith) (g .leads ∙ sym e))) w m
-      ∙ g .others c l (λ i lo hi e. n (hung-touched c i lo hi e)) w m
+  spared-hung c l n i m =
+      reslot-alike re c (λ e. n (hung-touched c k (stop .low) (omega arith) (g .leads ∙ sym e))) i m
+      ∙ g .others c l (λ i lo hi e. n (hung-touched c i lo hi e)) i m
 
 up-zero : (t : Arrays) (b : ℕ) → up t 0 b ≡ b
 unfolding up
@@ -68,9 +68,9 @@ up-front A L t a k b s top e h (suc n) w =
     up-tag p v i z e l = omega arith
 
 -- a slot cleared in the array of level k, then it and those above it released while empty
-module _ {L : ℕ} {ws vs us : List ℕ} {a k b s h m : ℕ} (shape : Shape (arrayCount vs) L (arraysOf vs))
-    (left : Shape (arrayCount us) L (arraysOf us)) (top : k < L) (on : On L vs a k b) (re : SlotSet ws vs b s h)
-    (sl : TreeSlotSet (arraysOf ws) (arraysOf vs) b s h) (f : Freed vs us b m) (deep : m ≤ k) where
+module _ {L : ℕ} {ws vs us : List ℕ} {a k b s f w h m : ℕ} (shape : Shape (arrayCount vs) L (arraysOf vs))
+    (left : Shape (arrayCount us) L (arraysOf us)) (top : k < L) (on : On L vs a k b) (re : SlotSet ws vs b s f w)
+    (sl : TreeSlotSet (arraysOf ws) (arraysOf vs) b s h) (fr : Freed vs us b m) (deep : m ≤ k) where
   -- what is free is on no path
   off : (v i : ℕ) → arraysOf us .tag (node (arraysOf vs) v i) ≡ 0 → node (arraysOf us) v i ≡ 0
   off v i z =
@@ -80,14 +80,14 @@ module _ {L : ℕ} {ws vs us : List ℕ} {a k b s h m : ℕ} (shape : Shape (arr
       let l = node-level (arrayCount us) L (arraysOf us) left v i (omega arith) .level in
       absurd (omega (arith, ap (arraysOf us .tag) e)))
       (λ (e : node (arraysOf us) v i ≡ 0). e)
-      (f .paths v i))
+      (fr .paths v i))
 
   -- the array n levels above b
   above : (n : ℕ) → n ≤ k → up (arraysOf vs) n b ≡ node (arraysOf vs) (front L a (k - n)) (k - n)
   above = up-front (arrayCount vs) L (arraysOf vs) a k b shape top (on .leads) (on .some)
 
   freed-touched : (c n : ℕ) → n ≤ m → up (arraysOf vs) n b ≡ c → Touched L (arraysOf ws) (arraysOf us) a k c
-  freed-touched c n w e = record {
+  freed-touched c n z e = record {
     i = k - n;
     high = omega arith;
     on =
@@ -95,12 +95,12 @@ module _ {L : ℕ} {ws vs us : List ℕ} {a k b s h m : ℕ} (shape : Shape (arr
         ∙ sym (above n (omega arith)) ∙ e;
     edge = same n 0
         (λ q _. inl (omega arith))
-        (λ q _. inr (let z : k - (n - 1) ≡ suc (k - n) = omega arith in
-        rw (← z) (off (front L a (k - (n - 1))) (k - (n - 1))
-        (rw (← (above (n - 1) (omega arith))) (f .gone (n - 1) (omega arith))))));
+        (λ q _. inr (let y : k - (n - 1) ≡ suc (k - n) = omega arith in
+        rw (← y) (off (front L a (k - (n - 1))) (k - (n - 1))
+        (rw (← (above (n - 1) (omega arith))) (fr .gone (n - 1) (omega arith))))));
   }
 
   pub spared-freed : (c : ℕ) → 1 ≤ c → ¬ Touched L (arraysOf ws) (arraysOf us) a k c → Alike ws us c
-  spared-freed c l n w x =
-      f .others c l (λ i lo e. n (freed-touched c i lo e)) w x
-      ∙ reslot-alike re c (λ e. n (freed-touched c 0 (omega arith) (up-zero (arraysOf vs) b ∙ sym e))) w x
+  spared-freed c l n i x =
+      fr .others c l (λ i lo e. n (freed-touched c i lo e)) i x
+      ∙ reslot-alike re c (λ e. n (freed-touched c 0 (omega arith) (up-zero (arraysOf vs) b ∙ sym e))) i x

@@ -9,8 +9,10 @@ use lib.Dec.{eqb}
 use lib.ListN.{length}
 use Rattle.routes.specs.Route.{tooLong, stray, badHop}
 use Rattle.routes.specs.Room.{level}
-use Rattle.routes.specs.Answers.{Update, announce, withdraw, isDone, isRefused, changed, verdict}
-use Rattle.routes.specs.Seen.{misfits, answerOn, afterOn}
+use Rattle.routes.specs.Answers.{isDone, isRefused}
+use Rattle.candidates.specs.Candidate.{badFeed}
+use Rattle.candidates.specs.Answers.{Update, announce, withdraw, changed, verdict}
+use Rattle.candidates.specs.Seen.{misfits, answerOn, afterOn}
 use Rattle.tree.specs.Arrays.{Arrays, node}
 use Rattle.words.specs.Words.{arraysOf, arrayCount}
 use Rattle.words.specs.Table.{tableB, listOf, seen}
@@ -22,7 +24,7 @@ use Rattle.replies.specs.declared.Reply.{Reply}
 
 -- ---- which arrays may differ
 
--- array c stands on the path of address a in the larger of two tables, at the route's own level k, or above an array of the path
+-- array c stands on the path of address a in the larger of two tables, at the prefix's own level k, or above an array of the path
 -- that the smaller lacks: that array was gained or freed, and c was linked to it
 pub record Touched (L : ℕ) (big small : Arrays) (a k c : ℕ) : Type 0 where
   pub i : ℕ
@@ -32,8 +34,8 @@ pub record Touched (L : ℕ) (big small : Arrays) (a k c : ℕ) : Type 0 where
 
 -- an announcement leaves the larger table, a withdrawal finds it
 abbrev pub Touches : ℕ → Update → List ℕ → List ℕ → ℕ → Type 0
-Touches L (announce a l h) ws vs c = Touched L (arraysOf vs) (arraysOf ws) a (level l) c
-Touches L (withdraw a l) ws vs c = Touched L (arraysOf ws) (arraysOf vs) a (level l) c
+Touches L (announce a l h f p) ws vs c = Touched L (arraysOf vs) (arraysOf ws) a (level l) c
+Touches L (withdraw a l f) ws vs c = Touched L (arraysOf ws) (arraysOf vs) a (level l) c
 
 -- ---- any words ws become vs, seen as tables of L levels
 
@@ -58,8 +60,8 @@ pub record HasApplied (L : ℕ) (ws vs : List ℕ) (u : Update) (r : Reply) : Ty
 
 -- the number of the first fault of an update itself, 0 where it has none
 abbrev pub faultOf : ℕ → Update → ℕ
-faultOf W (announce a l h) = cond (tooLong W l) 3 (cond (stray W a l) 4 (cond (badHop h) 5 0))
-faultOf W (withdraw a l) = cond (tooLong W l) 3 (cond (stray W a l) 4 0)
+faultOf W (announce a l h f p) = cond (tooLong W l) 3 (cond (stray W a l) 4 (cond (badHop h) 5 (cond (badFeed f) 10 0)))
+faultOf W (withdraw a l f) = cond (tooLong W l) 3 (cond (stray W a l) 4 (cond (badFeed f) 10 0))
 
 -- the first number before the work, 0 where there is none: 1 for the size, the update's own fault f, 2 for words that are no
 -- table

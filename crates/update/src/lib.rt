@@ -1,21 +1,25 @@
-// Announcements and withdrawals: a route put into a table of lent words, or taken out of it. An address is its bytes, as many as
-// the table has levels.
+// Announcements and withdrawals: a feed's candidate put into a table of lent words, or taken out of it. An address is its bytes,
+// as many as the table has levels.
 use replies::Reply;
+use slots::word::hop_in;
+use slots::word::word_of;
 ghost use mathlib.Core.Path.{_≡_};
-ghost use Prim.Native.Nat.{_+_, _*_, _<_, _≤_};
+ghost use Prim.Native.Nat.{_*_, _<_};
 ghost use lib.ListN.{length as size};
-ghost use Rattle.sizes.specs.Sizes.{hopBound, levelBound};
-ghost use Rattle.routes.specs.Answers.{announce as announced, withdraw as withdrawn};
+ghost use Rattle.sizes.specs.Sizes.{levelBound};
+ghost use Rattle.candidates.specs.Answers.{announce as announced, withdraw as withdrawn};
+ghost use Rattle.slots.specs.Word.{IsFeed};
 ghost use Rattle.words.specs.TableBut.{Table};
 ghost use Rattle.address.specs.Address.{IsPrefix};
 ghost use Rattle.numbers.specs.Number.{number};
+ghost use Rattle.update.specs.Fault.{prefixFault, feedFault, SoundRoute};
 ghost use Rattle.update.specs.Seat.{Seat, Seated};
 ghost use Rattle.update.specs.Update.{HasUpdated, HasApplied, faultOf, refusalOf};
 
 // The number of the first fault of a prefix, 0 where it has none.
 fn prefix_fault(address: &[u8], length: u32) -> u32
     requires { ⌜ size (now address) < levelBound ⌝ }
-    ensures { λ r. ⌜ r ≡ faultOf (8 * size (now (address .entry))) (withdrawn (number (now (address .entry))) length) ⌝ }
+    ensures { λ r. ⌜ r ≡ prefixFault (8 * size (now (address .entry))) (number (now (address .entry))) length ⌝ }
 {
     let width = 8 * address.len() as u32;
     if length > width {
@@ -27,10 +31,24 @@ fn prefix_fault(address: &[u8], length: u32) -> u32
     0
 }
 
-// The same of a route.
-fn route_fault(address: &[u8], length: u32, hop: u32) -> u32
+// The same of a feed's number.
+fn feed_fault(feed: u32) -> u32
+    ensures { λ r. ⌜ r ≡ feedFault feed ⌝ }
+{
+    if feed == 0 {
+        return 10;
+    }
+    if feed > 4 {
+        return 10;
+    }
+    0
+}
+
+// The same of an announcement; no preference is a fault.
+fn announce_fault(address: &[u8], length: u32, hop: u32, feed: u32) -> u32
     requires { ⌜ size (now address) < levelBound ⌝ }
-    ensures { λ r. ⌜ r ≡ faultOf (8 * size (now (address .entry))) (announced (number (now (address .entry))) length hop) ⌝ }
+    ensures { λ r. ⌜ r ≡ faultOf (8 * size (now (address .entry)))
+        (announced (number (now (address .entry))) length hop feed 0) ⌝ }
 {
     let f = prefix_fault(address, length);
     if f != 0 {
@@ -42,32 +60,52 @@ fn route_fault(address: &[u8], length: u32, hop: u32) -> u32
     if hop > 65535 {
         return 5;
     }
-    0
+    feed_fault(feed)
 }
 
-// The slot at a place of array a set to a hop, or to 0 for none. The page of that array alone is lent; the cells rewritten are
-// counted.
-fn reslot(words: &mut [u32], a: usize, p: address::Place, hop: u32) -> u32
-    requires { ⌜ Seat (now words) a (p .level) (p .depth) (p .value) × (hop < hopBound) ⌝ }
-    ensures { λ r. ⌜ Seated (now (words .entry)) (now (words .exit)) a (p .depth) (p .value) hop r ⌝ }
+// The same of a withdrawal.
+fn withdraw_fault(address: &[u8], length: u32, feed: u32) -> u32
+    requires { ⌜ size (now address) < levelBound ⌝ }
+    ensures { λ r. ⌜ r ≡ faultOf (8 * size (now (address .entry))) (withdrawn (number (now (address .entry))) length feed) ⌝ }
+{
+    let f = prefix_fault(address, length);
+    if f != 0 {
+        return f;
+    }
+    feed_fault(feed)
+}
+
+// A feed's word in the slot at a place of array a set, to 0 for none. The page of that array alone is lent; the cells rewritten
+// are counted.
+fn reslot(words: &mut [u32], a: usize, p: address::Place, feed: usize, word: u32) -> u32
+    requires { ⌜ Seat (now words) a (p .level) (p .depth) (p .value) × IsFeed feed ⌝ }
+    ensures { λ r. ⌜ Seated (now (words .entry)) (now (words .exit)) a (p .depth) (p .value) feed word r ⌝ }
 {
     let from = words::part::array_at(a);
     let to = words::part::array_at(a + 1);
     let d = p.depth;
     let x = p.value;
-    settle::slot::reslot(&mut words[from..to], d, x, hop)
+    settle::slot::reslot(&mut words[from..to], d, x, feed, word)
 }
 
-// A route announced to a table. A hop that is held already changes no word; another replaces the one held, in the array that is
+// A candidate announced to a table. One that is held already changes no word; another replaces the feed's, in the array that is
 // there.
-fn announce_in(words: &mut [u32], address: &[u8], length: u32, hop: u32) -> Reply
-    requires { ⌜ Table (size (now address)) (now words) × IsPrefix (size (now address)) (number (now address)) length ⌝ }
-    requires { ⌜ (1 ≤ hop) × (hop ≤ 65535) ⌝ }
+fn announce_in(
+    words: &mut [u32],
+    address: &[u8],
+    length: u32,
+    hop: u32,
+    feed: u32,
+    preference: u8,
+) -> Reply
+    requires { ⌜ Table (size (now address)) (now words) ⌝ }
+    requires { ⌜ SoundRoute (size (now address)) (number (now address)) length hop feed ⌝ }
     ensures { λ r. ⌜ HasApplied (size (now (address .entry))) (now (words .entry)) (now (words .exit))
-        (announced (number (now (address .entry))) length hop) r ⌝ }
+        (announced (number (now (address .entry))) length hop feed preference) r ⌝ }
 {
-    let f = paths::find(words, address, length);
-    if f.hop == hop {
+    let word = word_of(preference as u32, hop);
+    let f = paths::find(words, address, length, feed as usize);
+    if f.word == word {
         return Reply::Done(hop, 0);
     }
     let p = f.place;
@@ -79,53 +117,61 @@ fn announce_in(words: &mut [u32], address: &[u8], length: u32, hop: u32) -> Repl
     if a == 0 {
         return Reply::Refused(8);
     }
-    let cells = reslot(words, a, p, hop);
+    let cells = reslot(words, a, p, feed as usize, word);
     Reply::Done(hop, cells)
 }
 
-// A route withdrawn from a table.
-fn withdraw_in(words: &mut [u32], address: &[u8], length: u32) -> Reply
-    requires { ⌜ Table (size (now address)) (now words) × IsPrefix (size (now address)) (number (now address)) length ⌝ }
+// A candidate withdrawn from a table.
+fn withdraw_in(words: &mut [u32], address: &[u8], length: u32, feed: u32) -> Reply
+    requires { ⌜ Table (size (now address)) (now words) ⌝ }
+    requires { ⌜ IsPrefix (size (now address)) (number (now address)) length × IsFeed feed ⌝ }
     ensures { λ r. ⌜ HasApplied (size (now (address .entry))) (now (words .entry)) (now (words .exit))
-        (withdrawn (number (now (address .entry))) length) r ⌝ }
+        (withdrawn (number (now (address .entry))) length feed) r ⌝ }
 {
-    let f = paths::find(words, address, length);
-    if f.hop == 0 {
+    let f = paths::find(words, address, length, feed as usize);
+    if f.word == 0 {
         return Reply::Refused(7);
     }
     let s = f.stop;
     let a = s.array;
-    let cells = reslot(words, a, f.place, 0);
+    let cells = reslot(words, a, f.place, feed as usize, 0);
     paths::prune(words, address.len(), a);
-    Reply::Done(f.hop, cells)
+    Reply::Done(hop_in(f.word), cells)
 }
 
 // ---- updates of a table, by callers that know it to be one: a run has checked it and has kept it one since
 
-// A route announced: refused with the first of 3, 4, 5 and 8 that applies, or held afterwards.
-pub fn announce_on(words: &mut [u32], address: &[u8], length: u32, hop: u32) -> Reply
+// A candidate announced: refused with the first of 3, 4, 5, 10 and 8 that applies, or held afterwards.
+pub fn announce_on(
+    words: &mut [u32],
+    address: &[u8],
+    length: u32,
+    hop: u32,
+    feed: u32,
+    preference: u8,
+) -> Reply
     requires { ⌜ Table (size (now address)) (now words) ⌝ }
     ensures { λ r. ⌜ HasUpdated (size (now (address .entry))) (now (words .entry)) (now (words .exit))
-        (announced (number (now (address .entry))) length hop) r ⌝ }
+        (announced (number (now (address .entry))) length hop feed preference) r ⌝ }
 {
-    let f = route_fault(address, length, hop);
+    let f = announce_fault(address, length, hop, feed);
     if f != 0 {
         return Reply::Refused(f);
     }
-    announce_in(words, address, length, hop)
+    announce_in(words, address, length, hop, feed, preference)
 }
 
-// A route withdrawn: refused with the first of 3, 4 and 7 that applies, or held no more.
-pub fn withdraw_on(words: &mut [u32], address: &[u8], length: u32) -> Reply
+// A candidate withdrawn: refused with the first of 3, 4, 10 and 7 that applies, or held no more.
+pub fn withdraw_on(words: &mut [u32], address: &[u8], length: u32, feed: u32) -> Reply
     requires { ⌜ Table (size (now address)) (now words) ⌝ }
     ensures { λ r. ⌜ HasUpdated (size (now (address .entry))) (now (words .entry)) (now (words .exit))
-        (withdrawn (number (now (address .entry))) length) r ⌝ }
+        (withdrawn (number (now (address .entry))) length feed) r ⌝ }
 {
-    let f = prefix_fault(address, length);
+    let f = withdraw_fault(address, length, feed);
     if f != 0 {
         return Reply::Refused(f);
     }
-    withdraw_in(words, address, length)
+    withdraw_in(words, address, length, feed)
 }
 
 // ---- updates of any words
@@ -146,26 +192,33 @@ pub fn refusal(words: &[u32], fault: u32) -> u32
     0
 }
 
-// A route announced: refused with the first of 1, 3, 4, 5, 2 and 8 that applies, or held afterwards.
-pub fn announce(words: &mut [u32], address: u32, length: u32, hop: u32) -> Reply
-    ensures { λ r. ⌜ HasUpdated 4 (now (words .entry)) (now (words .exit)) (announced address length hop) r ⌝ }
+// A candidate announced: refused with the first of 1, 3, 4, 5, 10, 2 and 8 that applies, or held afterwards.
+pub fn announce(
+    words: &mut [u32],
+    address: u32,
+    length: u32,
+    hop: u32,
+    feed: u32,
+    preference: u8,
+) -> Reply
+    ensures { λ r. ⌜ HasUpdated 4 (now (words .entry)) (now (words .exit)) (announced address length hop feed preference) r ⌝ }
 {
     let bytes = address::four_of(address);
-    let n = refusal(words, route_fault(&bytes, length, hop));
+    let n = refusal(words, announce_fault(&bytes, length, hop, feed));
     if n != 0 {
         return Reply::Refused(n);
     }
-    announce_in(words, &bytes, length, hop)
+    announce_in(words, &bytes, length, hop, feed, preference)
 }
 
-// A route withdrawn: refused with the first of 1, 3, 4, 2 and 7 that applies, or held no more.
-pub fn withdraw(words: &mut [u32], address: u32, length: u32) -> Reply
-    ensures { λ r. ⌜ HasUpdated 4 (now (words .entry)) (now (words .exit)) (withdrawn address length) r ⌝ }
+// A candidate withdrawn: refused with the first of 1, 3, 4, 10, 2 and 7 that applies, or held no more.
+pub fn withdraw(words: &mut [u32], address: u32, length: u32, feed: u32) -> Reply
+    ensures { λ r. ⌜ HasUpdated 4 (now (words .entry)) (now (words .exit)) (withdrawn address length feed) r ⌝ }
 {
     let bytes = address::four_of(address);
-    let n = refusal(words, prefix_fault(&bytes, length));
+    let n = refusal(words, withdraw_fault(&bytes, length, feed));
     if n != 0 {
         return Reply::Refused(n);
     }
-    withdraw_in(words, &bytes, length)
+    withdraw_in(words, &bytes, length, feed)
 }

@@ -10,21 +10,25 @@ use lib.ListN.{length, getD}
 use borrow.Author.Tests.{eqb-true, eq-eqb, ne-eqb}
 use Rattle.logic.specs.Cases.{same}
 use Rattle.logic.specs.Bools.{and-to, and-from}
+use Rattle.logic.specs.Every.{allB}
 use Rattle.logic.specs.Reflects.{Reflects, reflects-eq, reflects-and, reflects-all, reflects-as, all-from, all-to}
-use Rattle.sizes.specs.Sizes.{arrayWords, leastWords, mostWords, cellCount, cellsAt, unusedAt, arrayAt}
-use Rattle.sizes.specs.Sizes.{wordAt, cellAt, levelBound, groupCount, restAt, restWords}
+use Rattle.sizes.specs.Sizes.{arrayWords, leastWords, mostWords, slotAt, lastSlot, cellCount, cellsAt, unusedAt, bodyWords}
+use Rattle.sizes.specs.Sizes.{arrayAt, wordAt, cellAt, levelBound, groupCount, restAt, restWords}
 use Rattle.array.specs.Cell.{link-blank}
 use Rattle.array.specs.Right.{Right}
 use Rattle.calm.specs.Calm.{Settled}
 use Rattle.calm.specs.Check.{settled-reflects}
-use Rattle.array.specs.Check.{zeroAt, emptyB}
+use Rattle.slots.specs.Zeros.{zeroAt}
+use Rattle.slots.specs.Winner.{won-small}
+use Rattle.slots.specs.Slot.{RightSlot, rightSlotB, right-slot-reflects}
+use Rattle.array.specs.Check.{emptyB}
 use Rattle.array.specs.CheckReflects.{right-reflects, full-reflects}
 use Rattle.tree.specs.Arrays.{Arrays, lev, usedIn, usedOf}
 use Rattle.tree.specs.Shape.{Child, ParentLinks, HasSlot, HasLink}
-use Rattle.words.specs.Words.{arraysOf, arrayCount, slotsOf, bestsOf, blocksOf}
-use Rattle.words.specs.TableBut.{Header, Table}
+use Rattle.words.specs.Words.{arraysOf, arrayCount, wordsOf, slotsOf, bestsOf, blocksOf}
+use Rattle.words.specs.TableBut.{Header, RightSlotsOf, Table}
 use Rattle.tree.specs.Check.{linksB, parentLinksB, links-reflects, parent-links-reflects}
-use Rattle.words.specs.Table.{pageB, arrayB, groupB, headerB, tableB}
+use Rattle.words.specs.Table.{slotsB, pageB, arrayB, groupB, headerB, tableB}
 
 -- something in an array
 pub some-reflects : (t : Arrays) (a : ℕ) → Reflects (not (emptyB (t .slot a) (t .link a))) (HasSlot t a ⊎ HasLink t a)
@@ -34,16 +38,26 @@ some-reflects t a = full-reflects (t .slot a) (t .link a)
 
 record Free (ws : List ℕ) (a : ℕ) : Type 0 where
   pub tag : getD ws (arrayAt a) 0 ≡ 0
-  pub blank : (k : ℕ) → k < unusedAt → getD ws (wordAt a k) 0 ≡ 0
+  pub blank : (k : ℕ) → slotAt 1 ≤ k → k < unusedAt → getD ws (wordAt a k) 0 ≡ 0
 
 record Used (L : ℕ) (ws : List ℕ) (a : ℕ) : Type 0 where
   pub tag : getD ws (arrayAt a) 0 ≢ 0
+  pub words : RightSlotsOf ws a
   pub right : Right (lev (arraysOf ws) a) (slotsOf ws a) (bestsOf ws a)
   pub settled : Settled (slotsOf ws a) (arraysOf ws .link a) (blocksOf ws a)
   pub links : (i : ℕ) → i < cellCount
       → (arraysOf ws .link a i ≡ 0) ⊎ Child (arrayCount ws) L (arraysOf ws) a i (arraysOf ws .link a i)
   pub hung : a ≢ 1 → ParentLinks (arrayCount ws) (arraysOf ws) a
   pub some : a ≢ 1 → HasSlot (arraysOf ws) a ⊎ HasLink (arraysOf ws) a
+
+pub slots-reflects : (ws : List ℕ) (a : ℕ) → Reflects (slotsB ws a) (RightSlotsOf ws a)
+unfolding slotsB
+slots-reflects ws a =
+    reflects-as
+    (λ z s h b. let e : s - 1 + 1 ≡ s = omega arith in rw e at (z (s - 1) (omega arith)))
+    (λ z s h. z (s + 1) (omega arith) (omega arith))
+    (reflects-all (λ s. rightSlotB (wordsOf ws a (s + 1))) (λ s. RightSlot (wordsOf ws a (s + 1))) lastSlot
+    (λ s h. right-slot-reflects (wordsOf ws a (s + 1))))
 
 module _ (L : ℕ) (ws : List ℕ) (a : ℕ) where
   abbrev t : Arrays
@@ -59,9 +73,12 @@ module _ (L : ℕ) (ws : List ℕ) (a : ℕ) where
   usedB = pageB ws a && (linksB A L t a && (eqb a 1 || placed))
 
   page-reflects : Reflects (pageB ws a)
-      (Right (lev t a) (slotsOf ws a) (bestsOf ws a) × Settled (slotsOf ws a) (t .link a) (blocksOf ws a))
+      ((RightSlotsOf ws a × Right (lev t a) (slotsOf ws a) (bestsOf ws a))
+      × Settled (slotsOf ws a) (t .link a) (blocksOf ws a))
   page-reflects =
-      reflects-and (right-reflects (lev t a) (slotsOf ws a) (bestsOf ws a))
+      reflects-and
+      (reflects-and (slots-reflects ws a)
+      (right-reflects (lev t a) (slotsOf ws a) (bestsOf ws a) (λ s h b. won-small (wordsOf ws a s))))
       (settled-reflects (slotsOf ws a) (t .link a) (blocksOf ws a))
 
   used-to : getD ws (arrayAt a) 0 ≢ 0 → usedB ≡ true → Used L ws a
@@ -71,7 +88,8 @@ module _ (L : ℕ) (ws : List ℕ) (a : ℕ) where
       let y = and-to (linksB A L t a) (eqb a 1 || placed) (x .1) in
       record {
         tag = n;
-        right = w .0;
+        words = w .0 .0;
+        right = w .0 .1;
         settled = w .1;
         links = links-reflects A L t a .to (y .0);
         hung =
@@ -86,19 +104,32 @@ module _ (L : ℕ) (ws : List ℕ) (a : ℕ) where
   used-from : Used L ws a → usedB ≡ true
   used-from x =
       and-from (pageB ws a) (linksB A L t a && (eqb a 1 || placed))
-      (page-reflects .from (x .right, x .settled))
+      (page-reflects .from ((x .words, x .right), x .settled))
       (and-from (linksB A L t a) (eqb a 1 || placed) (links-reflects A L t a .from (x .links))
       (same a 1 (λ q e. rw e) (λ n e. rw e (and-from (parentLinksB A t a) (not (emptyB (slotsOf ws a) (t .link a)))
       (parent-links-reflects A t a .from (inr (x .hung n))) (some-reflects t a .from (x .some n))))))
+
+  blank-to : allB (zeroAt ws (arrayAt a + slotAt 1)) bodyWords ≡ true → (k : ℕ) → slotAt 1 ≤ k → k < unusedAt
+      → getD ws (wordAt a k) 0 ≡ 0
+  blank-to b k h w =
+      let e : arrayAt a + slotAt 1 + (k - slotAt 1) ≡ wordAt a k = omega arith in
+      rw e at (eqb-true (getD ws (arrayAt a + slotAt 1 + (k - slotAt 1)) 0) 0
+      (all-to (zeroAt ws (arrayAt a + slotAt 1)) bodyWords b (k - slotAt 1) (omega arith)))
+
+  blank-from : ((k : ℕ) → slotAt 1 ≤ k → k < unusedAt → getD ws (wordAt a k) 0 ≡ 0)
+      → allB (zeroAt ws (arrayAt a + slotAt 1)) bodyWords ≡ true
+  blank-from z =
+      all-from (zeroAt ws (arrayAt a + slotAt 1)) bodyWords
+      (λ k h. let e : arrayAt a + slotAt 1 + k ≡ wordAt a (slotAt 1 + k) = omega arith in
+      rw e (eq-eqb _ 0 (z (slotAt 1 + k) (omega arith) (omega arith))))
 
   array-reflects : Reflects (arrayB L ws a) (Free ws a ⊎ Used L ws a)
   unfolding arrayB
   array-reflects =
       same (getD ws (arrayAt a) 0) 0
       (λ z e. rw e (record {
-        to = λ b. inl (record { tag = z; blank = λ k h. eqb-true _ 0 (all-to (zeroAt ws (arrayAt a)) unusedAt b k h) });
-        from = λ b. ⊎-elim (λ (x : Free ws a). all-from (zeroAt ws (arrayAt a)) unusedAt (λ k h. eq-eqb _ 0 (x .blank k h)))
-            (λ (x : Used L ws a). absurd (x .tag z)) b;
+        to = λ b. inl (record { tag = z; blank = blank-to b });
+        from = λ b. ⊎-elim (λ (x : Free ws a). blank-from (x .blank)) (λ (x : Used L ws a). absurd (x .tag z)) b;
       }))
       (λ n e. rw e (record {
         to = λ b. inr (used-to n b);
@@ -152,7 +183,7 @@ module _ (L : ℕ) (ws : List ℕ) (some : 1 ≤ L) (levels : L < levelBound) (s
       root = r;
       links = λ a i h w b. ⊎-elim
           (λ (x : Free ws a). let e : cellAt a i ≡ wordAt a (cellsAt + i) = omega arith in
-          inl (link-blank _ (rw e (x .blank (cellsAt + i) (omega arith)))))
+          inl (link-blank _ (rw e (x .blank (cellsAt + i) (omega arith) (omega arith)))))
           (λ (x : Used L ws a). x .links i b) (one f a h w);
       tags =
           λ a h w. ⊎-elim (λ (x : Free ws a). inl (x .tag)) (λ (x : Used L ws a). inr (x .hung (λ e. omega arith)))
@@ -162,6 +193,8 @@ module _ (L : ℕ) (ws : List ℕ) (some : 1 ≤ L) (levels : L < levelBound) (s
         λ a h w m p. ⊎-elim (λ (x : Free ws a). absurd (omega (arith, x .tag))) (λ (x : Used L ws a). x .some (λ e. omega arith))
         (one f a (omega arith) w);
     blank = λ a h w z. ⊎-elim (λ (x : Free ws a). x .blank) (λ (x : Used L ws a). absurd (x .tag z)) (one f a h w);
+    words =
+        λ a s h w p. ⊎-elim (λ (x : Free ws a). absurd (omega (arith, x .tag))) (λ (x : Used L ws a). x .words s) (one f a h w);
     right = λ a h w p. ⊎-elim (λ (x : Free ws a). absurd (omega (arith, x .tag))) (λ (x : Used L ws a). x .right) (one f a h w);
     settled =
         λ a h w p. ⊎-elim (λ (x : Free ws a). absurd (omega (arith, x .tag))) (λ (x : Used L ws a). x .settled) (one f a h w);
@@ -175,6 +208,7 @@ module _ (L : ℕ) (ws : List ℕ) (some : 1 ≤ L) (levels : L < levelBound) (s
       (λ z _. inl (record { tag = z; blank = k .blank (j + 1) (omega arith) (omega arith) z }))
       (λ m _. inr (record {
         tag = m;
+        words = λ s x y. k .words (j + 1) s (omega arith) (omega arith) (omega arith) x y;
         right = k .right (j + 1) (omega arith) (omega arith) (omega arith);
         settled = k .settled (j + 1) (omega arith) (omega arith) (omega arith);
         links = λ i b. k .shape .links (j + 1) i (omega arith) (omega arith) b;

@@ -8,19 +8,23 @@ use native.Mathlib.Omega.{arith}
 use lib.ListN.{length, getD, set, replicate, length-set, length-replicate, getD-replicate, List·getD-eq-default}
 use lib.Seq.{getD-set-same, getD-set-other}
 use Rattle.logic.specs.Cases.{same, less}
-use Rattle.sizes.specs.Sizes.{arrayWords, leastWords, mostWords, arrayAt, wordAt, cellAt, levelBound, perGroup}
-use Rattle.routes.specs.Collect.{routes}
-use Rattle.laws.specs.Collect.{collect-none}
+use Rattle.sizes.specs.Sizes.{slotAt, arrayWords, leastWords, mostWords, arrayAt, wordAt, cellAt, levelBound, perGroup}
 use Rattle.routes.specs.Room.{level}
 use Rattle.calm.specs.Same.{none-settled}
+use Rattle.slots.specs.Word.{IsFeed}
+use Rattle.slots.specs.Word.{right-none as no-word}
+use Rattle.slots.specs.Slot.{free-won}
 use Rattle.array.specs.Cell.{blockIn, link-blank, best-blank}
 use Rattle.array.specs.Right.{right-none}
 use Rattle.tree.specs.Arrays.{Arrays, lev, node, held, depthOf, slotOf, usedIn}
 use Rattle.tree.specs.Need.{at-some, slot-some}
 use Rattle.tree.specs.SlotSet.{at-none}
-use Rattle.words.specs.Words.{arraysOf, slotsOf, bestsOf, blocksOf}
+use Rattle.gather.specs.Gather.{gathered}
+use Rattle.gather.specs.Views.{feedView, wordHeld}
+use Rattle.gather.specs.Hung.{gathered-none}
+use Rattle.words.specs.Words.{feedsOf, arraysOf, wordsOf, slotsOf, bestsOf, blocksOf}
 use Rattle.words.specs.TableBut.{TableBut, Table}
-use Rattle.routes.specs.Seen.{table, misfits, arrays}
+use Rattle.candidates.specs.Seen.{table, misfits, arrays}
 use Rattle.words.specs.Table.{listOf, seen}
 use Rattle.words.specs.CheckReflects.{Fits}
 use Rattle.words.specs.View.{no-misfit-fits, seen-table}
@@ -76,8 +80,14 @@ module _ (n : ℕ) (low : leastWords ≤ n) where
   link-none : (c i : ℕ) → 1 ≤ c → t .link c i ≡ 0
   link-none c i h = link-blank _ (cell-none c i h)
 
+  body-none : (c k : ℕ) → 1 ≤ c → 1 ≤ k → getD (cleared n) (wordAt c k) 0 ≡ 0
+  body-none c k h l = cleared-word (wordAt c k) (λ e. omega arith) (λ e. omega arith) (λ e. omega arith)
+
+  word-none : (c s f : ℕ) → 1 ≤ c → 1 ≤ s → IsFeed f → wordsOf (cleared n) c s f ≡ 0
+  word-none c s f h l y = body-none c (slotAt s + f - 1) h (omega (arith, y .low))
+
   slot-none : (c s : ℕ) → 1 ≤ c → 1 ≤ s → t .slot c s ≡ 0
-  slot-none c s h l = cleared-word (wordAt c s) (λ e. omega arith) (λ e. omega arith) (λ e. omega arith)
+  slot-none c s h l = free-won (wordsOf (cleared n) c s) (λ f y. word-none c s f h l y)
 
   used-none : (lo m : ℕ) → 1 ≤ lo → usedIn t lo m ≡ 0
   used-none lo zero h = refl
@@ -101,9 +111,8 @@ module _ (n : ℕ) (low : leastWords ≤ n) where
       tags = λ a h k. inl (tag-none a h);
     };
     filled = λ a h k m p. absurd (omega (arith, tag-none a h));
-    blank = λ a h k e j b. same j 0
-        (λ q _. (let d : wordAt a j ≡ arrayAt a = omega arith in rw d e))
-        (λ q _. slot-none a j h (omega arith));
+    blank = λ a h k e j o b. body-none a j h (omega arith);
+    words = λ a s h k p m b f y. rw (word-none a s f h m y) no-word;
     right = λ a h k p. right-none (lev t a) (slotsOf (cleared n) a) (bestsOf (cleared n) a) (λ s m b. slot-none a s h m)
         (λ i b. best-blank _ (cell-none a i h));
     settled = λ a h k p. none-settled (slotsOf (cleared n) a) (t .link a) (λ r m b. slot-none a r h m) (λ j b. link-none a j h)
@@ -120,18 +129,18 @@ module _ (n : ℕ) (low : leastWords ≤ n) where
     rest = λ k h b. cleared-word k (λ q. omega arith) (λ q. omega arith) (λ q. omega arith);
   }
 
-  cleared-held : (v l : ℕ) → held t v l ≡ 0
+  cleared-held : (v l f : ℕ) → IsFeed f → wordHeld (feedsOf (cleared n)) v l f ≡ 0
   unfolding held
-  cleared-held v l =
-      let a = node t (v / 2 ^ depthOf l) (level l) in
+  cleared-held v l f y =
+      let u = feedView (feedsOf (cleared n)) f in
+      let a = node u (v / 2 ^ depthOf l) (level l) in
       let s = slotOf v l in
       same a 0
-      (λ e _. at-none t a s e)
-      (λ m _. at-some t a s (omega arith) ∙ slot-none a s (omega arith) (slot-some v l))
+      (λ e _. at-none u a s e)
+      (λ m _. at-some u a s (omega arith) ∙ word-none a s f (omega arith) (slot-some v l) y)
 
-pub cleared-routes : (n W : ℕ) → leastWords ≤ n → routes W (held (arraysOf (cleared n))) ≡ []
-unfolding routes
-cleared-routes n W low = collect-none (held (arraysOf (cleared n))) (cleared-held n low) W 0 0
+pub cleared-candidates : (n W : ℕ) → leastWords ≤ n → gathered W (wordHeld (feedsOf (cleared n))) ≡ []
+cleared-candidates n W low = gathered-none (wordHeld (feedsOf (cleared n))) (cleared-held n low) W
 
 -- ---- words of a right size, cleared
 
@@ -144,7 +153,7 @@ module _ (L n : ℕ) (some : 1 ≤ L) (levels : L < levelBound) (fits : misfits 
 
   -- the empty list
   cleared-list : listOf L (cleared n) ≡ []
-  cleared-list = cleared-routes n (8 * L) (size .low)
+  cleared-list = cleared-candidates n (8 * L) (size .low)
 
   pub cleared-seen : seen L (cleared n) ≡ table (arrays n) []
   cleared-seen =

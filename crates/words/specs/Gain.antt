@@ -2,23 +2,28 @@
 use mathlib.Core.Path.{_≡_, sym, ap, _∙_}
 use mathlib.Core.Logic.{_≢_, inl, ⊎-elim}
 use mathlib.Core.List.{List}
-use Prim.Native.Nat.{ℕ, _+_, _≤_, _<_}
+use Prim.Native.Nat.{ℕ, _+_, _-_, _≤_, _<_}
 use native.Mathlib.Omega.{arith}
 use lib.ListN.{getD}
 use Rattle.logic.specs.Cases.{same}
-use Rattle.sizes.specs.Sizes.{cellCount, cellsAt, unusedAt}
+use Rattle.sizes.specs.Sizes.{slotAt, slotEnd, cellCount, cellsAt, unusedAt}
 use Rattle.sizes.specs.Sizes.{arrayAt, wordAt, cellAt}
 use Rattle.calm.specs.Calm.{Settled}
 use Rattle.calm.specs.Same.{none-settled}
+use Rattle.slots.specs.Word.{IsFeed}
+use Rattle.slots.specs.Word.{right-none as word-none}
+use Rattle.slots.specs.Slot.{FreeSlot, free-won}
 use Rattle.array.specs.Cell.{blockIn, link-blank, best-blank}
 use Rattle.array.specs.Right.{Right, right-ext, right-none, best-small}
 use Rattle.tree.specs.Arrays.{Arrays, lev}
 use Rattle.tree.specs.Shape.{Child}
 use Rattle.tree.specs.HungBelow.{HungBelow, hang-shape, hang-filled}
-use Rattle.words.specs.Words.{arraysOf, arrayCount, slotsOf, bestsOf, blocksOf}
+use Rattle.gather.specs.Views.{feedView, RightWords}
+use Rattle.gather.specs.Hung.{feed-hung-below}
+use Rattle.words.specs.Words.{feedsOf, arraysOf, arrayCount, wordsOf, slotsOf, bestsOf, blocksOf}
 use Rattle.words.specs.TableBut.{TableBut}
 use Rattle.words.specs.Gained.{Ends, Gained}
-use Rattle.words.specs.Rehung.{re-word, re-header, re-tags, re-slots, re-cell, re-bests, re-here, re-links}
+use Rattle.words.specs.Rehung.{re-word, re-header, re-tags, re-words, re-slots, re-cell, re-bests, re-here, re-links}
 use Rattle.words.specs.Rehung.{re-settled-here, re-settled}
 use Rattle.words.specs.Rehung.{Counted, counted-up}
 
@@ -57,6 +62,10 @@ module _ (L : ℕ) (ws : List ℕ) (p i a : ℕ) (ok : TableBut L p ws) (gn : Ga
         (ok .right p (gn .parent) (gn .inside) (omega (arith, gn .used))) i (gn .cells);
   }
 
+  no-word : (s : ℕ) → 1 ≤ s → s < slotEnd → FreeSlot (wordsOf ws a s)
+  no-word s l b f y =
+      ok .blank a (gn .some) (gn .within) (gn .free) (slotAt s + f - 1) (omega (arith, y .low)) (omega (arith, y .high))
+
   module _ (vs : List ℕ) (re : Gained ws vs p i a) where
     abbrev u : Arrays
     u = arraysOf vs
@@ -81,8 +90,14 @@ module _ (L : ℕ) (ws : List ℕ) (p i a : ℕ) (ok : TableBut L p ws) (gn : Ga
           λ j b. ⊎-elim (λ (z : t .link a j ≡ 0). z)
           (λ (z : Child (arrayCount ws) L t a j (t .link a j)). absurd (omega (arith, z .used, gn .free)))
           (ok .shape .links a j (gn .some) (gn .within) b);
-      no-slot = λ s l b. ok .blank a (gn .some) (gn .within) (gn .free) s (omega arith);
+      no-slot = λ s l b. free-won (wordsOf ws a s) (no-word s l b);
     }
+
+    -- the same of each feed
+    pub gained-feed : (f : ℕ) → IsFeed f → HungBelow (arrayCount ws) L (feedView (feedsOf ws) f) (feedView (feedsOf vs) f) p i a
+    gained-feed f y =
+        feed-hung-below (arrayCount ws) L (feedsOf ws) (feedsOf vs) p i a gained-hung-below f
+        (λ c s h l b. re-words gain-ends re c s f h l b y) (λ s l b. no-word s l b f y)
 
     pub gained-counted : Counted ws vs a
     gained-counted = record {
@@ -92,19 +107,26 @@ module _ (L : ℕ) (ws : List ℕ) (p i a : ℕ) (ok : TableBut L p ws) (gn : Ga
       groups = λ g b n. re-header gain-ends re (g + 1) (omega arith) (λ e. omega arith) n;
     }
 
-    blank : (c : ℕ) → 1 ≤ c → c ≤ arrayCount ws → u .tag c ≡ 0 → (k : ℕ) → k < unusedAt → getD vs (wordAt c k) 0 ≡ 0
-    blank c h w z k b =
+    blank : (c : ℕ) → 1 ≤ c → c ≤ arrayCount ws → u .tag c ≡ 0 → (k : ℕ) → slotAt 1 ≤ k → k < unusedAt
+        → getD vs (wordAt c k) 0 ≡ 0
+    blank c h w z k o b =
         let n : c ≢ a = λ e. (let q : u .tag c ≡ u .tag a = ap (u .tag) e in omega (arith, re .tag)) in
         let y : t .tag c ≡ 0 = sym (re-tags gain-ends re c h n) ∙ z in
         let m : c ≢ p = λ e. (let q : t .tag c ≡ t .tag p = ap (t .tag) e in omega (arith, gn .used)) in
-        re-word gain-ends re c k h (omega arith) m (inl n) ∙ ok .blank c h w y k b
+        re-word gain-ends re c k h (omega arith) m (inl n) ∙ ok .blank c h w y k o b
 
     -- the cells of the array gained are all 0
     cell-none : (j : ℕ) → j < cellCount → getD vs (cellAt a j) 0 ≡ 0
     cell-none j b =
         let e : cellAt a j ≡ wordAt a (cellsAt + j) = omega arith in
         re-cell gain-ends re a j (gn .some) b (λ q. gain-ends .apart (sym q))
-        ∙ rw e (ok .blank a (gn .some) (gn .within) (gn .free) (cellsAt + j) (omega arith))
+        ∙ rw e (ok .blank a (gn .some) (gn .within) (gn .free) (cellsAt + j) (omega arith) (omega arith))
+
+    words : RightWords (arrayCount ws) (feedsOf vs)
+    words c s h w z l b f y =
+        rw (re-words gain-ends re c s f h l b y) (same c a
+        (λ e _. rw (e, no-word s l b f y) word-none)
+        (λ n _. ok .words c s h w (rw (← (re-tags gain-ends re c h n)) z) l b f y))
 
     right : (c : ℕ) → 1 ≤ c → c ≤ arrayCount ws → 1 ≤ u .tag c → Right (lev u c) (slotsOf vs c) (bestsOf vs c)
     right c h w z =
@@ -135,6 +157,7 @@ module _ (L : ℕ) (ws : List ℕ) (p i a : ℕ) (ok : TableBut L p ws) (gn : Ga
       shape = rw (re .size) (hang-shape (arrayCount ws) L t u p i a gained-hung-below (ok .shape));
       filled = rw (re .size) (hang-filled (arrayCount ws) L t u p i a gained-hung-below (ok .filled));
       blank = rw (re .size) blank;
+      words = rw (re .size) words;
       right = rw (re .size) right;
       settled = rw (re .size) settled;
       header = counted-up L ws vs p i a gained-hung-below gained-counted (ok .high) (ok .header);

@@ -1,123 +1,96 @@
--- A table stands for a route list of document 01, and for one only, of as many routes as slots are taken. Assumes nothing.
+-- A table stands for a list of candidates, and for one only, of as many as words of slots are taken. Assumes nothing.
 --
---     words ── paths lead to slots ──► hop of each prefix ── at most one list holds these ──► listOf
+--     words ── paths lead to slots ──► word of each prefix and feed ── at most one list holds these ──► listOf
 use mathlib.Core.Path.{_≡_, refl, sym, _∙_}
 use mathlib.Core.Logic.{_≢_}
 use mathlib.Core.List.{List, [], _∷_}
+use mathlib.Core.Option.{Option, none, some, Option·none-ne-some}
 use Prim.Native.Nat.{ℕ, zero, suc, _+_, _-_, _*_, _/_, _^_, _≤_, _<_}
 use native.Mathlib.Omega.{arith}
 use lib.ListN.{length}
 use lib.Pow.{shr-lt}
 use Rattle.sizes.specs.Sizes.{levelBound}
-use Rattle.routes.specs.Route.{Route, key, All, hopAt, held, Wf, IsRoute, IsList}
 use Rattle.logic.specs.Cases.{same}
-use Rattle.laws.specs.Sorted.{Good, ext, all-append, all-map, hop-skip}
-use Rattle.laws.specs.Collect.{routes-from, routes-hop}
-use Rattle.routes.specs.Collect.{own, collect, routes}
-use Rattle.laws.specs.Longest.{whole, routes-wfs}
-use Rattle.tree.specs.Arrays.{Arrays}
-use Rattle.tree.specs.Arrays as arrays
-use Rattle.tree.specs.SlotSet.{held-cases}
-use Rattle.tree.specs.Taken.{takenTo, taken-routes}
-use Rattle.words.specs.Words.{arraysOf, arrayCount}
+use Rattle.laws.specs.Longest.{whole}
+use Rattle.candidates.specs.Keyed.{find, Every}
+use Rattle.candidates.specs.Candidate.{Candidate, place, key, IsCandidate, IsList}
+use Rattle.rivals.specs.Maps.{ext}
+use Rattle.slots.specs.Word.{IsFeed}
+use Rattle.gather.specs.Gather.{meant}
+use Rattle.gather.specs.Found.{gathered-find}
+use Rattle.gather.specs.Views.{wordHeld, tree-list}
+use Rattle.gather.specs.Counted.{candidatesOf, tree-count}
+use Rattle.words.specs.Words.{feedsOf, arrayCount}
 use Rattle.words.specs.Table.{listOf}
 use Rattle.words.specs.TableBut.{Table}
 
--- ---- hops are hops
-
-abbrev Low : Route → Type 0
-Low r = r .hop ≤ 65535
-
-module _ (f : ℕ → ℕ → ℕ) (low : (v l : ℕ) → f v l ≤ 65535) where
-  own-low : (d v l h : ℕ) → h ≤ 65535 → All Low (own d v l h)
-  own-low d v l zero p = tt
-  own-low d v l (suc h) p = (p, tt)
-
-  collect-low : (d v l : ℕ) → All Low (collect f d v l)
-  unfolding collect
-  collect-low zero v l = own-low zero v l (f v l) (low v l)
-  collect-low (suc d) v l =
-      all-append Low (own (suc d) v l (f v l)) _ (own-low (suc d) v l (f v l) (low v l))
-      (all-append Low (collect f d (2 * v) (suc l)) _ (collect-low d (2 * v) (suc l)) (collect-low d (2 * v + 1) (suc l)))
-
-all-routes : (W : ℕ) (rs : List Route) → All (Wf W) rs → All Low rs → All (IsRoute W) rs
-all-routes W [] w l = tt
-all-routes W (r ∷ rs) w l = (record { wf = w .0; low = l .0 }, all-routes W rs (w .1) (l .1))
-
-routes-list : (W : ℕ) (f : ℕ → ℕ → ℕ) → W < 256 → ((v l : ℕ) → f v l ≤ 65535) → IsList W (routes W f)
-unfolding routes
-routes-list W f w low =
-    record { sorted = routes-from W w f; routes = all-routes W (routes W f) (routes-wfs W f) (collect-low f low W 0 0) }
-
 module _ (L : ℕ) (ws : List ℕ) (ok : Table L ws) where
-  abbrev t : Arrays
-  t = arraysOf ws
-
-  -- the hop of every prefix
-  held-low : (v l : ℕ) → arrays.held t v l ≤ 65535
-  held-low =
-      held-cases (arrayCount ws) L t (ok .shape) (λ h. h ≤ 65535) (omega arith)
-      (λ a s some within used low high. omega (arith, ok .right a some within used .sound .hops s low high))
-
-  wide : 8 * L < 256
-  wide = omega (arith, ok .shape .levels)
+  pub table-wide : 8 * L < 256
+  table-wide = omega (arith, ok .shape .levels)
 
   pub table-list : IsList (8 * L) (listOf L ws)
-  table-list = routes-list (8 * L) (arrays.held t) wide held-low
+  table-list = tree-list (arrayCount ws) L (feedsOf ws) (ok .shape) (ok .words) (8 * L) table-wide
 
 -- ---- one list only
 
--- rs is a route list, and holds for each prefix of l bits v the hop of the slot that the prefix's path leads to
-pub record StandsFor (L : ℕ) (ws : List ℕ) (rs : List Route) : Type 0 where
-  pub list : IsList (8 * L) rs
-  pub holds : (v l : ℕ) → l ≤ 8 * L → v < 2 ^ l → held rs (v * 2 ^ (8 * L - l)) l ≡ arrays.held (arraysOf ws) v l
+-- cs is a list of candidates, and holds for each prefix of l bits v and each feed what the word stands for that the prefix's path
+-- leads to
+pub record StandsFor (L : ℕ) (ws : List ℕ) (cs : List Candidate) : Type 0 where
+  pub list : IsList (8 * L) cs
+  pub holds : (v l f : ℕ) → l ≤ 8 * L → v < 2 ^ l → IsFeed f
+      → find key cs (place (v * 2 ^ (8 * L - l)) l f) ≡ meant (8 * L - l) v l f (wordHeld (feedsOf ws) v l f)
 
 pub stands-list : (L : ℕ) (ws : List ℕ) → Table L ws → StandsFor L ws (listOf L ws)
-stands-list L ws ok = record { list = table-list L ws ok; holds = routes-hop (8 * L) (wide L ws ok) (arrays.held (arraysOf ws)) }
+stands-list L ws ok = record {
+  list = table-list L ws ok;
+  holds = λ v l f h b y. gathered-find (8 * L) (table-wide L ws ok) (wordHeld (feedsOf ws)) v l f h b y;
+}
 
--- the route that gives a key its hop
+-- the candidate found at a key
 record At (W k : ℕ) : Type 0 where
-  pub r : Route
-  pub wf : Wf W r
-  pub is : key r ≡ k
+  pub c : Candidate
+  pub is-one : IsCandidate W c
+  pub is : key c ≡ k
 
-hop-at : (W k : ℕ) (rs : List Route) → All (IsRoute W) rs → hopAt rs k ≢ 0 → At W k
-hop-at W k [] a n = absurd (n refl)
-hop-at W k (r ∷ rs) a n =
-    same (key r) k
-    (λ e _. record { r = r; wf = a .0 .wf; is = e })
-    (λ m _. hop-at W k rs (a .1) (λ z. n (hop-skip r rs k m ∙ z)))
+found-at : (W k : ℕ) (cs : List Candidate) → Every (IsCandidate W) cs → find key cs k ≢ none → At W k
+found-at W k [] a n = absurd (n refl)
+found-at W k (c ∷ cs) a n =
+    same (key c) k
+    (λ e _. record { c = c; is-one = a .0; is = e })
+    (λ m t. found-at W k cs (a .1) (λ z. n (rw t z)))
 
-module _ (L : ℕ) (ws : List ℕ) (narrow : L < levelBound) where
-  key-held : (rs : List Route) → StandsFor L ws rs → (p : Route) → Wf (8 * L) p
-      → hopAt rs (key p) ≡ arrays.held (arraysOf ws) (p .addr / 2 ^ (8 * L - p .len)) (p .len)
-  key-held rs s p w =
-      let e : p .len + (8 * L - p .len) ≡ 8 * L = omega (arith, w .fits) in
-      rw (whole (8 * L) p w) at (s .holds (p .addr / 2 ^ (8 * L - p .len)) (p .len) (w .fits)
-      (shr-lt (p .len) (8 * L - p .len) (rw e (w .inside))))
+-- none, or some
+cases : {P : Type 0} {T : Type 0} (o : Option T) → (o ≡ none → P) → (o ≢ none → P) → P
+cases none x y = x refl
+cases (some c) x y = y (λ e. Option·none-ne-some c (sym e))
+
+module _ (L : ℕ) (ws : List ℕ) where
+  key-held : (cs : List Candidate) → StandsFor L ws cs → (c : Candidate) → IsCandidate (8 * L) c
+      → find key cs (key c) ≡ meant (8 * L - c .len) (c .addr / 2 ^ (8 * L - c .len)) (c .len) (c .feed)
+      (wordHeld (feedsOf ws) (c .addr / 2 ^ (8 * L - c .len)) (c .len) (c .feed))
+  key-held cs s c w =
+      let r = w .route .wf in
+      let e : c .len + (8 * L - c .len) ≡ 8 * L = omega (arith, r .fits) in
+      rw (whole (8 * L) _ r) at (s .holds (c .addr / 2 ^ (8 * L - c .len)) (c .len) (c .feed) (r .fits)
+      (shr-lt (c .len) (8 * L - c .len) (rw e (r .inside))) (record { low = w .low; high = w .high }))
 
   -- what one of two such lists has at a key, the other has
-  same-hop : (rs ss : List Route) → StandsFor L ws rs → StandsFor L ws ss → (k : ℕ) → hopAt rs k ≢ 0 → hopAt rs k ≡ hopAt ss k
-  same-hop rs ss s u k n =
-      let p = hop-at (8 * L) k rs (s .list .routes) n in
-      rw (p .is) at (key-held rs s (p .r) (p .wf) ∙ sym (key-held ss u (p .r) (p .wf)))
+  same-found : (cs ds : List Candidate) → StandsFor L ws cs → StandsFor L ws ds → (k : ℕ) → find key cs k ≢ none
+      → find key cs k ≡ find key ds k
+  same-found cs ds s u k n =
+      let p = found-at (8 * L) k cs (s .list .candidates) n in
+      rw (p .is) at (key-held cs s (p .c) (p .is-one) ∙ sym (key-held ds u (p .c) (p .is-one)))
 
-  goods : (rs : List Route) → StandsFor L ws rs → All Good rs
-  goods rs s =
-      all-map (IsRoute (8 * L)) Good (λ r p. record { pos = p .wf .some; short = omega (arith, p .wf .fits) }) rs
-      (s .list .routes)
+  pub stands-one : (cs ds : List Candidate) → StandsFor L ws cs → StandsFor L ws ds → cs ≡ ds
+  stands-one cs ds s u =
+      ext key 0 cs ds (s .list .sorted) (u .list .sorted) (λ k.
+      cases (find key cs k)
+      (λ e. cases (find key ds k) (λ f. e ∙ sym f) (λ n. sym (same-found ds cs u s k n)))
+      (λ n. same-found cs ds s u k n))
 
-  pub stands-one : (rs ss : List Route) → StandsFor L ws rs → StandsFor L ws ss → rs ≡ ss
-  stands-one rs ss s u =
-      ext 0 rs ss (s .list .sorted) (u .list .sorted) (goods rs s) (goods ss u) (λ k.
-      same (hopAt rs k) 0
-      (λ e _. same (hopAt ss k) 0 (λ f _. e ∙ sym f) (λ n _. sym (same-hop ss rs u s k n)))
-      (λ n _. same-hop rs ss s u k n))
+-- ---- how many candidates
 
--- ---- how many routes
-
--- as many slots are taken as the list has routes
-pub taken-length : (L : ℕ) (ws : List ℕ) → Table L ws → takenTo (arraysOf ws) (arrayCount ws) ≡ length (listOf L ws)
+-- as many words of slots are taken as the list has candidates
+pub taken-length : (L : ℕ) (ws : List ℕ) → Table L ws → candidatesOf (feedsOf ws) (arrayCount ws) ≡ length (listOf L ws)
 taken-length L ws ok =
-    taken-routes (arrayCount ws) L (takenTo (arraysOf ws) (arrayCount ws)) (arraysOf ws) (ok .shape)
-    (λ a h w l. ok .right a h w (omega arith) .first l) refl
+    sym (tree-count (arrayCount ws) L (feedsOf ws) (ok .shape) (λ a h w l. ok .right a h w (omega arith) .first l) (ok .words))

@@ -8,8 +8,10 @@ use native.Mathlib.Omega.{arith}
 use lib.ListN.{length, getD, set, length-set}
 use lib.Seq.{getD-set-same, getD-set-other, ext-getD}
 use Rattle.logic.specs.Cases.{same, less}
-use Rattle.sizes.specs.Sizes.{arrayWords, mostWords, slotEnd, cellCount, cellsAt}
+use Rattle.sizes.specs.Sizes.{arrayWords, mostWords, slotAt, slotEnd, cellCount, cellsAt}
 use Rattle.sizes.specs.Sizes.{arrayAt, wordAt, cellAt, perGroup, groupCount}
+use Rattle.slots.specs.Word.{IsFeed, hopIn}
+use Rattle.slots.specs.Winner.{winner-same}
 use Rattle.array.specs.Cell.{bestIn, linkIn, blockIn}
 use Rattle.calm.specs.Calm.{Settled}
 use Rattle.calm.specs.Same.{settled-ext}
@@ -17,7 +19,7 @@ use Rattle.settle.specs.Link.{Relinked}
 use Rattle.array.specs.Frame.{pageOf, withPage, page-word, page-length, with-length, with-in, with-other}
 use Rattle.tree.specs.Arrays.{Arrays, usedIn, usedOf}
 use Rattle.tree.specs.HungBelow.{HungBelow, used-out, used-inside}
-use Rattle.words.specs.Words.{arraysOf, arrayCount, slotsOf, bestsOf, blocksOf}
+use Rattle.words.specs.Words.{arraysOf, arrayCount, wordsOf, slotsOf, bestsOf, blocksOf}
 use Rattle.words.specs.Lent.{lent-best, lent-link, settled-page}
 use Rattle.words.specs.TableBut.{Header}
 use Rattle.words.specs.Gained.{groupAt, retagged, Ends, Rehung}
@@ -121,9 +123,16 @@ module _ {ws vs : List ℕ} {p i a x c n m : ℕ} (g : Ends ws p i a) (r : Rehun
       let z : arrayAt d ≡ wordAt d 0 = omega arith in
       rw z (same d p (λ q _. rw q (re-low 0 (omega arith))) (λ f _. re-word d 0 h (omega arith) f (inl e)))
 
+  pub re-words : (d s f : ℕ) → 1 ≤ d → 1 ≤ s → s < slotEnd → IsFeed f → wordsOf vs d s f ≡ wordsOf ws d s f
+  re-words d s f h l b y =
+      let lo : 1 ≤ slotAt s + f - 1 = omega (arith, y .low) in
+      let hi : slotAt s + f - 1 < cellsAt = omega (arith, y .high) in
+      same d p
+      (λ q _. rw q (re-low (slotAt s + f - 1) hi))
+      (λ n _. re-word d (slotAt s + f - 1) h (omega arith) n (inr (λ q. omega arith)))
+
   pub re-slots : (d s : ℕ) → 1 ≤ d → 1 ≤ s → s < slotEnd → slotsOf vs d s ≡ slotsOf ws d s
-  re-slots d s h l b =
-      same d p (λ q _. rw q (re-low s (omega arith))) (λ f _. re-word d s h (omega arith) f (inr (λ q. omega arith)))
+  re-slots d s h l b = ap hopIn (winner-same (wordsOf vs d s) (wordsOf ws d s) (λ f y. re-words d s f h l b y))
 
   -- a cell of another array than p
   pub re-cell : (d j : ℕ) → 1 ≤ d → j < cellCount → d ≢ p → getD vs (cellAt d j) 0 ≡ getD ws (cellAt d j) 0

@@ -2,14 +2,16 @@
 use mathlib.Core.Path.{_≡_, sym, ap, _∙_}
 use mathlib.Core.Logic.{_≢_, inl, inr}
 use mathlib.Core.List.{List}
-use Prim.Native.Nat.{ℕ, _+_, _-_, _*_, _/_, _≤_, _<_}
+use Prim.Native.Nat.{ℕ, _+_, _-_, _*_, _/_, _%_, _≤_, _<_}
 use native.Mathlib.Omega.{arith}
 use lib.ListN.{getD}
 use Rattle.logic.specs.Cases.{same, less}
-use Rattle.sizes.specs.Sizes.{slotEnd, cellCount, cellsAt, unusedAt}
+use Rattle.sizes.specs.Sizes.{slotWords, slotAt, slotEnd, cellCount, cellsAt, unusedAt}
 use Rattle.sizes.specs.Sizes.{arrayAt, wordAt, cellAt, perGroup}
 use Rattle.calm.specs.Calm.{Settled}
 use Rattle.calm.specs.Same.{settled-none}
+use Rattle.slots.specs.Word.{IsFeed}
+use Rattle.slots.specs.Slot.{FreeSlot, won-free}
 use Rattle.array.specs.With.{cell-blank}
 use Rattle.array.specs.Right.{Right, right-ext, best-small}
 use Rattle.tree.specs.Arrays.{Arrays, par, cell, lev}
@@ -17,10 +19,12 @@ use Rattle.tree.specs.Shape.{Child, ParentLinks}
 use Rattle.tree.specs.Tree.{parent-links, is-child}
 use Rattle.tree.specs.Free.{used-some}
 use Rattle.tree.specs.HungBelow.{HungBelow, unhang-shape, unhang-filled}
-use Rattle.words.specs.Words.{arraysOf, arrayCount, slotsOf, bestsOf, blocksOf}
+use Rattle.gather.specs.Views.{feedView, RightWords}
+use Rattle.gather.specs.Hung.{feed-hung-below}
+use Rattle.words.specs.Words.{feedsOf, arraysOf, arrayCount, wordsOf, slotsOf, bestsOf, blocksOf}
 use Rattle.words.specs.TableBut.{TableBut}
 use Rattle.words.specs.Gained.{groupAt, Ends, Releases, Released}
-use Rattle.words.specs.Rehung.{re-word, re-header, re-tags, re-slots, re-bests, re-here, re-links}
+use Rattle.words.specs.Rehung.{re-word, re-header, re-tags, re-words, re-slots, re-bests, re-here, re-links}
 use Rattle.words.specs.Rehung.{re-settled-here, re-settled, Counted, counted-down}
 
 -- a used array that is not the root and has nothing in it
@@ -91,11 +95,20 @@ module _ (L : ℕ) (ws : List ℕ) (a : ℕ) (ok : TableBut L a ws) (em : Releas
     groups = counts-group;
   }
 
-  -- its tag aside, every word of a that is read is 0
-  word-none : (k : ℕ) → 1 ≤ k → k < unusedAt → getD ws (wordAt a k) 0 ≡ 0
+  no-word : (s : ℕ) → 1 ≤ s → s < slotEnd → FreeSlot (wordsOf ws a s)
+  no-word s l b =
+      won-free (wordsOf ws a s) (ok .words a s (omega (arith, em .some)) (em .within) (em .used) l b) (em .no-slot s l b)
+
+  -- word k of a page is of a slot and a feed
+  slot-word : (k : ℕ) → slotAt (k / slotWords) + (k % slotWords + 1) - 1 ≡ k
+  slot-word k = omega arith
+
+  -- every word of a slot or a cell of a is 0
+  word-none : (k : ℕ) → slotAt 1 ≤ k → k < unusedAt → getD ws (wordAt a k) 0 ≡ 0
   word-none k h w =
       less k cellsAt
-      (λ l _. em .no-slot k h l)
+      (λ l _. rw (slot-word k) at (no-word (k / slotWords) (omega arith) (omega arith) (k % slotWords + 1)
+      (record { low = omega arith; high = omega arith })))
       (λ l _. (let d : wordAt a k ≡ cellAt a (k - cellsAt) = omega arith in
       rw d (cell-blank _ (em .no-best (k - cellsAt) (omega arith)) (em .no-link (k - cellsAt) (omega arith))
       (settled-none (slotsOf ws a) (u₁ .link a) (em .no-slot) (em .no-link) (blocksOf ws a)
@@ -125,6 +138,13 @@ module _ (L : ℕ) (ws : List ℕ) (a : ℕ) (ok : TableBut L a ws) (em : Releas
       no-slot = λ s l b. re-slots ends re a s (ha .some) l b ∙ em .no-slot s l b;
     }
 
+    -- the same of each feed
+    pub released-feed : (f : ℕ) → IsFeed f
+        → HungBelow (arrayCount ws) L (feedView (feedsOf vs) f) (feedView (feedsOf ws) f) p i a
+    released-feed f y =
+        feed-hung-below (arrayCount ws) L (feedsOf vs) (feedsOf ws) p i a released-hung-below f
+        (λ c s h l b. sym (re-words ends re c s f h l b y)) (λ s l b. re-words ends re a s f (ha .some) l b y ∙ no-word s l b f y)
+
     released-counted : Counted vs ws a
     released-counted = record {
       size = sym (re .size);
@@ -133,17 +153,21 @@ module _ (L : ℕ) (ws : List ℕ) (a : ℕ) (ok : TableBut L a ws) (em : Releas
       groups = λ g b n. sym (re-header ends re (g + 1) (omega arith) (λ e. omega arith) n);
     }
 
-    blank : (c : ℕ) → 1 ≤ c → c ≤ arrayCount ws → t₁ .tag c ≡ 0 → (k : ℕ) → k < unusedAt → getD vs (wordAt c k) 0 ≡ 0
-    blank c h w z k b =
-        same k 0
-        (λ e _. (let d : wordAt c k ≡ arrayAt c = omega arith in rw d z))
-        (λ n _.
+    blank : (c : ℕ) → 1 ≤ c → c ≤ arrayCount ws → t₁ .tag c ≡ 0 → (k : ℕ) → slotAt 1 ≤ k → k < unusedAt
+        → getD vs (wordAt c k) 0 ≡ 0
+    blank c h w z k o b =
         same c a
-        (λ e _. rw e (re-word ends re a k (ha .some) (omega arith) (λ q. not-self (sym q)) (inr n) ∙ word-none k (omega arith) b))
+        (λ e _. rw e (re-word ends re a k (ha .some) (omega arith) (λ q. not-self (sym q)) (inr (λ q. omega arith))
+        ∙ word-none k o b))
         (λ m _.
         let y : u₁ .tag c ≡ 0 = sym (re-tags ends re c h m) ∙ z in
         let x : c ≢ p = λ e. (let q : u₁ .tag c ≡ u₁ .tag p = ap (u₁ .tag) e in omega (arith, ha .used)) in
-        re-word ends re c k h (omega arith) x (inl m) ∙ ok .blank c h w y k b))
+        re-word ends re c k h (omega arith) x (inl m) ∙ ok .blank c h w y k o b)
+
+    words : RightWords (arrayCount ws) (feedsOf vs)
+    words c s h w z l b f y =
+        let n : c ≢ a = λ e. (let q : t₁ .tag c ≡ t₁ .tag a = ap (t₁ .tag) e in omega (arith, re .tag)) in
+        rw (re-words ends re c s f h l b y) (ok .words c s h w (rw (← (re-tags ends re c h n)) z) l b f y)
 
     right : (c : ℕ) → 1 ≤ c → c ≤ arrayCount ws → 1 ≤ t₁ .tag c → Right (lev t₁ c) (slotsOf vs c) (bestsOf vs c)
     right c h w z =
@@ -167,6 +191,7 @@ module _ (L : ℕ) (ws : List ℕ) (a : ℕ) (ok : TableBut L a ws) (em : Releas
       shape = rw (re .size) (unhang-shape (arrayCount ws) L t₁ u₁ p i a released-hung-below (ok .shape));
       filled = rw (re .size) (unhang-filled (arrayCount ws) L t₁ u₁ p i a released-hung-below (ok .filled));
       blank = rw (re .size) blank;
+      words = rw (re .size) words;
       right = rw (re .size) right;
       settled = rw (re .size) settled;
       header =

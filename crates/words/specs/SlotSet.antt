@@ -6,25 +6,29 @@ use Prim.Native.Nat.{ℕ, zero, suc, _+_, _-_, _*_, _/_, _≤_, _<_}
 use native.Mathlib.Omega.{arith}
 use lib.ListN.{length, getD}
 use Rattle.logic.specs.Cases.{same, less}
-use Rattle.sizes.specs.Sizes.{arrayWords, slotEnd, cellCount, cellsAt, arrayAt, wordAt, cellAt, perGroup}
+use Rattle.sizes.specs.Sizes.{arrayWords, slotAt, slotEnd, cellCount, cellsAt, arrayAt, wordAt, cellAt, perGroup}
+use Rattle.slots.specs.Word.{IsFeed, hopIn, RightWord}
+use Rattle.slots.specs.Winner.{winner-same}
+use Rattle.slots.specs.Slot.{withWord}
 use Rattle.array.specs.Cell.{bestIn, linkIn, blockIn}
 use Rattle.calm.specs.Calm.{Settled}
 use Rattle.calm.specs.Same.{settled-ext}
 use Rattle.array.specs.Right.{Right, right-ext}
 use Rattle.tree.specs.Arrays.{Arrays, lev, usedIn}
 use Rattle.tree.specs.Shape.{HasSlot, HasLink}
-use Rattle.words.specs.Words.{arraysOf, arrayCount, slotsOf, bestsOf, blocksOf}
+use Rattle.words.specs.Words.{feedsOf, arraysOf, arrayCount, wordsOf, slotsOf, bestsOf, blocksOf}
 use Rattle.words.specs.TableBut.{TableBut}
-use Rattle.tree.specs.SlotSet.{TreeSlotSet, same-shape}
+use Rattle.tree.specs.SlotSet.{same-shape}
+use Rattle.gather.specs.WordSet.{TreeWordSet, set-right}
 
--- vs is ws but for slot s of array a, which holds h, and a's best cells and blocks
-pub record SlotSet (ws vs : List ℕ) (a s h : ℕ) : Type 0 where
+-- vs is ws but for feed f's word in slot s of array a, which is w, and a's best cells and blocks
+pub record SlotSet (ws vs : List ℕ) (a s f w : ℕ) : Type 0 where
   pub size : length vs ≡ length ws
   pub outside : (k : ℕ) → (k < arrayAt a) ⊎ (arrayAt (a + 1) ≤ k) → getD vs k 0 ≡ getD ws k 0
   pub tag : getD vs (arrayAt a) 0 ≡ getD ws (arrayAt a) 0
   pub links : (i : ℕ) → i < cellCount → arraysOf vs .link a i ≡ arraysOf ws .link a i
-  pub here : slotsOf vs a s ≡ h
-  pub slots : (r : ℕ) → 1 ≤ r → r < slotEnd → r ≢ s → slotsOf vs a r ≡ slotsOf ws a r
+  pub here : (j : ℕ) → IsFeed j → wordsOf vs a s j ≡ withWord (wordsOf ws a s) f w j
+  pub slots : (r : ℕ) → 1 ≤ r → r < slotEnd → r ≢ s → (j : ℕ) → IsFeed j → wordsOf vs a r j ≡ wordsOf ws a r j
   pub right : Right (lev (arraysOf vs) a) (slotsOf vs a) (bestsOf vs a)
   pub settled : Settled (slotsOf vs a) (arraysOf vs .link a) (blocksOf vs a)
 
@@ -37,6 +41,7 @@ table-is-but L e ws o = record {
   shape = o .shape;
   filled = λ a h w n p. o .filled a h w (λ q. omega arith) p;
   blank = o .blank;
+  words = o .words;
   right = o .right;
   settled = o .settled;
   header = o .header;
@@ -53,13 +58,14 @@ but-is-table L e ws o f = record {
   shape = o .shape;
   filled = λ a h w n p. same a e (λ q _. rw q (f (rw q at h))) (λ m _. o .filled a h w m p);
   blank = o .blank;
+  words = o .words;
   right = o .right;
   settled = o .settled;
   header = o .header;
   rest = o .rest;
 }
 
-module _ (L e : ℕ) (ws vs : List ℕ) (a s h : ℕ) (some : 1 ≤ a) (g : SlotSet ws vs a s h) where
+module _ (L e : ℕ) (ws vs : List ℕ) (a s f w : ℕ) (some : 1 ≤ a) (g : SlotSet ws vs a s f w) where
   abbrev t : Arrays
   t = arraysOf ws
 
@@ -81,14 +87,21 @@ module _ (L e : ℕ) (ws vs : List ℕ) (a s h : ℕ) (some : 1 ≤ a) (g : Slot
   links c i k w =
       same c a (λ q _. rw q (g .links i w)) (λ n _. ap linkIn (cell c i n w))
 
-  pub slot-set-tree : TreeSlotSet t u a s h
+  -- a slot of another array
+  slot-word : (c r j : ℕ) → c ≢ a → r < slotEnd → IsFeed j → wordsOf vs c r j ≡ wordsOf ws c r j
+  slot-word c r j n b y = word c (slotAt r + j - 1) n (omega (arith, y .high))
+
+  slot : (c r : ℕ) → c ≢ a → r < slotEnd → slotsOf vs c r ≡ slotsOf ws c r
+  slot c r n b = ap hopIn (winner-same (wordsOf vs c r) (wordsOf ws c r) (λ j y. slot-word c r j n b y))
+
+  pub slot-set-tree : TreeWordSet (feedsOf ws) (feedsOf vs) a s f w
   slot-set-tree = record {
     tags = tags;
     links = links;
     here = g .here;
-    slots = λ c r k l w n. same c a
-        (λ q _. rw q (g .slots r l w (⊎-elim (λ (z : c ≢ a). absurd (z q)) (λ (z : r ≢ s). z) n)))
-        (λ m _. word c r m (omega arith));
+    words = λ c r j k l b n y. same c a
+        (λ q _. rw q (g .slots r l b (⊎-elim (λ (z : c ≢ a). absurd (z q)) (λ (z : r ≢ s). z) n) j y))
+        (λ m _. slot-word c r j m b y);
   }
 
   used-same : (lo n : ℕ) → usedIn u lo n ≡ usedIn t lo n
@@ -96,8 +109,8 @@ module _ (L e : ℕ) (ws vs : List ℕ) (a s h : ℕ) (some : 1 ≤ a) (g : Slot
   used-same lo (suc n) = rw (tags (lo + suc n) (omega arith), used-same lo n)
 
   -- a table but for a
-  pub slot-set-table-but : TableBut L e ws → (e ≡ 0) ⊎ (e ≡ a) → 1 ≤ getD ws (arrayAt a) 0 → TableBut L a vs
-  slot-set-table-but o ea us = record {
+  pub slot-set-table-but : TableBut L e ws → (e ≡ 0) ⊎ (e ≡ a) → 1 ≤ getD ws (arrayAt a) 0 → RightWord w → TableBut L a vs
+  slot-set-table-but o ea us rt = record {
     whole = rw (g .size) (o .whole);
     low = rw (g .size) (o .low);
     high = rw (g .size) (o .high);
@@ -107,7 +120,7 @@ module _ (L e : ℕ) (ws vs : List ℕ) (a s h : ℕ) (some : 1 ≤ a) (g : Slot
           s = z .s;
           low = z .low;
           high = z .high;
-          some = rw (word c (z .s) n (omega (arith, z .high))) (z .some);
+          some = rw (slot c (z .s) n (z .high)) (z .some);
         }))
         (λ (z : HasLink t c). inr (record {
           i = z .i;
@@ -118,19 +131,20 @@ module _ (L e : ℕ) (ws vs : List ℕ) (a s h : ℕ) (some : 1 ≤ a) (g : Slot
         (o .filled c k w (λ q. ⊎-elim (λ (z : e ≡ 0). omega arith) (λ (z : e ≡ a). n (q ∙ z)) ea)
         (rw (← (tags c (omega arith))) p)));
     blank =
-        rw (g .size) (λ c k w z j b. (let n : c ≢ a = λ q. (let r : t .tag c ≡ t .tag a = ap (t .tag) q in
+        rw (g .size) (λ c k w z j p b. (let n : c ≢ a = λ q. (let r : t .tag c ≡ t .tag a = ap (t .tag) q in
         omega (arith, tags c k)) in
-        word c j n (omega arith) ∙ o .blank c k w (sym (tags c k) ∙ z) j b));
+        word c j n (omega arith) ∙ o .blank c k w (sym (tags c k) ∙ z) j p b));
+    words = rw (g .size) (set-right (feedsOf ws) (feedsOf vs) a s f w slot-set-tree (arrayCount ws) rt (o .words));
     right = rw (g .size) (λ c k w p. same c a
         (λ q _. rw q (g .right))
         (λ n _. rw (tags c k) (right-ext (lev t c) (slotsOf ws c) (bestsOf ws c) (slotsOf vs c) (bestsOf vs c)
-        (λ r l b. word c r n (omega arith))
+        (λ r l b. slot c r n b)
         (λ i b. ap bestIn (cell c i n b))
         (o .right c k w (rw (← (tags c k)) p)))));
     settled = rw (g .size) (λ c k w p. same c a
         (λ q _. rw q (g .settled))
         (λ n _. settled-ext (slotsOf ws c) (t .link c) (blocksOf ws c) (slotsOf vs c) (u .link c) (blocksOf vs c)
-        (λ r l b. word c r n (omega arith))
+        (λ r l b. slot c r n b)
         (λ i b. links c i k b)
         (λ i b z. ap blockIn (cell c i n b))
         (o .settled c k w (rw (← (tags c k)) p))));

@@ -5,26 +5,35 @@ use mathlib.Core.List.{List}
 use Prim.Native.Nat.{ℕ, _+_, _*_}
 use lib.Dec.{eqb}
 use lib.ListN.{length, getD}
-use Rattle.sizes.specs.Sizes.{arrayWords, unusedAt, arrayAt, groupCount, restAt, restWords}
-use Rattle.routes.specs.Seen.{Seen, misfit, foreign, table, misfits}
-use Rattle.routes.specs.Collect.{routes}
+use Rattle.sizes.specs.Sizes.{arrayWords, slotAt, lastSlot, bodyWords, arrayAt, groupCount, restAt, restWords}
+use Rattle.candidates.specs.Candidate.{Candidate}
+use Rattle.candidates.specs.Seen.{Seen, misfit, foreign, table, misfits}
 use Rattle.logic.specs.Every.{allB}
 use Rattle.calm.specs.Check.{settledB}
-use Rattle.array.specs.Check.{zeroAt, rightB, emptyB}
-use Rattle.tree.specs.Arrays.{lev, held, usedIn, usedOf}
-use Rattle.words.specs.Words.{arraysOf, arrayCount, slotsOf, bestsOf, blocksOf}
+use Rattle.slots.specs.Zeros.{zeroAt}
+use Rattle.slots.specs.Slot.{rightSlotB}
+use Rattle.array.specs.Check.{rightB, emptyB}
+use Rattle.tree.specs.Arrays.{lev, usedIn, usedOf}
+use Rattle.gather.specs.Gather.{gathered}
+use Rattle.gather.specs.Views.{wordHeld}
+use Rattle.words.specs.Words.{feedsOf, arraysOf, arrayCount, wordsOf, slotsOf, bestsOf, blocksOf}
 use Rattle.tree.specs.Check.{linksB, parentLinksB}
 
--- the page of array a: its bests are the longest covers, and each cell without a link has its block
+-- the slots of array a: each word is none, or has a hop and a preference in their ranges
+unfoldable pub slotsB : List ℕ → ℕ → Bool
+slotsB ws a = allB (λ s. rightSlotB (wordsOf ws a (s + 1))) lastSlot
+
+-- the page of array a: its slots are right, its bests are the longest covers, and each cell without a link has its block
 abbrev pub pageB : List ℕ → ℕ → Bool
 pageB ws a =
-    rightB (lev (arraysOf ws) a) (slotsOf ws a) (bestsOf ws a) && settledB (slotsOf ws a) (arraysOf ws .link a) (blocksOf ws a)
+    (slotsB ws a && rightB (lev (arraysOf ws) a) (slotsOf ws a) (bestsOf ws a))
+    && settledB (slotsOf ws a) (arraysOf ws .link a) (blocksOf ws a)
 
--- array a: free and 0; or used, its page right, its links leading to arrays that name their cell, and, the root aside, hung
--- where its tag says and not empty
+-- array a: free, its slots and cells 0; or used, its page right, its links leading to arrays that name their cell, and, the root
+-- aside, hung where its tag says and not empty
 unfoldable pub arrayB : ℕ → List ℕ → ℕ → Bool
 arrayB L ws a =
-    cond (eqb (getD ws (arrayAt a) 0) 0) (allB (zeroAt ws (arrayAt a)) unusedAt)
+    cond (eqb (getD ws (arrayAt a) 0) 0) (allB (zeroAt ws (arrayAt a + slotAt 1)) bodyWords)
     (pageB ws a
     && (linksB (arrayCount ws) L (arraysOf ws) a
     && (eqb a 1 || (parentLinksB (arrayCount ws) (arraysOf ws) a && not (emptyB (slotsOf ws a) (arraysOf ws .link a))))))
@@ -42,9 +51,9 @@ headerB ws =
 unfoldable pub tableB : ℕ → List ℕ → Bool
 tableB L ws = eqb (getD ws arrayWords 0) 1 && (headerB ws && allB (λ j. arrayB L ws (j + 1)) (arrayCount ws))
 
--- the list that a table stands for
-abbrev pub listOf : ℕ → List ℕ → List Rattle.routes.specs.Route.Route
-listOf L ws = routes (8 * L) (held (arraysOf ws))
+-- the list that a table stands for: the candidates of the words in the slots
+abbrev pub listOf : ℕ → List ℕ → List Candidate
+listOf L ws = gathered (8 * L) (wordHeld (feedsOf ws))
 
 unfoldable pub seen : ℕ → List ℕ → Seen
 seen L ws = cond (misfits (length ws)) misfit (cond (tableB L ws) (table (arrayCount ws) (listOf L ws)) foreign)

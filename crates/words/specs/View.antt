@@ -8,8 +8,8 @@ use lib.ListN.{length}
 use borrow.Author.Tests.{eq-eqb, le-ltb}
 use Rattle.logic.specs.Cases.{bool, same, less}
 use Rattle.sizes.specs.Sizes.{arrayWords, leastWords, mostWords, levelBound}
-use Rattle.routes.specs.Route.{Route}
-use Rattle.routes.specs.Seen.{Seen, misfit, foreign, table, misfits}
+use Rattle.candidates.specs.Candidate.{Candidate}
+use Rattle.candidates.specs.Seen.{Seen, misfit, foreign, table, misfits}
 use Rattle.words.specs.Words.{arrayCount}
 use Rattle.words.specs.Table.{tableB, listOf, seen}
 use Rattle.words.specs.TableBut.{Table}
@@ -66,22 +66,22 @@ module _ (L : ℕ) (ws : List ℕ) where
 
 -- ---- and back
 
--- words seen as a table of A arrays with the list rs
-pub record Is (L : ℕ) (ws : List ℕ) (A : ℕ) (rs : List Route) : Type 0 where
+-- words seen as a table of A arrays with the candidates cs
+pub record Is (L : ℕ) (ws : List ℕ) (A : ℕ) (cs : List Candidate) : Type 0 where
   pub table : Table L ws
   pub arrays : A ≡ arrayCount ws
-  pub list : rs ≡ listOf L ws
+  pub list : cs ≡ listOf L ws
 
 abbrev kind : Seen → ℕ
 kind misfit = 1
 kind foreign = 2
-kind (table A rs) = 0
+kind (table A cs) = 0
 
 module _ (L : ℕ) (ws : List ℕ) (some : 1 ≤ L) (levels : L < levelBound) where
-  pub table-of : (A : ℕ) (rs : List Route) → seen L ws ≡ table A rs → Is L ws A rs
-  table-of A rs e =
+  pub table-of : (A : ℕ) (cs : List Candidate) → seen L ws ≡ table A cs → Is L ws A cs
+  table-of A cs e =
       seen-cases L ws some levels
       (λ _ q. absurd (let k : _≡_ {A = ℕ} 1 0 = ap kind (sym q ∙ e) in omega arith))
       (λ _ _ q. absurd (let k : _≡_ {A = ℕ} 2 0 = ap kind (sym q ∙ e) in omega arith))
-      (λ _ _ t q. (let r : table A rs ≡ table (arrayCount ws) (listOf L ws) = sym e ∙ q in
+      (λ _ _ t q. (let r : table A cs ≡ table (arrayCount ws) (listOf L ws) = sym e ∙ q in
       record { table = t; arrays = cc; list = cc }))

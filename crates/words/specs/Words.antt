@@ -1,23 +1,32 @@
 -- The lent words as arrays. Assumes nothing.
 --
---     header │ array 1 │ array 2 │ .. │ array A            1,024 words each
+--     header │ array 1 │ array 2 │ .. │ array A            3,072 words each
 --     header: used in all │ used among 1 .. 8 │ used among 9 .. 16 │ .. │ 0 ..
---     array:  tag │ slots 1 .. 511 │ cells 0 .. 255, each its best, and its link or its block │ 256 words not used
+--     array:  tag │ slots 1 .. 511, four words each │ cells 0 .. 255, each its best, and its link or its block │ not used
 use mathlib.Core.List.{List}
-use Prim.Native.Nat.{ℕ, _-_, _/_}
+use Prim.Native.Nat.{ℕ, _+_, _-_, _/_}
 use lib.ListN.{length, getD}
-use Rattle.sizes.specs.Sizes.{arrayWords, arrayAt, wordAt, cellAt}
+use Rattle.sizes.specs.Sizes.{arrayWords, slotAt, arrayAt, wordAt, cellAt}
 use Rattle.array.specs.Cell.{bestIn, linkIn, blockIn}
 use Rattle.tree.specs.Arrays.{Arrays}
+use Rattle.gather.specs.Views.{FeedArrays, wonView}
 
-abbrev pub arraysOf : List ℕ → Arrays
-arraysOf ws = record {
+-- with a word for each feed in a slot
+abbrev pub feedsOf : List ℕ → FeedArrays
+feedsOf ws = record {
   tag = λ a. getD ws (arrayAt a) 0;
   link = λ a i. linkIn (getD ws (cellAt a i) 0);
-  slot = λ a s. getD ws (wordAt a s) 0;
+  word = λ a s f. getD ws (wordAt a (slotAt s + f - 1)) 0;
 }
 
--- the slots 1 .. 511, and of the cells 0 .. 255 the bests and the blocks of array a
+-- with the winning hop in a slot
+abbrev pub arraysOf : List ℕ → Arrays
+arraysOf ws = wonView (feedsOf ws)
+
+-- the words of the slots 1 .. 511 of array a, their winning hops, and of the cells 0 .. 255 the bests and the blocks
+abbrev pub wordsOf : List ℕ → ℕ → ℕ → ℕ → ℕ
+wordsOf ws = feedsOf ws .word
+
 abbrev pub slotsOf : List ℕ → ℕ → ℕ → ℕ
 slotsOf ws = arraysOf ws .slot
 

@@ -1,4 +1,4 @@
-// All lent words as arrays: a header, then arrays of 1,024 words that hang below cells.
+// All lent words as arrays: a header, then arrays of 3,072 words that hang below cells.
 pub mod size; // how many words a table has, and how many arrays
 pub mod part; // where an array stands, and what is read of it
 
@@ -20,7 +20,7 @@ ghost use lib.ListN.{length};
 ghost use Rattle.sizes.specs.Sizes.{mostArrays, leastWords, mostWords, cellCount, arrayAt, perGroup, groupCount, groupStride};
 ghost use Rattle.array.specs.Check.{emptyB};
 ghost use Rattle.words.specs.Words.{arraysOf, arrayCount, slotsOf};
-ghost use Rattle.words.specs.TableBut.{Header};
+ghost use Rattle.words.specs.TableBut.{Header, RightSlotsOf};
 ghost use Rattle.tree.specs.Free.{usedFrom, firstFree};
 ghost use Rattle.words.specs.Gained.{retagged, Gains, Releases, Gained, Released};
 
@@ -99,9 +99,9 @@ pub fn below(words: &[u32], a: usize, i: usize) -> usize
     array::cell::link_in(cell(words, a, i))
 }
 
-// Array a holds no route and no link, length 0 aside.
+// Array a holds no candidate and no link, length 0 aside.
 pub fn empty(words: &[u32], a: usize) -> bool
-    requires { ⌜ (arrayAt (a + 1) ≤ length (now words)) × (length (now words) ≤ mostWords) ⌝ }
+    requires { ⌜ (arrayAt (a + 1) ≤ length (now words)) × (length (now words) ≤ mostWords) × RightSlotsOf (now words) a ⌝ }
     ensures { λ r. ⌜ r ≡ emptyB (slotsOf (now (words .entry)) a) (arraysOf (now (words .entry)) .link a) ⌝ }
 {
     array::check::empty(page(words, a))

@@ -3,12 +3,14 @@
 use sizes::ARRAY_WORDS;
 use sizes::CELL_SLOTS;
 use sizes::CELLS_AT;
+use sizes::SLOT_WORDS;
 ghost use mathlib.Core.Path.{_≡_};
 ghost use Prim.Native.Nat.{_+_, _<_, _≤_};
 ghost use lib.ListN.{length, getD};
 ghost use Rattle.sizes.specs.Sizes.{arrayWords, slotEnd, cellCount, arrayAt, cellAt};
 ghost use Rattle.array.specs.Frame.{pageOf};
-ghost use Rattle.words.specs.Words.{arraysOf, slotsOf};
+ghost use Rattle.slots.specs.Word.{IsFeed};
+ghost use Rattle.words.specs.Words.{arraysOf, wordsOf};
 ghost use Rattle.words.specs.Half.{Within, halfOf};
 
 // The place of array a's first word, one past the array before it.
@@ -27,12 +29,12 @@ pub fn tag(words: &[u32], a: usize) -> u32
     words[ARRAY_WORDS * a]
 }
 
-// Slot s of array a.
-pub fn slot(words: &[u32], a: usize, s: usize) -> u32
-    requires { ⌜ (arrayAt (a + 1) ≤ length (now words)) × (s < slotEnd) ⌝ }
-    ensures { λ r. ⌜ r ≡ slotsOf (now (words .entry)) a s ⌝ }
+// A feed's word in slot s of array a.
+pub fn word(words: &[u32], a: usize, s: usize, feed: usize) -> u32
+    requires { ⌜ (arrayAt (a + 1) ≤ length (now words)) × (s < slotEnd) × IsFeed feed ⌝ }
+    ensures { λ r. ⌜ r ≡ wordsOf (now (words .entry)) a s feed ⌝ }
 {
-    words[ARRAY_WORDS * a + s]
+    words[ARRAY_WORDS * a + (SLOT_WORDS * s + feed - 1)]
 }
 
 // The word of cell i of array a.
@@ -53,20 +55,21 @@ pub fn page(words: &[u32], a: usize) -> &[u32]
     &words[from..to]
 }
 
-// The slot of the lower half of the prefix in `slot`, 0 where there is none; the upper half's is the next. Slot s of an array has
-// its halves at 2 s and 2 s + 1; from slot 256 on it stands above a cell and has its halves in the array below that.
+// The slot of the lower half of the prefix in `slot`, 0 where there is none; the upper half's is the next. Slots are named by the
+// place of their first word. Slot s of an array has its halves at 2 s and 2 s + 1; from slot 256 on it stands above a cell and
+// has its halves in the array below that.
 pub fn half(words: &[u32], slot: usize) -> usize
     requires { ⌜ Within (now words) slot ⌝ }
     ensures { λ r. ⌜ r ≡ halfOf (now (words .entry)) slot ⌝ }
 {
     let s = slot % ARRAY_WORDS;
-    if s < CELL_SLOTS {
+    if s < SLOT_WORDS * CELL_SLOTS {
         return slot + s;
     }
-    let cell = slot + (CELLS_AT - CELL_SLOTS);
+    let cell = slot - s + (CELLS_AT - CELL_SLOTS) + s / SLOT_WORDS;
     let below = array::cell::link_in(words[cell]);
     if below == 0 {
         return 0;
     }
-    ARRAY_WORDS * below + 2
+    ARRAY_WORDS * below + 2 * SLOT_WORDS
 }

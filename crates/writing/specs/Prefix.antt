@@ -12,7 +12,7 @@ use lib.ListN.{length, getD, take, set, length-set}
 use lib.Seq.{take-set-le, getD-set-same}
 use lib.Pow.{pow-add, shl-shr, shr-shr, shl-lt, high}
 use Rattle.logic.specs.Cases.{less}
-use Rattle.sizes.specs.Sizes.{wordAt}
+use Rattle.sizes.specs.Sizes.{slotWords, slotAt, wordAt}
 use Rattle.numbers.specs.Number.{number, AreBytes}
 use Rattle.address.specs.Parts.{number-more, filled, filled-number}
 
@@ -37,7 +37,7 @@ pub record Leads (a : List ℕ) (bits v : ℕ) : Type 0 where
 
 -- made that of the prefix in slot p, of which the whole bytes are there: a slot's number has its bits behind a 1
 unfoldable pub standAt : List ℕ → ℕ → ℕ → List ℕ
-standAt a p bits = set a (length a - 1 - bits / 8) (p * 2 ^ (bits % 8) % 256)
+standAt a p bits = set a (length a - 1 - bits / 8) (p / slotWords * 2 ^ (bits % 8) % 256)
 
 -- ---- the value and the whole address
 
@@ -67,7 +67,8 @@ module _ {a : List ℕ} {bits v : ℕ} (h : Leads a bits v) where
       let r : reach (length a) bits ≡ suc k = omega (arith, h .most) in
       let e : bits % 8 + (7 - (bits - 1) % 8) ≡ 8 = omega arith in
       let m = ap (λ (j : ℕ). number (take j a)) (sym r) ∙ h .bytes in
-      let g : number (take k a) * 2 ^ 8 + getD a k 0 ≡ v * 2 ^ (bits % 8) = sym (number-more a k (omega (arith, h .most))) ∙ m in
+      let g : number (take k a) * 2 ^ 8 + getD a k 0 ≡ v * 2 ^ (bits % 8) =
+      sym (number-more a k (omega (arith, h .most))) ∙ m in
       sym (high (number (take k a)) 8 (ok k))
       ∙ ap (λ (x : ℕ). x / 2 ^ 8) g
       ∙ ap (λ (j : ℕ). v * 2 ^ (bits % 8) / 2 ^ j) (sym e)
@@ -84,26 +85,27 @@ module _ {a : List ℕ} {bits v : ℕ} (h : Leads a bits v) where
 module _ (a : List ℕ) (p bits : ℕ) where
   pub stand-length : length (standAt a p bits) ≡ length a
   unfolding standAt
-  stand-length = length-set a (length a - 1 - bits / 8) (p * 2 ^ (bits % 8) % 256)
+  stand-length = length-set a (length a - 1 - bits / 8) (p / slotWords * 2 ^ (bits % 8) % 256)
 
   pub stand-kept : (k : ℕ) → k ≤ length a - 1 - bits / 8 → take k (standAt a p bits) ≡ take k a
   unfolding standAt
-  stand-kept k h = take-set-le k a (length a - 1 - bits / 8) (p * 2 ^ (bits % 8) % 256) h
+  stand-kept k h = take-set-le k a (length a - 1 - bits / 8) (p / slotWords * 2 ^ (bits % 8) % 256) h
 
--- a slot's number, moved to the front of its byte, is there the bits of its prefix
-slot-byte : (A d x e : ℕ) → d + e ≡ 8 → x < 2 ^ d → wordAt A (2 ^ d + x) * 2 ^ e % 256 ≡ x * 2 ^ e
+-- a slot's number, moved to the front of its byte, is there the bits of its prefix: an array's slots before it are 3 * 256
+slot-byte : (A d x e : ℕ) → d + e ≡ 8 → x < 2 ^ d → wordAt A (slotAt (2 ^ d + x)) / slotWords * 2 ^ e % 256 ≡ x * 2 ^ e
 slot-byte A d x e h s =
     let w : 2 ^ d * 2 ^ e ≡ 256 = sym (pow-add 2 d e) ∙ ap (λ (n : ℕ). 2 ^ n) h in
     let l : x * 2 ^ e < 256 = rw h at (shl-lt d e s) in
-    omega arith
+    let n : wordAt A (slotAt (2 ^ d + x)) / slotWords ≡ 768 * A + (2 ^ d + x) = omega arith in
+    rw n (omega arith)
 
 pub stand-leads : (a : List ℕ) (bits A q d x : ℕ) → bits < 8 * length a → d + bits % 8 ≡ 8 → x < 2 ^ d
     → number (take (length a - 1 - bits / 8) a) ≡ q
-    → Leads (standAt a (wordAt A (2 ^ d + x)) bits) bits (q * 2 ^ d + x)
+    → Leads (standAt a (wordAt A (slotAt (2 ^ d + x))) bits) bits (q * 2 ^ d + x)
 unfolding standAt
 stand-leads a bits A q d x h e s w =
     let k = length a - 1 - bits / 8 in
-    let y = wordAt A (2 ^ d + x) * 2 ^ (bits % 8) % 256 in
+    let y = wordAt A (slotAt (2 ^ d + x)) / slotWords * 2 ^ (bits % 8) % 256 in
     let b = set a k y in
     let l : length b ≡ length a = length-set a k y in
     let r : reach (length b) bits ≡ suc k = omega (arith, l) in

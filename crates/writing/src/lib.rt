@@ -1,15 +1,21 @@
-// Writing a table's routes out into a lent buffer: lower address first, at equal address shorter length first. That is the order
-// in which a walk down the binary trie meets the prefixes, array below array.
+// Writing a table's candidates out into a lent buffer: lower address first, at equal address shorter length first, at equal
+// prefix lower feed first. A walk down the binary trie meets the prefixes in that order, array below array.
 use sizes::ROOT_SLOT;
+use sizes::SLOT_WORDS;
+use slots::slot::is_free;
+use slots::slot::word_at;
+use slots::word::hop_in;
+use slots::word::preference_in;
 ghost use mathlib.Core.Path.{_≡_};
 ghost use Prim.Native.Nat.{_+_, _*_, _<_, _≤_};
 ghost use lib.ListN.{length, getD};
-ghost use Rattle.routes.specs.Bytes.{written};
-ghost use Rattle.routes.specs.Seen.{countOn, frontOn};
+ghost use Rattle.candidates.specs.Bytes.{written};
+ghost use Rattle.candidates.specs.Seen.{countOn, frontOn};
+ghost use Rattle.slots.specs.Page.{wordsAt};
 ghost use Rattle.words.specs.Table.{listOf, seen};
 ghost use Rattle.writing.specs.Answer.{countAnswer, HasFilled};
 ghost use Rattle.numbers.specs.Wrote.{Wrote};
-ghost use Rattle.writing.specs.Asked.{bytesOwn, bytesBelow, Puts, Branches, Splits, Keeps, Dumps};
+ghost use Rattle.writing.specs.Asked.{bytesWord, bytesOwn, bytesBelow, Puts, PutsSlot, Branches, Splits, Keeps, Dumps};
 ghost use Rattle.writing.specs.Prefix.{standAt};
 ghost use Rattle.address.specs.Parts.{filled};
 
@@ -19,8 +25,8 @@ pub enum Counted {
     Refused(u32),
 }
 
-// The byte at i of the address of a prefix that reaches into some bytes: 0 behind them. It is read first, so that the test needs
-// no jump.
+// The byte at i of the address of a prefix that reaches into some bytes: 0 behind them. It is read first, so that the test
+// needs no jump.
 fn byte_of(address: &[u8], reach: usize, i: usize) -> u8
     requires { ⌜ (reach ≤ length (now address)) × (i < length (now address)) ⌝ }
     ensures { λ r. ⌜ r ≡ getD (filled reach (now (address .entry))) i 0 ⌝ }
@@ -45,31 +51,75 @@ fn put_address(address: &[u8], reach: usize, buffer: &mut [u8], at: usize) -> us
     at + i
 }
 
-// The record of a prefix at `at`, unless its hop is 0; returns the place after it. The prefix is the address without some bits at
-// its end.
-fn put(hop: u32, address: &[u8], bits: usize, buffer: &mut [u8], at: usize) -> usize
-    requires { ⌜ Puts hop (now address) bits (now buffer) at ⌝ }
-    ensures { λ r. ⌜ Wrote (now (buffer .entry)) at (bytesOwn bits (now (address .entry)) hop) r (now (buffer .exit)) ⌝ }
+// The record of a prefix at `at` with a feed's candidate, unless its word is 0; returns the place after it. The prefix is the
+// address without some bits at its end.
+fn put(word: u32, feed: usize, address: &[u8], bits: usize, buffer: &mut [u8], at: usize) -> usize
+    requires { ⌜ Puts feed word (now address) bits (now buffer) at ⌝ }
+    ensures { λ r. ⌜ Wrote (now (buffer .entry)) at (bytesWord bits (now (address .entry)) feed word) r (now (buffer .exit)) ⌝ }
 {
-    if hop == 0 {
+    if word == 0 {
         return at;
     }
     let length = 8 * address.len() - bits;
-    buffer[at] = 1;
+    buffer[at] = 4;
     let end = put_address(address, address.len() - bits / 8, buffer, at + 1);
     buffer[end] = (length % 256) as u8;
-    numbers::put_two(buffer, end + 1, hop);
-    end + 3
+    numbers::put_two(buffer, end + 1, hop_in(word));
+    buffer[end + 3] = (feed % 256) as u8;
+    buffer[end + 4] = (preference_in(word) % 256) as u8;
+    end + 5
+}
+
+// The records of a prefix with the candidates in `slot`, lower feed first.
+fn put_feeds(
+    words: &[u32],
+    slot: usize,
+    address: &[u8],
+    bits: usize,
+    buffer: &mut [u8],
+    at: usize,
+) -> usize
+    requires { ⌜ PutsSlot (now words) slot (now address) bits (now buffer) at ⌝ }
+    ensures { λ r. ⌜ Wrote (now (buffer .entry)) at
+        (bytesOwn bits (now (address .entry)) (wordsAt (now (words .entry)) slot)) r (now (buffer .exit)) ⌝ }
+{
+    let mut p = at;
+    let mut feed = 1;
+    while feed <= SLOT_WORDS {
+        p = put(word_at(words, slot, feed), feed, address, bits, buffer, p);
+        feed += 1;
+    }
+    p
+}
+
+// The same, with a test before it: most slots are free.
+fn put_slot(
+    words: &[u32],
+    slot: usize,
+    address: &[u8],
+    bits: usize,
+    buffer: &mut [u8],
+    at: usize,
+) -> usize
+    requires { ⌜ PutsSlot (now words) slot (now address) bits (now buffer) at ⌝ }
+    ensures { λ r. ⌜ Wrote (now (buffer .entry)) at
+        (bytesOwn bits (now (address .entry)) (wordsAt (now (words .entry)) slot)) r (now (buffer .exit)) ⌝ }
+{
+    if is_free(words, slot) {
+        return at;
+    }
+    put_feeds(words, slot, address, bits, buffer, at)
 }
 
 // Makes the address that of the prefix in `slot`, of which the whole bytes are there. The slot's number in its array is a 1 and
-// then the prefix's bits there: moved to the front of a byte they are the prefix's last, and the 1 falls out.
+// then the prefix's bits there: moved to the front of a byte they are the prefix's last, and the 1 falls out. So do the arrays
+// before it: the words of one are those of 3 * 256 slots.
 fn stand_at(address: &mut [u8], slot: usize, bits: usize)
     requires { ⌜ bits < 8 * length (now address) ⌝ }
     ensures { λ _. ⌜ now (address .exit) ≡ standAt (now (address .entry)) slot bits ⌝ }
 {
     let k = address.len() - 1 - bits / 8;
-    address[k] = ((slot << (bits % 8)) % 256) as u8;
+    address[k] = (((slot / SLOT_WORDS) << (bits % 8)) % 256) as u8;
 }
 
 // The records of all below the prefix in `slot`, which has some bits below it in the address. Returns the place after them. The
@@ -97,7 +147,7 @@ fn branch(
     halves(words, low, address, bits, buffer, at)
 }
 
-// The same where its lower half stands in the slot `low`: that half's own record and what is below it, then the upper half's.
+// The same where its lower half stands in the slot `low`: that half's own records and what is below it, then the upper half's.
 // Apart from `branch`, so that the compiler tests for a half before it calls: most prefixes have none.
 fn halves(
     words: &[u32],
@@ -112,13 +162,13 @@ fn halves(
     ensures wrote { λ r. ⌜ Wrote (now (buffer .entry)) at (bytesBelow (now (words .entry)) bits (now (address .entry)))
         r (now (buffer .exit)) ⌝ }
 {
-    let high = low + 1;
+    let high = low + SLOT_WORDS;
     let rest = bits - 1;
     stand_at(address, low, rest);
-    let p = put(words[low], address, rest, buffer, at);
+    let p = put_slot(words, low, address, rest, buffer, at);
     let q = branch(words, low, address, rest, buffer, p);
     stand_at(address, high, rest);
-    let r = put(words[high], address, rest, buffer, q);
+    let r = put_slot(words, high, address, rest, buffer, q);
     branch(words, high, address, rest, buffer, r)
 }
 
@@ -128,8 +178,9 @@ fn dump(words: &[u32], buffer: &mut [u8]) -> usize
     ensures { λ r. ⌜ Wrote (now (buffer .entry)) 0 (written (listOf 4 (now (words .entry)))) r (now (buffer .exit)) ⌝ }
 {
     let mut address = [0u8; 4];
-    let p = put(words[ROOT_SLOT], &address[..], 32, buffer, 0);
-    let end = halves(words, ROOT_SLOT + 1, &mut address[..], 32, buffer, p);
+    let p = put_slot(words, ROOT_SLOT, &address[..], 32, buffer, 0);
+    let low = ROOT_SLOT + SLOT_WORDS;
+    let end = halves(words, low, &mut address[..], 32, buffer, p);
     buffer[end] = 0;
     end + 1
 }
@@ -141,7 +192,7 @@ pub fn count(words: &[u32], room: usize) -> Counted
     let checked = audit::check(words);
     match checked {
         audit::Checked::Counts(routes, _) => {
-            let bytes = 8 * routes as usize + 1;
+            let bytes = 10 * routes as usize + 1;
             if room < bytes {
                 return Counted::Refused(9);
             }

@@ -1,5 +1,5 @@
-//! A reading of docs/COPY.md: which bytes are a list, what its copy needs, when words are a copy of it, and what
-//! the lookup's walk gives on any words.
+//! A reading of docs/COPY.md: which bytes are a list and of which routes, what their copy needs, when words are a copy of
+//! them, and what the lookup's walk gives on any words.
 
 mod listed;
 mod marks;

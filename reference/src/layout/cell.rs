@@ -1,9 +1,9 @@
 //! The one word of a cell: its best, and either its link or its block.
 
-/// The links' bits of a word: a link, or length and block of a cell without one.
+use super::HOPS;
+
+/// The links' bits of a word: a link, or length and block of a cell without one. Above them stands the hop of the best.
 pub const LINKS: u32 = 4096;
-/// Above them stands the hop of the best, below this.
-pub const HOPS: u32 = 65_536;
 /// Lengths and blocks within an array that a table can have.
 pub const MOST: u32 = 8;
 

@@ -2,23 +2,24 @@
 
 use std::collections::BTreeMap;
 
-use super::{cells, tag_below, Cell, End, CELLS, ROOT_TAG, UNUSED};
+use super::{cells, tag_below, winners, word, Cell, End, CELLS, ROOT_TAG, SLOT, UNUSED};
 use crate::address::Address;
+use crate::candidates::{Candidate, CandidateList};
 use crate::list::{Prefix, RouteList};
 use crate::memory::ARRAY_WORDS;
 
 /// Lays the list out in a table of `arrays` arrays. The arrays but the root, in the order of level and head, get the
 /// numbers in turn, which must be distinct, from 2 to `arrays`, and enough.
-pub fn lay(list: &RouteList, arrays: usize, numbers: &[usize]) -> Vec<u32> {
+pub fn lay(list: &CandidateList, arrays: usize, numbers: &[usize]) -> Vec<u32> {
     let mut words = vec![0; ARRAY_WORDS * (arrays + 1)];
     words[ARRAY_WORDS] = ROOT_TAG;
-    let numbered = number(list, numbers);
+    let numbered = number(list.winners(), numbers);
     for (&(level, head), &a) in &numbered {
         hang(&mut words, numbered.get(&parent(level, head)).copied().unwrap_or(1), a, level, head);
     }
-    for route in list.routes() {
-        let own = (route.prefix.level(), route.prefix.head());
-        words[ARRAY_WORDS * numbered.get(&own).copied().unwrap_or(1) + slot(route.prefix)] = route.hop;
+    for &Candidate { prefix, feed, preference, hop } in list.candidates() {
+        let page = ARRAY_WORDS * numbered.get(&(prefix.level(), prefix.head())).copied().unwrap_or(1);
+        words[page + SLOT * slot(prefix) + feed as usize - 1] = word(preference, hop);
     }
     let used = [1].into_iter().chain(numbered.values().copied());
     for a in used {
@@ -55,7 +56,7 @@ fn hang(words: &mut [u32], parent: usize, a: usize, level: u32, head: u32) {
     words[ARRAY_WORDS * a] = tag_below(parent, cell, words[ARRAY_WORDS * parent]);
 }
 
-/// Where in its array a prefix stands.
+/// The number of a prefix's slot in its array.
 fn slot(prefix: Prefix) -> usize {
     let bits = prefix.length - 8 * prefix.level();
     let value = u64::from(prefix.address - prefix.head()) >> (32 - prefix.length);
@@ -65,7 +66,7 @@ fn slot(prefix: Prefix) -> usize {
 /// Bests and blocks, where the links stand already.
 fn fill_cells(page: &mut [u32]) {
     let links: Vec<_> = page[CELLS..UNUSED].iter().map(|&word| Cell::of(word).link()).collect();
-    for (cell, word) in cells(&page[..CELLS], &links).into_iter().zip(&mut page[CELLS..UNUSED]) {
+    for (cell, word) in cells(&winners(page), &links).into_iter().zip(&mut page[CELLS..UNUSED]) {
         *word = cell.word();
     }
 }

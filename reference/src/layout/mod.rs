@@ -4,19 +4,21 @@
 mod cell;
 mod lay;
 mod read;
+mod slot;
 mod walk;
 
-pub use cell::{Cell, End, HOPS, LINKS, MOST};
+pub use cell::{Cell, End, LINKS, MOST};
 pub use lay::lay;
 pub use read::{check, read};
+pub use slot::{winner, winners, word, HOPS, SLOT};
 pub use walk::{trace, walk, Found, Odd, Walked};
 
 use crate::memory::{arrays_in, ARRAY_WORDS};
 
-/// The first word of the cells within an array; before it stand the tag and the slots.
-pub const CELLS: usize = 512;
+/// The first word of the cells within an array; before it stand the tag, three words without a use, and the slots.
+pub const CELLS: usize = 2048;
 /// The first word after the cells: from there to the array's end no word has a use, whatever it holds.
-pub const UNUSED: usize = 768;
+pub const UNUSED: usize = 2304;
 /// The tag of the root, which is array 1.
 pub const ROOT_TAG: u32 = 1;
 /// The levels, one for each byte of an address.
@@ -53,8 +55,9 @@ impl<'a> Arrays<'a> {
         self.page(a)[0]
     }
 
-    pub fn slot(&self, a: usize, slot: usize) -> u32 {
-        self.page(a)[slot]
+    /// The words of a slot, by feed.
+    pub fn slot(&self, a: usize, slot: usize) -> &'a [u32] {
+        &self.page(a)[SLOT * slot..SLOT * (slot + 1)]
     }
 
     pub fn cell(&self, a: usize, cell: usize) -> Cell {
@@ -77,15 +80,15 @@ pub fn tag_below(parent: usize, cell: usize, parent_tag: u32) -> u32 {
     parent as u32 * 8192 + cell as u32 * 32 + (parent_tag % 32 + 1)
 }
 
-/// What the cells must be, with these slots and these links: a cell's best is the longest slot that covers it, and its block the
-/// length of the largest box around it inside which no other slot is taken and no cell has a link.
-pub fn cells(slots: &[u32], links: &[Option<u32>]) -> Vec<Cell> {
-    let busy = busy(slots, links);
+/// What the cells must be, with slots of these winning hops and with these links: a cell's best is the longest slot that covers
+/// it, and its block the length of the largest box around it inside which no other slot is taken and no cell has a link.
+pub fn cells(hops: &[Option<u32>], links: &[Option<u32>]) -> Vec<Cell> {
+    let busy = busy(hops, links);
     // The slots of the boxes around a cell, the largest first: length 0 has slot 1.
     let boxes = |cell: usize| (0..=MOST).map(move |length| (length, (256 + cell) >> (MOST - length)));
     let cell = |(cell, link): (usize, &Option<u32>)| {
-        let best = boxes(cell).filter(|&(_, slot)| slots[slot] != 0).last();
-        let (length, hop) = best.map_or((0, 0), |(length, slot)| (length, slots[slot]));
+        let best = boxes(cell).rev().find_map(|(length, slot)| Some((length, hops[slot]?)));
+        let (length, hop) = best.unwrap_or((0, 0));
         let block = || boxes(cell).find(|&(_, slot)| !busy[slot]).map_or(MOST, |(length, _)| length);
         Cell { hop, length, end: link.map_or_else(|| End::Block(block()), End::Link) }
     };
@@ -93,12 +96,12 @@ pub fn cells(slots: &[u32], links: &[Option<u32>]) -> Vec<Cell> {
 }
 
 /// For each slot, whether another is taken inside its box or a cell has a link there.
-fn busy(slots: &[u32], links: &[Option<u32>]) -> Vec<bool> {
+fn busy(hops: &[Option<u32>], links: &[Option<u32>]) -> Vec<bool> {
     let mut busy = vec![false; 512];
     for slot in (1..512).rev() {
         busy[slot] = match slot {
             256.. => links[slot - 256].is_some(),
-            _ => [2 * slot, 2 * slot + 1].into_iter().any(|half| slots[half] != 0 || busy[half]),
+            _ => [2 * slot, 2 * slot + 1].into_iter().any(|half| hops[half].is_some() || busy[half]),
         };
     }
     busy

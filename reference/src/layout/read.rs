@@ -1,16 +1,18 @@
 //! Which words are a table, and the list that they stand for.
 
-use super::{cells, tag_below, Arrays, CELLS, LEVELS, ROOT_TAG, UNUSED};
-use crate::list::{Prefix, RouteList};
+use super::slot::{candidate, is_right};
+use super::{cells, tag_below, winners, Arrays, CELLS, LEVELS, ROOT_TAG, SLOT, UNUSED};
+use crate::candidates::{Candidate, CandidateList};
+use crate::list::Prefix;
 use crate::memory::{Counts, Memory, ARRAY_WORDS};
 use crate::refusal::Refusal;
 
 /// The words as a size and, where they are a table, its list.
 pub fn read(words: &[u32]) -> Memory {
     let list = Arrays::new(words).filter(is_table).map(|arrays| {
-        let mut list = RouteList::default();
-        collect(&arrays, 1, 0, 0, &mut list);
-        list
+        let mut found = Vec::new();
+        collect(&arrays, 1, 0, 0, &mut found);
+        CandidateList::from(found)
     });
     Memory::new(words.len(), list)
 }
@@ -39,7 +41,7 @@ fn header_right(arrays: &Arrays) -> bool {
 }
 
 fn free_is_zero(arrays: &Arrays, a: usize) -> bool {
-    arrays.tag(a) != 0 || arrays.page(a)[..UNUSED].iter().all(|&word| word == 0)
+    arrays.tag(a) != 0 || arrays.page(a)[SLOT..UNUSED].iter().all(|&word| word == 0)
 }
 
 /// A used array but the root hangs where its tag says, and holds something.
@@ -52,7 +54,8 @@ fn tag_right(arrays: &Arrays, a: usize) -> bool {
         Some(parent) => arrays.below(parent, (tag / 32 % 256) as usize) == Some(a as u32),
         None => false,
     };
-    hangs && ((2..512).any(|slot| arrays.slot(a, slot) != 0) || (0..256).any(|cell| arrays.below(a, cell).is_some()))
+    let holds = arrays.page(a)[2 * SLOT..CELLS].iter().any(|&word| word != 0);
+    hangs && (holds || (0..256).any(|cell| arrays.below(a, cell).is_some()))
 }
 
 /// Each link leads to an array whose tag names that cell, one level down, and none leaves the last level.
@@ -68,31 +71,37 @@ fn links_right(arrays: &Arrays, a: usize) -> bool {
 }
 
 fn slots_right(arrays: &Arrays, a: usize) -> bool {
-    let in_range = (1..512).all(|slot| arrays.slot(a, slot) < 65_536);
-    in_range && (a == 1 || arrays.slot(a, 1) == 0)
+    let in_range = arrays.page(a)[SLOT..CELLS].iter().all(|&word| is_right(word));
+    in_range && (a == 1 || arrays.slot(a, 1) == [0; SLOT])
 }
 
 /// Each best and each block is what slots and links make it.
 fn cells_right(arrays: &Arrays, a: usize) -> bool {
     let links: Vec<_> = (0..256).map(|cell| arrays.below(a, cell)).collect();
-    cells(&arrays.page(a)[..CELLS], &links).into_iter().enumerate().all(|(at, cell)| arrays.cell(a, at) == cell)
+    cells(&winners(arrays.page(a)), &links).into_iter().enumerate().all(|(at, cell)| arrays.cell(a, at) == cell)
 }
 
-/// Adds the routes of array `a`, whose head is `head`, and of all that hangs below it.
-fn collect(arrays: &Arrays, a: usize, level: u32, head: u32, list: &mut RouteList) {
+/// Adds the candidates of array `a`, whose head is `head`, and of all that hangs below it.
+fn collect(arrays: &Arrays, a: usize, level: u32, head: u32, found: &mut Vec<Candidate>) {
     for slot in 1..512_usize {
-        let hop = arrays.slot(a, slot);
-        if hop != 0 {
-            let bits = slot.ilog2();
-            let value = slot as u32 - (1 << bits);
-            let length = 8 * level + bits;
-            let address = (u64::from(value) << (32 - length)) as u32;
-            list.set(Prefix { address: head | address, length }, hop);
+        let prefix = prefix_of(slot, level, head);
+        for (feed, &word) in (1..).zip(arrays.slot(a, slot)) {
+            let candidate = candidate(word).map(|(preference, hop)| Candidate { prefix, feed, preference, hop });
+            found.extend(candidate);
         }
     }
     for cell in 0..256 {
         if let Some(below) = arrays.below(a, cell).and_then(|number| arrays.held(number)) {
-            collect(arrays, below, level + 1, head | (cell as u32) << (24 - 8 * level), list);
+            collect(arrays, below, level + 1, head | (cell as u32) << (24 - 8 * level), found);
         }
     }
+}
+
+/// The prefix that a slot of the array at this level, with this head, stands for.
+fn prefix_of(slot: usize, level: u32, head: u32) -> Prefix {
+    let bits = slot.ilog2();
+    let value = slot as u32 - (1 << bits);
+    let length = 8 * level + bits;
+    let address = (u64::from(value) << (32 - length)) as u32;
+    Prefix { address: head | address, length }
 }

@@ -1,4 +1,4 @@
--- `audit::check_of` answers by what the words are seen to be: taken slots are routes, and the header counts the arrays needed. Assumes nothing.
+-- `audit::check_of` answers by what the words are seen to be: taken words are candidates, and the header counts the arrays needed. Assumes nothing.
 use mathlib.Core.Path.{sym, _∙_}
 use native.Mathlib.Omega.{arith}
 use lib.ListN.{length}
@@ -33,8 +33,8 @@ arrays-in-requires c κs =
     let size = c .before .before .before in
     no-misfit-fits (length (size .before .before .args .words .now)) (sym (size .misfit .ensures) ∙ c .before .before .if1 .left) .low
 
-routes-of-requires : tie.Need-routes-of-requires
-routes-of-requires c κs =
+candidates-of-requires : tie.Need-candidates-of-requires
+candidates-of-requires c κs =
     let size = c .before .before .before .before in
     let n = c .arrays-in in
     sized (size .before .before .args .words .now) (n .result) (sym (size .misfit .ensures) ∙ c .before .before .before .if1 .left) (n .ensures)
@@ -53,7 +53,7 @@ returns-3 c =
     let size = if1 .before in
     let s = size .before .before in
     let a = s .args in
-    let r = c .before .routes-of in
+    let r = c .before .candidates-of in
     check-table (a .levels) (a .words .now) (s .pre .0) (s .pre .1)
     (sym (size .misfit .ensures) ∙ if1 .if1 .left)
     (sym (n .before .before .is-table-of .ensures) ∙ not-false _ (n .before .if2 .left))
@@ -68,6 +68,6 @@ check-of-spec =
     is-table-of-requires
     returns-2
     arrays-in-requires
-    routes-of-requires
+    candidates-of-requires
     shared-slice-read-t10
     returns-3)

@@ -56,7 +56,8 @@ returns c =
     let a = t .args in
     let h : a .at + 5 ≤ length (a .feed .now) = omega (arith, t .pre .1) in
     let p = rw (part-length (a .feed .now) (a .at) h) at (on .ensures) in
-    asked-announce _ _ (on .result) (a .feed .now) (a .at) _ _ _ (part-number (a .feed .now) (a .at) h) refl (b .two-at .ensures .0) p
+    asked-announce _ _ (on .result) (a .feed .now) (a .at) _ _ _ _ _ (part-number (a .feed .now) (a .at) h) refl
+    (b .two-at .ensures .0) p
 
 pub announce-spec : {M : Type 1} → statement M
 announce-spec =

@@ -1,4 +1,5 @@
 -- The number at the start says whether the words are a table, and with what the run refuses. Assumes nothing.
+use native.Mathlib.Omega.{arith}
 use Rattle.feed.proofs.Loop.{run-refused, run-started}
 use borrow.Author.Needs.{needs}
 use Rattle.feed.proofs.run.Statement.{statement}
@@ -11,10 +12,10 @@ same-length : tie.Need-same-length
 same-length c = search needs
 
 returns : tie.Need-returns
-returns c = run-refused _ _ (c .before .refusal .ensures) _ _ (c .if1 .taken)
+returns c = run-refused _ _ (c .before .refusal .ensures) _ _ (λ z. omega arith)
 
 run-table-requires : tie.Need-run-table-requires
-run-table-requires c κs = run-started _ _ (c .before .before .before .refusal .ensures) (c .before .before .if1 .left)
+run-table-requires c κs = run-started _ _ (c .before .before .before .refusal .ensures) (omega arith)
 
 same-length-2 : tie.Need-same-length-2
 same-length-2 c = search needs

@@ -49,7 +49,7 @@ returns c =
     let a = t .args in
     let h : a .at + 5 ≤ length (a .feed .now) = omega (arith, t .pre .1) in
     let p = rw (part-length (a .feed .now) (a .at) h) at (on .ensures) in
-    asked-withdraw _ _ (on .result) (a .feed .now) (a .at) _ _ (part-number (a .feed .now) (a .at) h) refl p
+    asked-withdraw _ _ (on .result) (a .feed .now) (a .at) _ _ _ (part-number (a .feed .now) (a .at) h) refl p
 
 pub withdraw-spec : {M : Type 1} → statement M
 withdraw-spec =

@@ -8,21 +8,23 @@ use Rattle.lengths_build.proofs.best_of.Tie as tie
 bits-requires : tie.Need-bits-requires
 bits-requires c κs = omega (arith, c .before .before .pre .here)
 
-hop-requires : tie.Need-hop-requires
-hop-requires c κs = omega (arith, c .before .before .before .before .pre .here)
+winner-requires : tie.Need-winner-requires
+winner-requires c κs =
+    let p = c .before .before .before .before .pre in
+    (p .list, p .here)
 
 mul-result : tie.Need-mul-result
-mul-result c = omega (arith, c .hop .ensures .1)
+mul-result c = omega (arith, c .winner .ensures .1)
 
 add-result : tie.Need-add-result
-add-result c = omega (arith, c .hop .ensures .1, c .before .before .before .before .before .pre .most)
+add-result c = omega (arith, c .winner .ensures .1, c .before .before .before .before .before .pre .most)
 
 returns : tie.Need-returns
 returns c =
     let a = c .before .before .before .before .before .args in
     let p = c .before .before .before .before .before .pre in
     let bits = c .before .before .bits in
-    of-route (a .bytes .now) (a .words .now) (a .i) (a .m) (a .v) p (bits .result) (c .hop .result) (bits .ensures .0) (c .hop .ensures .0)
+    of-route (a .bytes .now) (a .words .now) (a .i) (a .m) (a .v) p (bits .result) (c .winner .result) (bits .ensures .0) (c .winner .ensures .0)
     (c .before .if1 .taken)
 
 shorter-requires : tie.Need-shorter-requires
@@ -41,4 +43,4 @@ returns-2 c =
 pub best-of-spec : {M : Type 1} → statement M
 best-of-spec =
     tie.close
-    (tie.spec bits-requires hop-requires mul-result add-result returns shorter-requires returns-2)
+    (tie.spec bits-requires winner-requires mul-result add-result returns shorter-requires returns-2)

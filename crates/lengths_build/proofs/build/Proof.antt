@@ -64,36 +64,45 @@ tables-requires c κs =
     build-starts (a .bytes .now) (a .words .now) (n .given .0 .0) g
     (λ i. omega (arith, shared-slice-known .given i)) (c .before .default-of .result) (if1 .left) (c .before .default-of .ensures)
 
-sub-t6 : tie.Need-sub-t6
-sub-t6 c =
+routes-requires : tie.Need-routes-requires
+routes-requires c κs =
     let a = c .before .before .before .before .before .before .before .before .before .before .before .before .args in
+    let shared-slice-known = c .before .before .before .before .before .before .before .before .before .before .before .shared-slice-known in
     let need = c .before .before .before .before .before .before .before .before .before .need in
     let n = c .before .before .before .before .before .before .before .n in
+    let g = given (a .bytes .now) (n .given .0 .0) (sym (ap needAnswer (n .given .1)) ∙ need .ensures) in
+    build-list (a .bytes .now) (a .words .now) (n .given .0 .0) g (λ i. omega (arith, shared-slice-known .given i))
+
+sub-t6 : tie.Need-sub-t6
+sub-t6 c =
+    let a = c .before .before .before .before .before .before .before .before .before .before .before .before .before .args in
+    let need = c .before .before .before .before .before .before .before .before .before .before .need in
+    let n = c .before .before .before .before .before .before .before .before .n in
     let g = given (a .bytes .now) (n .given .0 .0) (sym (ap needAnswer (n .given .1)) ∙ need .ensures) in
     build-sub (a .bytes .now) (a .words .now) (n .given .0 .0) g .0
 
 sub-t14 : tie.Need-sub-t14
 sub-t14 c =
-    let a = c .before .before .before .before .before .before .before .before .before .before .before .before .args in
-    let need = c .before .before .before .before .before .before .before .before .before .need in
-    let n = c .before .before .before .before .before .before .before .n in
+    let a = c .before .before .before .before .before .before .before .before .before .before .before .before .before .args in
+    let need = c .before .before .before .before .before .before .before .before .before .before .need in
+    let n = c .before .before .before .before .before .before .before .before .n in
     let g = given (a .bytes .now) (n .given .0 .0) (sym (ap needAnswer (n .given .1)) ∙ need .ensures) in
-    build-sub (a .bytes .now) (a .words .now) (n .given .0 .0) g .1
+    build-sub (a .bytes .now) (a .words .now) (n .given .0 .0) g .1 (c .routes .result) (c .routes .ensures)
 
 same-length : tie.Need-same-length
-same-length c = c .before .before .tables .ensures .long ∙ simp length-set
+same-length c = c .before .before .before .tables .ensures .long ∙ simp length-set
 
 returns-3 : tie.Need-returns-3
 returns-3 c =
-    let a = c .before .before .before .before .before .before .before .before .before .before .before .before .args in
-    let need = c .before .before .before .before .before .before .before .before .before .need in
-    let n = c .before .before .before .before .before .before .before .n in
+    let a = c .before .before .before .before .before .before .before .before .before .before .before .before .before .args in
+    let need = c .before .before .before .before .before .before .before .before .before .before .need in
+    let n = c .before .before .before .before .before .before .before .before .n in
     let g = given (a .bytes .now) (n .given .0 .0) (sym (ap needAnswer (n .given .1)) ∙ need .ensures) in
-    let if1 = c .before .before .before .before .before .if1 in
-    let default-of = c .before .before .before .before .default-of in
-    let tables = c .before .before .tables in
+    let if1 = c .before .before .before .before .before .before .if1 in
+    let default-of = c .before .before .before .before .before .default-of in
+    let tables = c .before .before .before .tables in
     build-built (a .bytes .now) (a .words .now) (n .given .0 .0) g
-    (default-of .result) (tables .last .1 .0) (if1 .left) (tables .ensures)
+    (default-of .result) (tables .last .1 .0) (c .routes .result) (if1 .left) (tables .ensures) (c .routes .ensures)
 
 pub build-spec : {M : Type 1} → statement M
 build-spec =
@@ -107,6 +116,7 @@ build-spec =
     default-of-requires
     slice-write-words
     tables-requires
+    routes-requires
     sub-t6
     sub-t14
     same-length

@@ -1,5 +1,6 @@
 -- `lengths_build::entries` meets its contract: the entries are the heads of the routes up to the reach. Assumes nothing.
-use Rattle.listing.specs.Listed.{listOf}
+use Rattle.rivals.specs.Won.{winners-list}
+use Rattle.listing.specs.Listed.{candidatesIn, listOf}
 use Rattle.lengths_build.proofs.Words.{entries-count}
 use borrow.Author.Needs.{needs}
 use Rattle.lengths_build.proofs.entries.Statement.{statement}
@@ -16,8 +17,8 @@ returns c =
     let s = c .before .before .before in
     let reach = c .before .reach in
     let count = c .count in (
-      entries-count (listOf (s .args .bytes .now)) (s .args .m) (reach .result) (count .result) (s .pre .0) (s .pre .1) (s .pre .2)
-          (reach .ensures) (count .ensures .0),
+      entries-count (listOf (s .args .bytes .now)) (s .args .m) (reach .result) (count .result)
+          (winners-list 32 (candidatesIn (s .args .bytes .now)) (s .pre .0)) (s .pre .1) (s .pre .2) (reach .ensures) (count .ensures .0),
       count .ensures .1,
     )
 

@@ -1,9 +1,10 @@
 -- `lengths_build::fill` meets its contract. The loop keeps what the records from i on have entered. Assumes nothing.
 use mathlib.Core.Path.{sym, ap, _∙_}
-use Prim.Native.Nat.{_-_, _/_}
-use lib.ListN.{length}
+use Prim.Native.Nat.{_-_}
+use Rattle.listing.specs.Listed.{recordsIn}
 use Rattle.lengths_build.specs.Filling.{chosen, Filled}
 use Rattle.lengths_build.proofs.Making.{fill-none, fill-at, fill-asks, fill-join, fill-skip, fill-end}
+use borrow.Author.Needs.{needs}
 use native.Mathlib.Omega.{arith}
 use Rattle.lengths_build.proofs.fill.Statement.{statement}
 use Rattle.lengths_build.proofs.fill.Tie as tie
@@ -14,11 +15,14 @@ Inv-loop bytes words₀ marks m o p i₀ words i = Filled marks bytes words₀ w
 abbrev μ-loop : tie.MeasureT-loop
 μ-loop bytes words₀ marks m o p i₀ words i = i
 
+records-requires : tie.Need-records-requires Inv-loop μ-loop
+records-requires c κs = search needs
+
 loop-holds : tie.Need-loop-holds Inv-loop μ-loop
 loop-holds c =
-    let a = c .before .before .args in
-    let p = c .before .before .pre in
-    fill-none (a .marks) (a .bytes .now) (a .m) (a .o) (a .p) (a .words .now) (length (a .bytes .now) / 8) p
+    let a = c .before .before .before .args in
+    let p = c .before .before .before .pre in
+    rw (c .records .ensures .0) (fill-none (a .marks) (a .bytes .now) (a .m) (a .o) (a .p) (a .words .now) (recordsIn (a .bytes .now)) p)
 
 sub-i : tie.Need-sub-i Inv-loop μ-loop
 sub-i c = omega arith
@@ -28,14 +32,14 @@ bits-requires c κs = omega (arith, c .before .loop .inv .filling .upto)
 
 is-chosen-requires : tie.Need-is-chosen-requires Inv-loop μ-loop
 is-chosen-requires c κs =
-    let a = c .before .before .before .before .before .args in
+    let a = c .before .before .before .before .before .before .args in
     let l = c .before .before .loop in
     fill-asks (a .marks) (a .bytes .now) (a .m) (a .o) (a .p) (l .words) (l .i) (l .i - 1) (c .bits .result) (omega arith) (l .inv .filling)
     (c .bits .ensures .0)
 
 enter-requires : tie.Need-enter-requires Inv-loop μ-loop
 enter-requires c κs =
-    let a = c .before .before .before .before .before .before .before .before .args in
+    let a = c .before .before .before .before .before .before .before .before .before .args in
     let l = c .before .before .before .before .before .loop in
     let bits = c .before .before .before .bits in
     let is-chosen = c .before .before .is-chosen in (
@@ -48,7 +52,7 @@ loop-less c = omega arith
 
 loop-again : tie.Need-loop-again Inv-loop μ-loop
 loop-again c =
-    let a = c .before .before .before .before .before .before .before .before .before .before .before .args in
+    let a = c .before .before .before .before .before .before .before .before .before .before .before .before .args in
     let l = c .before .before .before .before .before .before .before .before .loop in
     let enter = c .before .before .enter in
     fill-join (a .marks) (a .bytes .now) (a .m) (a .o) (a .p) (a .words .now) (l .words) (enter .last .1 .0) (l .i) (l .i - 1) (l .inv) (enter .ensures)
@@ -58,7 +62,7 @@ loop-less-2 c = omega arith
 
 loop-again-2 : tie.Need-loop-again-2 Inv-loop μ-loop
 loop-again-2 c =
-    let a = c .before .before .before .before .before .before .before .args in
+    let a = c .before .before .before .before .before .before .before .before .args in
     let l = c .before .before .before .before .loop in
     let bits = c .before .before .bits in
     fill-skip (a .marks) (a .bytes .now) (a .m) (a .o) (a .p) (a .words .now) (l .words) (l .i) (l .i - 1) (omega arith) (l .inv) (c .before .is-chosen .result)
@@ -69,7 +73,7 @@ same-length c = c .before .loop .inv .kept .long
 
 returns : tie.Need-returns Inv-loop μ-loop
 returns c =
-    let a = c .before .before .before .before .args in
+    let a = c .before .before .before .before .before .args in
     let l = c .before .loop in
     fill-end (a .marks) (a .bytes .now) (a .m) (a .o) (a .p) (a .words .now) (l .words) (l .i) (c .loop-test .left) (l .inv)
 
@@ -79,6 +83,7 @@ fill-spec =
     (tie.spec
     Inv-loop
     μ-loop
+    records-requires
     loop-holds
     sub-i
     bits-requires

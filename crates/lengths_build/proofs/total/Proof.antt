@@ -3,7 +3,8 @@
 use mathlib.Core.Path.{_≡_}
 use Prim.Native.Nat.{_+_, _*_, _-_, _≤_}
 use Rattle.lengths.specs.Entries.{entriesTo, tally}
-use Rattle.listing.specs.Listed.{listOf}
+use Rattle.rivals.specs.Won.{winners-list}
+use Rattle.listing.specs.Listed.{candidatesIn, listOf}
 use Rattle.listing.specs.Records.{keyBound}
 use Rattle.lengths_build.proofs.Words.{total-none, total-more, total-all}
 use native.Mathlib.Omega.{arith}
@@ -51,7 +52,8 @@ returns c =
     let a = c .before .before .before .before .args in
     let p = c .before .before .before .before .pre in
     let l = c .before .loop in
-    (total-all (listOf (a .bytes .now)) (l .m) (l .sum) p (omega arith) (omega arith) (l .inv .1), omega (arith, l .inv .2))
+    let w = winners-list 32 (candidatesIn (a .bytes .now)) p in
+    (total-all (listOf (a .bytes .now)) (l .m) (l .sum) w (omega arith) (omega arith) (l .inv .1), omega (arith, l .inv .2))
 
 pub total-spec : {M : Type 1} → statement M
 total-spec =

@@ -4,7 +4,8 @@ use Prim.Native.Nat.{_+_, _-_, _*_, _≤_}
 use native.Mathlib.Omega.{arith}
 use borrow.Author.Needs.{needs}
 use Rattle.routes.specs.Room.{needTo}
-use Rattle.listing.specs.Listed.{listOf}
+use Rattle.rivals.specs.Won.{winners-list}
+use Rattle.listing.specs.Listed.{candidatesIn, listOf}
 use Rattle.listing.specs.Records.{keyBound}
 use Rattle.listing.proofs.Counting.{arrays-none, arrays-more, arrays-all}
 use Rattle.listing.proofs.arrays.Statement.{statement}
@@ -46,7 +47,8 @@ loop-again c =
     let l = c .before .before .loop in
     let n = c .count in (
       omega arith,
-      arrays-more (listOf (s .args .bytes .now)) (l .sum) (l .k) (l .k + 1) (n .result) (s .pre) (l .inv .1) refl (n .ensures .0),
+      arrays-more (listOf (s .args .bytes .now)) (l .sum) (l .k) (l .k + 1) (n .result) (winners-list 32 (candidatesIn (s .args .bytes .now)) (s .pre))
+          (l .inv .1) refl (n .ensures .0),
       omega (arith, l .inv .2, n .ensures .1),
     )
 

@@ -1,13 +1,13 @@
 -- `listing::bits` meets its contract: a byte is below 256. Assumes nothing.
 use mathlib.Core.Path.{refl}
-use Prim.Native.Nat.{_+_, _*_}
+use Prim.Native.Nat.{_+_}
 use borrow.Author.Needs.{needs}
 use native.Mathlib.Omega.{arith}
 use Rattle.listing.proofs.bits.Statement.{statement}
 use Rattle.listing.proofs.bits.Tie as tie
 
-mul-at : tie.Need-mul-at
-mul-at c = search needs
+begin-requires : tie.Need-begin-requires
+begin-requires c κs = search needs
 
 add-at : tie.Need-add-at
 add-at c = search needs
@@ -16,10 +16,10 @@ shared-slice-read-result : tie.Need-shared-slice-read-result
 shared-slice-read-result c = search needs
 
 cast-result : tie.Need-cast-result
-cast-result c = omega (arith, c .shared-slice-known .given (8 * c .before .args .i + 5))
+cast-result c = omega (arith, c .shared-slice-known2 .given (c .before .begin .result + 5))
 
 returns : tie.Need-returns
-returns c = (refl, omega (arith, c .shared-slice-known .given (8 * c .before .args .i + 5)))
+returns c = (rw (c .before .begin .ensures .at) refl, omega (arith, c .shared-slice-known2 .given (c .before .begin .result + 5)))
 
 pub bits-spec : {M : Type 1} → statement M
-bits-spec = tie.close (tie.spec mul-at add-at shared-slice-read-result cast-result returns)
+bits-spec = tie.close (tie.spec begin-requires add-at shared-slice-read-result cast-result returns)

@@ -1,4 +1,4 @@
--- `paths::find` meets its contract: the walk tells where the path stops, and the read which hop is there. Assumes nothing.
+-- `paths::find` meets its contract: the walk tells where the path stops, and the read which word is there. Assumes nothing.
 use native.Mathlib.Omega.{arith}
 use lib.ListN.{length}
 use borrow.Author.Needs.{needs}
@@ -13,13 +13,13 @@ place-of-requires c κs = search needs
 walk-down-requires : tie.Need-walk-down-requires
 walk-down-requires c κs = search needs
 
-hop-at-requires : tie.Need-hop-at-requires
-hop-at-requires c κs =
+word-at-requires : tie.Need-word-at-requires
+word-at-requires c κs =
     let t = c .before .before .before .before in
     let n = t .args .address .now in
     let p = c .before .place-of in
     let small = value-lt (length n) (number n) (p .result .level) (p .result .depth) (p .ensures .top) (p .ensures .deep) in
-    (omega (arith, c .walk-down .ensures .on .within, t .pre .0 .low), p .ensures .deep, rw (p .ensures .bits) small)
+    (omega (arith, c .walk-down .ensures .on .within, t .pre .0 .low), p .ensures .deep, rw (p .ensures .bits) small, t .pre .2)
 
 returns : tie.Need-returns
 returns c =
@@ -28,11 +28,12 @@ returns c =
     record {
       ok = t .pre .0;
       prefix = t .pre .1;
+      feed = t .pre .2;
       inside = number-lt (t .args .address .now) (λ i. omega (arith, known i));
       stands = c .before .before .place-of .ensures;
       stops = c .before .walk-down .ensures;
-      hop = c .hop-at .ensures;
+      word = c .word-at .ensures;
     }
 
 pub find-spec : {M : Type 1} → statement M
-find-spec = tie.close (tie.spec place-of-requires walk-down-requires hop-at-requires returns)
+find-spec = tie.close (tie.spec place-of-requires walk-down-requires word-at-requires returns)

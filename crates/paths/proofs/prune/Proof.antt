@@ -7,7 +7,7 @@ use lib.ListN.{getD}
 use borrow.Author.Tests.{not-false}
 use Rattle.sizes.specs.Sizes.{arrayAt}
 use Rattle.array.specs.Tag.{levelIn}
-use Rattle.paths.specs.Shrunk.{Shrunk, shrunk-none, prune-root, prune-some, can-release, shrink, falls}
+use Rattle.paths.specs.Shrunk.{Shrunk, shrunk-none, shrunk-slots, prune-root, prune-some, can-release, shrink, falls}
 use borrow.Author.Needs.{needs}
 use Rattle.paths.proofs.prune.Statement.{statement}
 use Rattle.paths.proofs.prune.Tie as tie
@@ -23,8 +23,9 @@ loop-holds c = shrunk-none (c .before .args .levels) (c .before .args .words .no
 
 empty-requires : tie.Need-empty-requires Inv-loop μ-loop
 empty-requires c κs =
-    let k = c .before .before .loop .inv .loose in
-    omega (arith, k .within, k .ok .low)
+    let i = c .before .before .loop .inv in
+    let k = i .loose in
+    (omega (arith, k .within, k .ok .low), k .ok .high, shrunk-slots i)
 
 same-length : tie.Need-same-length Inv-loop μ-loop
 same-length c = c .before .before .before .before .loop .inv .freed .size

@@ -3,38 +3,40 @@
 use mathlib.Core.Path.{_≡_, sym, ap, _∙_}
 use native.Mathlib.Omega.{arith}
 use borrow.Author.Needs.{needs}
-use Rattle.routes.specs.Answers.{announce as update}
+use Rattle.candidates.specs.Answers.{announce as update}
 use Rattle.words.specs.TableBut.{Table}
 use Rattle.address.specs.Four.{four-number}
 use Rattle.update.specs.Update.{faultOf, refusalOf}
-use Rattle.update.specs.Refuse.{refused-by, passed, sound-route, applied}
+use Rattle.update.specs.Fault.{sound-route}
+use Rattle.update.specs.Refuse.{refused-by, passed, applied}
 use Rattle.update.proofs.announce.Statement.{statement}
 use Rattle.update.proofs.announce.Tie as tie
 
 -- the number is the first of size, fault and table
 first : (c : tie.After-refusal)
     → (let t = c .before .before .before .before .before .before in
-    c .refusal .result ≡ refusalOf (t .args .words .now) (faultOf 32 (update (t .args .address) (t .args .length) (t .args .hop))))
+    c .refusal .result ≡ refusalOf (t .args .words .now)
+    (faultOf 32 (update (t .args .address) (t .args .length) (t .args .hop) (t .args .feed) (t .args .preference))))
 first c =
     let b = c .before .before .before .before in
     let t = b .before .before in
     let e = four-number (t .args .address) (omega arith) in
-    c .refusal .ensures ∙ ap (refusalOf (t .args .words .now)) (rw (b .four-of .ensures, e) at (c .before .route-fault .ensures))
+    c .refusal .ensures ∙ ap (refusalOf (t .args .words .now)) (rw (b .four-of .ensures, e) at (c .before .announce-fault .ensures))
 
 -- past the test the words are a table and the update has no fault
 clear : (c : tie.Else1)
     → (let t = c .before .before .before .before .before .before .before in
-    Table 4 (t .args .words .now) × (faultOf 32 (update (t .args .address) (t .args .length) (t .args .hop)) ≡ 0))
+    Table 4 (t .args .words .now) × (faultOf 32 (update (t .args .address) (t .args .length) (t .args .hop) (t .args .feed) (t .args .preference)) ≡ 0))
 clear c = passed _ _ (sym (first (c .before)) ∙ c .if1 .left)
 
 four-of-requires : tie.Need-four-of-requires
 four-of-requires c κs = search needs
 
-slice-aggregate-route-fault : tie.Need-slice-aggregate-route-fault
-slice-aggregate-route-fault c = search needs
+slice-aggregate-announce-fault : tie.Need-slice-aggregate-announce-fault
+slice-aggregate-announce-fault c = search needs
 
-route-fault-requires : tie.Need-route-fault-requires
-route-fault-requires c κs = search needs
+announce-fault-requires : tie.Need-announce-fault-requires
+announce-fault-requires c κs = search needs
 
 refusal-requires : tie.Need-refusal-requires
 refusal-requires c κs = search needs
@@ -53,8 +55,8 @@ announce-in-requires c κs =
     let b = c .before .before .before .before .before .before .before in
     let t = b .before .before in
     let p = clear (c .before .before) in
-    let s = sound-route 4 (t .args .address) (t .args .length) (t .args .hop) (p .1) in
-    rw (b .four-of .ensures, four-number (t .args .address) (omega arith)) ((p .0, s .0), (s .1, s .2))
+    let s = sound-route 4 (t .args .address) (t .args .length) (t .args .hop) (t .args .feed) (t .args .preference) (p .1) in
+    rw (b .four-of .ensures, four-number (t .args .address) (omega arith)) (p .0, s)
 
 same-length-2 : tie.Need-same-length-2
 same-length-2 c = search needs
@@ -74,8 +76,8 @@ announce-spec =
     tie.close
     (tie.spec
     four-of-requires
-    slice-aggregate-route-fault
-    route-fault-requires
+    slice-aggregate-announce-fault
+    announce-fault-requires
     refusal-requires
     same-length
     returns

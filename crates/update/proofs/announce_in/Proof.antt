@@ -1,11 +1,15 @@
--- `update::announce_in` meets its contract. `find` tells where the prefix stands and which hop it has; `extend` refuses for room or hangs
--- the arrays that the path lacks, none where the prefix is held, the last of them the one that may be empty; the slot set in it makes a
--- table again. Assumes nothing.
+-- `update::announce_in` meets its contract. `find` tells where the prefix stands and which word the feed has there; `extend` refuses for
+-- room or hangs the arrays that the path lacks, none where the prefix has a candidate, the last of them the one that may be empty; the word
+-- set in it makes a table again. Assumes nothing.
+use mathlib.Core.Path.{sym, _∙_}
 use native.Mathlib.Omega.{arith}
 use borrow.Author.Needs.{needs}
 use Rattle.update.specs.Announce.{announce-same, announce-full, announce-seat, announce-done}
 use Rattle.update.proofs.announce_in.Statement.{statement}
 use Rattle.update.proofs.announce_in.Tie as tie
+
+word-of-requires : tie.Need-word-of-requires
+word-of-requires c κs = search needs
 
 find-requires : tie.Need-find-requires
 find-requires c κs = search needs
@@ -16,8 +20,10 @@ same-length c = search needs
 returns : tie.Need-returns
 returns c =
     let f = c .before .before in
-    let t = f .before .before .before .before in
-    announce-same (f .find .ensures) (t .args .hop) (c .if1 .taken) (t .pre .1 .0)
+    let word = f .before .before in
+    let t = word .before .before .before in
+    announce-same (f .find .ensures) (t .args .hop) (t .args .preference) (t .pre .1 .low) (t .pre .1 .high)
+    (c .if1 .taken ∙ word .word-of .ensures)
 
 extend-requires : tie.Need-extend-requires
 extend-requires c κs = search needs
@@ -30,19 +36,23 @@ returns-2 c =
     let e = c .before .before .before in
     let other = e .before .before .before .before in
     let f = other .before .before in
-    let t = f .before .before .before .before in
+    let word = f .before .before in
+    let t = word .before .before .before in
     let x = e .extend in
-    announce-full (f .find .ensures) (t .args .hop) (other .if1 .left) (t .pre .1 .0) (x .last .0) (x .result) (x .ensures) (c .if2 .taken)
+    announce-full (f .find .ensures) (t .args .hop) (t .args .preference) (t .pre .1 .low) (t .pre .1 .high)
+    (λ z. other .if1 .left (z ∙ sym (word .word-of .ensures))) (x .last .0) (x .result) (x .ensures) (c .if2 .taken)
 
 reslot-requires : tie.Need-reslot-requires
 reslot-requires c κs =
     let e = c .before .before .before .before in
     let other = e .before .before .before .before in
     let f = other .before .before in
-    let t = f .before .before .before .before in
+    let word = f .before .before in
+    let t = word .before .before .before in
     let x = e .extend in (
-      announce-seat (f .find .ensures) (t .args .hop) (other .if1 .left) (t .pre .1 .0) (x .last .0) (x .result) (x .ensures) (c .before .if2 .left),
-      omega (arith, t .pre .1 .1),
+      announce-seat (f .find .ensures) (t .args .hop) (t .args .preference) (t .pre .1 .low) (t .pre .1 .high)
+          (λ z. other .if1 .left (z ∙ sym (word .word-of .ensures))) (x .last .0) (x .result) (x .ensures) (c .before .if2 .left),
+      t .pre .1 .feed,
     )
 
 same-length-3 : tie.Need-same-length-3
@@ -55,16 +65,19 @@ returns-3 c =
     let e = some .before .before .before in
     let other = e .before .before .before .before in
     let f = other .before .before in
-    let t = f .before .before .before .before in
+    let word = f .before .before in
+    let t = word .before .before .before in
     let x = e .extend in
     let y = r .reslot in
-    announce-done (f .find .ensures) (t .args .hop) (other .if1 .left) (t .pre .1 .0) (x .last .0) (x .result) (x .ensures) (some .if2 .left)
-    (y .last .0) (y .result) (y .ensures)
+    announce-done (f .find .ensures) (t .args .hop) (t .args .preference) (t .pre .1 .low) (t .pre .1 .high)
+    (λ z. other .if1 .left (z ∙ sym (word .word-of .ensures))) (x .last .0) (x .result) (x .ensures) (some .if2 .left)
+    (omega arith) (y .last .0) (y .result) (rw (word .word-of .ensures) at (y .ensures))
 
 pub announce-in-spec : {M : Type 1} → statement M
 announce-in-spec =
     tie.close
     (tie.spec
+    word-of-requires
     find-requires
     same-length
     returns

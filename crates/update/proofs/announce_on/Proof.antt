@@ -4,31 +4,32 @@ use mathlib.Core.Path.{_≡_, sym, _∙_}
 use Prim.Native.Nat.{_*_}
 use lib.ListN.{length as size}
 use borrow.Author.Needs.{needs}
-use Rattle.routes.specs.Answers.{announce as update}
+use Rattle.candidates.specs.Answers.{announce as update}
 use Rattle.numbers.specs.Number.{number}
 use Rattle.update.specs.Update.{faultOf}
-use Rattle.update.specs.Refuse.{refuses-table, sound-route, applied}
+use Rattle.update.specs.Fault.{sound-route}
+use Rattle.update.specs.Refuse.{refuses-table, applied}
 use Rattle.update.proofs.announce_on.Statement.{statement}
 use Rattle.update.proofs.announce_on.Tie as tie
 
 -- past the test the update has no fault
 clean : (c : tie.Else1)
     → (let t = c .before .before .before .before in let b = t .args .address .now in
-    faultOf (8 * size b) (update (number b) (t .args .length) (t .args .hop)) ≡ 0)
-clean c = sym (c .before .route-fault .ensures) ∙ c .if1 .left
+    faultOf (8 * size b) (update (number b) (t .args .length) (t .args .hop) (t .args .feed) (t .args .preference)) ≡ 0)
+clean c = sym (c .before .announce-fault .ensures) ∙ c .if1 .left
 
-route-fault-requires : tie.Need-route-fault-requires
-route-fault-requires c κs = search needs
+announce-fault-requires : tie.Need-announce-fault-requires
+announce-fault-requires c κs = search needs
 
 returns : tie.Need-returns
-returns c = refuses-table _ _ _ _ (c .before .before .before .before .pre) (c .before .route-fault .ensures) (c .if1 .taken)
+returns c = refuses-table _ _ _ _ (c .before .before .before .before .pre) (c .before .announce-fault .ensures) (c .if1 .taken)
 
 announce-in-requires : tie.Need-announce-in-requires
 announce-in-requires c κs =
     let t = c .before .before .before .before .before in
     let b = t .args .address .now in
-    let s = sound-route (size b) (number b) (t .args .length) (t .args .hop) (clean (c .before)) in
-    ((t .pre, s .0), (s .1, s .2))
+    let s = sound-route (size b) (number b) (t .args .length) (t .args .hop) (t .args .feed) (t .args .preference) (clean (c .before)) in
+    (t .pre, s)
 
 same-length : tie.Need-same-length
 same-length c = search needs
@@ -42,4 +43,4 @@ returns-2 c =
 
 pub announce-on-spec : {M : Type 1} → statement M
 announce-on-spec =
-    tie.close (tie.spec route-fault-requires returns announce-in-requires same-length returns-2)
+    tie.close (tie.spec announce-fault-requires returns announce-in-requires same-length returns-2)

@@ -54,8 +54,8 @@ returns c =
     let e : arrayAt (a + 1) - arrayAt a ≡ arrayWords = omega arith in
     let r = c .before .before .reslot in
     let g = rw (to, from, e) at (r .ensures) in
-    rw (to, from, e) (seated (t .args .words .now) _ (r .last .0) a (p .level) (p .depth) (p .value) (t .args .hop) (r .result)
-    (t .pre .0) (g .0) (g .1) (g .2) refl)
+    rw (to, from, e) (seated (t .args .words .now) _ (r .last .0) a (p .level) (p .depth) (p .value) (t .args .feed)
+    (t .args .word) (r .result) (t .pre .0) g refl)
 
 pub reslot-spec : {M : Type 1} → statement M
 reslot-spec =

@@ -3,38 +3,39 @@
 use mathlib.Core.Path.{_≡_, sym, ap, _∙_}
 use native.Mathlib.Omega.{arith}
 use borrow.Author.Needs.{needs}
-use Rattle.routes.specs.Answers.{withdraw as update}
+use Rattle.candidates.specs.Answers.{withdraw as update}
 use Rattle.words.specs.TableBut.{Table}
 use Rattle.address.specs.Four.{four-number}
 use Rattle.update.specs.Update.{faultOf, refusalOf}
-use Rattle.update.specs.Refuse.{refused-by, passed, sound-prefix, applied}
+use Rattle.update.specs.Fault.{sound-prefix}
+use Rattle.update.specs.Refuse.{refused-by, passed, applied}
 use Rattle.update.proofs.withdraw.Statement.{statement}
 use Rattle.update.proofs.withdraw.Tie as tie
 
 -- the number is the first of size, fault and table
 first : (c : tie.After-refusal)
     → (let t = c .before .before .before .before .before .before in
-    c .refusal .result ≡ refusalOf (t .args .words .now) (faultOf 32 (update (t .args .address) (t .args .length))))
+    c .refusal .result ≡ refusalOf (t .args .words .now) (faultOf 32 (update (t .args .address) (t .args .length) (t .args .feed))))
 first c =
     let b = c .before .before .before .before in
     let t = b .before .before in
     let e = four-number (t .args .address) (omega arith) in
-    c .refusal .ensures ∙ ap (refusalOf (t .args .words .now)) (rw (b .four-of .ensures, e) at (c .before .prefix-fault .ensures))
+    c .refusal .ensures ∙ ap (refusalOf (t .args .words .now)) (rw (b .four-of .ensures, e) at (c .before .withdraw-fault .ensures))
 
 -- past the test the words are a table and the update has no fault
 clear : (c : tie.Else1)
     → (let t = c .before .before .before .before .before .before .before in
-    Table 4 (t .args .words .now) × (faultOf 32 (update (t .args .address) (t .args .length)) ≡ 0))
+    Table 4 (t .args .words .now) × (faultOf 32 (update (t .args .address) (t .args .length) (t .args .feed)) ≡ 0))
 clear c = passed _ _ (sym (first (c .before)) ∙ c .if1 .left)
 
 four-of-requires : tie.Need-four-of-requires
 four-of-requires c κs = search needs
 
-slice-aggregate-prefix-fault : tie.Need-slice-aggregate-prefix-fault
-slice-aggregate-prefix-fault c = search needs
+slice-aggregate-withdraw-fault : tie.Need-slice-aggregate-withdraw-fault
+slice-aggregate-withdraw-fault c = search needs
 
-prefix-fault-requires : tie.Need-prefix-fault-requires
-prefix-fault-requires c κs = search needs
+withdraw-fault-requires : tie.Need-withdraw-fault-requires
+withdraw-fault-requires c κs = search needs
 
 refusal-requires : tie.Need-refusal-requires
 refusal-requires c κs = search needs
@@ -53,7 +54,7 @@ withdraw-in-requires c κs =
     let b = c .before .before .before .before .before .before .before in
     let t = b .before .before in
     let p = clear (c .before .before) in
-    let s = sound-prefix 4 (t .args .address) (t .args .length) (p .1) in
+    let s = sound-prefix 4 (t .args .address) (t .args .length) (t .args .feed) (p .1) in
     rw (b .four-of .ensures, four-number (t .args .address) (omega arith)) (p .0, s)
 
 same-length-2 : tie.Need-same-length-2
@@ -74,8 +75,8 @@ withdraw-spec =
     tie.close
     (tie.spec
     four-of-requires
-    slice-aggregate-prefix-fault
-    prefix-fault-requires
+    slice-aggregate-withdraw-fault
+    withdraw-fault-requires
     refusal-requires
     same-length
     returns

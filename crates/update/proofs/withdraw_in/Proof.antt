@@ -1,6 +1,5 @@
--- `update::withdraw_in` meets its contract. `find` tells whether the prefix is held; the slot cleared, its array is the one that may be
+-- `update::withdraw_in` meets its contract. `find` tells whether the candidate is held; its word cleared, its array is the one that may be
 -- empty, and pruning makes a table again. Assumes nothing.
-use native.Mathlib.Omega.{arith}
 use borrow.Author.Needs.{needs}
 use Rattle.update.specs.Withdraw.{withdraw-none, withdraw-seat, withdraw-loose, withdraw-done}
 use Rattle.update.proofs.withdraw_in.Statement.{statement}
@@ -18,7 +17,8 @@ returns c = withdraw-none (c .before .before .find .ensures) (c .if1 .taken)
 reslot-requires : tie.Need-reslot-requires
 reslot-requires c κs =
     let some = c .before .before in
-    (withdraw-seat (some .before .before .find .ensures) (some .if1 .left), omega arith)
+    let f = some .before .before in
+    (withdraw-seat (f .find .ensures) (some .if1 .left), f .before .before .before .before .pre .1 .1)
 
 prune-requires : tie.Need-prune-requires
 prune-requires c κs =
@@ -27,16 +27,21 @@ prune-requires c κs =
     let f = some .before .before .find in
     withdraw-loose (f .ensures) (some .if1 .left) (r .reslot .last .0) (r .reslot .result) (r .reslot .ensures)
 
+hop-in-requires : tie.Need-hop-in-requires
+hop-in-requires c κs = search needs
+
 same-length-2 : tie.Need-same-length-2
 same-length-2 c = search needs
 
 returns-2 : tie.Need-returns-2
 returns-2 c =
-    let p = c .before .before .prune in
-    let r = c .before .before .before .before .before .before in
+    let p = c .before .before .before in
+    let r = p .before .before .before .before in
     let some = r .before .before .before in
     let f = some .before .before .find in
-    withdraw-done (f .ensures) (some .if1 .left) (r .reslot .last .0) (r .reslot .result) (r .reslot .ensures) (p .last .0) (p .ensures)
+    let h = c .hop-in in
+    withdraw-done (f .ensures) (some .if1 .left) (r .reslot .last .0) (r .reslot .result) (r .reslot .ensures) (p .prune .last .0) (h .result)
+    (p .prune .ensures) (h .ensures .0)
 
 pub withdraw-in-spec : {M : Type 1} → statement M
 withdraw-in-spec =
@@ -47,5 +52,6 @@ withdraw-in-spec =
     returns
     reslot-requires
     prune-requires
+    hop-in-requires
     same-length-2
     returns-2)

@@ -1,6 +1,6 @@
 -- `words::empty` lends the page of one array. Assumes nothing.
 use mathlib.Core.Path.{_∙_}
-use Rattle.words.specs.Lent.{lent-empty}
+use Rattle.words.specs.Lent.{page-slots, lent-empty}
 use borrow.Author.Needs.{needs}
 use Rattle.words.proofs.empty.Statement.{statement}
 use Rattle.words.proofs.empty.Tie as tie
@@ -9,7 +9,10 @@ page-requires : tie.Need-page-requires
 page-requires c κs = search needs
 
 empty-requires : tie.Need-empty-requires
-empty-requires c κs = search needs
+empty-requires c κs =
+    let s = c .before .before in
+    let g = c .page .ensures in
+    (g .1, rw (g .0) (page-slots (s .args .words .now) (s .args .a) (s .pre .2)))
 
 returns : tie.Need-returns
 returns c =

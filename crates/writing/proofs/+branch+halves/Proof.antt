@@ -5,6 +5,7 @@ use mathlib.Core.Path.{_≡_, refl, sym, _∙_}
 use Prim.Native.Nat.{ℕ, _+_, _*_, _<_}
 use native.Mathlib.Omega.{arith}
 use lib.ListN.{length}
+use Rattle.sizes.specs.Sizes.{slotWords}
 use Rattle.numbers.specs.Wrote.{wrote-two}
 use Rattle.numbers.specs.Number.{AreBytes}
 use Rattle.writing.specs.Asked.{Keeps}
@@ -19,7 +20,7 @@ use Rattle.writing.proofs.halves.Reads as halves
 use Rattle.writing.proofs.halves.Kinds as halves-kinds
 use Rattle.writing.proofs.+branch+halves.Lts-halves as halves-lts
 use Rattle.words.proofs.part.half.Reads as half-reads
-use Rattle.writing.proofs.put.Reads as put-reads
+use Rattle.writing.proofs.put_slot.Reads as put-slot-reads
 use Rattle.writing.proofs.stand_at.Reads as stand-at-reads
 use Rattle.writing.proofs.+branch+halves.{statement}
 use Rattle.writing.proofs.+branch+halves.Tie.{close}
@@ -80,7 +81,7 @@ module _ (t : ℕ) where
 
 module _ (t : ℕ) where
   abbrev asked : halves-lts.Claims
-  asked = (stand-at-reads.Asked, stand-at-reads.Learnt, put-reads.Asked, put-reads.Learnt, branch-below t, branch.Post)
+  asked = (stand-at-reads.Asked, stand-at-reads.Learnt, put-slot-reads.Asked, put-slot-reads.Learnt, branch-below t, branch.Post)
 
   bytes : (c : halves-lts.After-stand-at asked (halves-at t) halves.Post) →
       (let b = c .before .before .before .before .before in AreBytes (b .args .address .now))
@@ -98,17 +99,17 @@ module _ (t : ℕ) where
 
   -- where what is below it is written
   long : (c : halves-lts.After-branch asked (halves-at t) halves.Post) →
-      (let s = c .before .before .before .before .before .before .before .before .before .before .before in
+      (let s = c .before .before .before .before .before .before .before .before .before .before in
       let a = s .before .before .before .before .before .args in
       length (c .branch .last .1 .1 .0) ≡ length (a .address .now))
-  long c = c .branch .kept .1 .1 .0 ∙ c .before .before .before .before .before .before .before .before .before .before .before .stand-at .kept .0
+  long c = c .branch .kept .1 .1 .0 ∙ c .before .before .before .before .before .before .before .before .before .before .stand-at .kept .0
 
   kept : (c : halves-lts.After-branch asked (halves-at t) halves.Post) →
-      (let s = c .before .before .before .before .before .before .before .before .before .before .before in
+      (let s = c .before .before .before .before .before .before .before .before .before .before in
       let a = s .before .before .before .before .before .args in
       Keeps (a .address .now) (a .bits) (c .branch .last .1 .1 .0))
   kept c =
-      let s = c .before .before .before .before .before .before .before .before .before .before .before in
+      let s = c .before .before .before .before .before .before .before .before .before .before in
       let b = s .before .before .before .before .before in
       let a = b .args in
       keep-half (b .pre .1) (bytes s) 0 (omega arith) (a .low) (omega arith) (a .address .now) refl refl (s .stand-at .last .0)
@@ -117,14 +118,14 @@ module _ (t : ℕ) where
   -- where the address is the upper half's
   upper : (c : halves-lts.After-stand-at2 asked (halves-at t) halves.Post) →
       (let m = c .before .before .before .before .before .before in
-      let s = m .before .before .before .before .before .before .before .before .before .before .before in
+      let s = m .before .before .before .before .before .before .before .before .before .before in
       let a = s .before .before .before .before .before .args in
-      Half (a .words .now) (a .address .now) (a .bits) 1 (a .low + 1) (c .stand-at2 .last .0))
+      Half (a .words .now) (a .address .now) (a .bits) 1 (a .low + slotWords) (c .stand-at2 .last .0))
   upper c =
       let m = c .before .before .before .before .before .before in
-      let s = m .before .before .before .before .before .before .before .before .before .before .before in
+      let s = m .before .before .before .before .before .before .before .before .before .before in
       let b = s .before .before .before .before .before in
-      make-half (b .pre .1) (bytes s) 1 (omega arith) (b .args .low + 1) refl (m .branch .last .1 .1 .0) (long m) (kept m)
+      make-half (b .pre .1) (bytes s) 1 (omega arith) (b .args .low + slotWords) refl (m .branch .last .1 .1 .0) (long m) (kept m)
       (c .stand-at2 .last .0) (c .stand-at2 .ensures)
 
   halves-add-high : halves-lts.Need-add-high asked (halves-at t) halves.Post
@@ -136,94 +137,78 @@ module _ (t : ℕ) where
   halves-stand-at-requires : halves-lts.Need-stand-at-requires asked (halves-at t) halves.Post
   halves-stand-at-requires c κs = rest-low (c .before .before .before .before .pre .1)
 
-  halves-mul-put : halves-lts.Need-mul-put asked (halves-at t) halves.Post
-  halves-mul-put c =
-      let s = c .before .before .before .before .before .before .before in
-      omega (arith, high-slot (s .pre .1), s .good)
-
-  halves-shared-slice-read-put : halves-lts.Need-shared-slice-read-put asked (halves-at t) halves.Post
-  halves-shared-slice-read-put c = omega (arith, high-slot (c .before .before .before .before .before .before .before .before .pre .1))
-
-  halves-put-requires : halves-lts.Need-put-requires asked (halves-at t) halves.Post
-  halves-put-requires c κs =
-      let s = c .before .before .before .before .before in
+  halves-put-slot-requires : halves-lts.Need-put-slot-requires asked (halves-at t) halves.Post
+  halves-put-slot-requires c κs =
+      let s = c .before .before .before .before in
       ask-own-low (s .before .before .before .before .before .pre .1) (lower s)
 
   halves-branch-requires : halves-lts.Need-branch-requires asked (halves-at t) halves.Post
   halves-branch-requires c κs =
-      let p = c .before .before .before .before .put in
-      let s = c .before .before .before .before .before .before .before .before .before .before in
+      let p = c .before .before .before .before .put-slot in
+      let s = c .before .before .before .before .before .before .before .before .before in
       let b = s .before .before .before .before .before in (
         omega (arith, b .pre .0, b .pre .1 .more),
-        ask-low (b .pre .1) (lower s) (p .last .1 .1 .1 .0) (p .kept .1 .1 .1 .0) (p .result) (p .ensures .place),
+        ask-low (b .pre .1) (lower s) (p .last .1 .1 .1 .1 .0) (p .kept .1 .1 .1 .1 .0) (p .result) (p .ensures .place),
       )
 
   halves-stand-at-requires-2 : halves-lts.Need-stand-at-requires-2 asked (halves-at t) halves.Post
   halves-stand-at-requires-2 c κs =
       let m = c .before .before .before .before .before in
-      let s = m .before .before .before .before .before .before .before .before .before .before .before in
+      let s = m .before .before .before .before .before .before .before .before .before .before in
       omega (arith, rest-low (s .before .before .before .before .before .pre .1), long m)
 
-  halves-mul-put-2 : halves-lts.Need-mul-put-2 asked (halves-at t) halves.Post
-  halves-mul-put-2 c =
-      let m = c .before .before .before .before .before .before .before .before .before .before .before in
-      let s = m .before .before .before .before .before .before .before .before in
-      omega (arith, high-slot (s .before .before .before .before .before .pre .1), s .before .before .before .before .before .good)
-
-  halves-shared-slice-read-put-2 : halves-lts.Need-shared-slice-read-put-2 asked (halves-at t) halves.Post
-  halves-shared-slice-read-put-2 c =
-      let m = c .before .before .before .before .before .before .before .before .before .before .before in
-      let s = m .before .before .before .before .before .before .before .before .before in
-      omega (arith, high-slot (s .before .before .before .before .before .pre .1))
-
-  halves-put-requires-2 : halves-lts.Need-put-requires-2 asked (halves-at t) halves.Post
-  halves-put-requires-2 c κs =
-      let u = c .before .before .before .before .before in
+  halves-put-slot-requires-2 : halves-lts.Need-put-slot-requires-2 asked (halves-at t) halves.Post
+  halves-put-slot-requires-2 c κs =
+      let u = c .before .before .before .before in
       let m = u .before .before .before .before .before .before in
-      let p = m .before .before .before .before .before .put in
-      let s = m .before .before .before .before .before .before .before .before .before .before .before in
+      let p = m .before .before .before .before .before .put-slot in
+      let s = m .before .before .before .before .before .before .before .before .before .before in
       let q = m .branch in
-      ask-own-high (s .before .before .before .before .before .pre .1) (lower s) (q .last .1 .1 .1 .1 .0) (q .kept .1 .1 .1 .1 .0 ∙ p .kept .1 .1 .1 .0)
-      (p .result) (p .ensures .place) (upper u) (q .result) (q .ensures .1 .place)
+      ask-own-high (s .before .before .before .before .before .pre .1) (lower s) (q .last .1 .1 .1 .1 .0)
+      (q .kept .1 .1 .1 .1 .0 ∙ p .kept .1 .1 .1 .1 .0) (p .result) (p .ensures .place) (upper u) (q .result) (q .ensures .1 .place)
 
   halves-branch-requires-2 : halves-lts.Need-branch-requires-2 asked (halves-at t) halves.Post
   halves-branch-requires-2 c κs =
-      let r = c .before .before .before .before .put2 in
-      let u = c .before .before .before .before .before .before .before .before .before .before in
+      let r = c .before .before .before .before .put-slot2 in
+      let u = c .before .before .before .before .before .before .before .before .before in
       let m = u .before .before .before .before .before .before in
-      let p = m .before .before .before .before .before .put in
-      let s = m .before .before .before .before .before .before .before .before .before .before .before in
+      let p = m .before .before .before .before .before .put-slot in
+      let s = m .before .before .before .before .before .before .before .before .before .before in
       let q = m .branch in
       let b = s .before .before .before .before .before in (
         omega (arith, b .pre .0, b .pre .1 .more),
-        ask-high (b .pre .1) (lower s) (r .last .1 .1 .1 .0) (r .kept .1 .1 .1 .0 ∙ q .kept .1 .1 .1 .1 .0 ∙ p .kept .1 .1 .1 .0)
+        ask-high (b .pre .1) (lower s) (r .last .1 .1 .1 .1 .0)
+            (r .kept .1 .1 .1 .1 .0 ∙ q .kept .1 .1 .1 .1 .0 ∙ p .kept .1 .1 .1 .1 .0)
             (p .result) (p .ensures .place) (upper u) (q .result) (q .ensures .1 .place) (r .result) (r .ensures .place),
       )
 
   halves-same-length : halves-lts.Need-same-length asked (halves-at t) halves.Post
   halves-same-length c =
-      let u = c .before .before .before .before .before .before .before .before .before .before .before .before .before .before .before in
-      let m = u .before .before .before .before .before .before in
-      c .before .before .before .before .branch2 .kept .1 .1 .0 ∙ u .stand-at2 .kept .0 ∙ long m
+      let w = c .before .before .before .before in
+      let u = w .before .before .before .before .before .before .before .before .before .before in
+      w .branch2 .kept .1 .1 .0 ∙ u .stand-at2 .kept .0 ∙ long (u .before .before .before .before .before .before)
 
   halves-same-length-2 : halves-lts.Need-same-length-2 asked (halves-at t) halves.Post
   halves-same-length-2 c =
-      let r = c .before .before .before .before .before .before .before .before .before .put2 in
-      let u = c .before .before .before .before .before .before .before .before .before .before .before .before .before .before .before in
-      let m = u .before .before .before .before .before .before in
-      let p = m .before .before .before .before .before .put in
-      c .before .before .before .before .branch2 .kept .1 .1 .1 .1 .0 ∙ r .kept .1 .1 .1 .0 ∙ m .branch .kept .1 .1 .1 .1 .0 ∙ p .kept .1 .1 .1 .0
+      let w = c .before .before .before .before in
+      let r = w .before .before .before .before .before in
+      let m = r .before .before .before .before .before .before .before .before .before .before .before in
+      let p = m .before .before .before .before .before in
+      w .branch2 .kept .1 .1 .1 .1 .0
+      ∙ r .put-slot2 .kept .1 .1 .1 .1 .0
+      ∙ m .branch .kept .1 .1 .1 .1 .0
+      ∙ p .put-slot .kept .1 .1 .1 .1 .0
 
   halves-returns : halves-lts.Need-returns asked (halves-at t) halves.Post
   halves-returns c =
       let w = c .before .before .before .before .branch2 in
-      let r = c .before .before .before .before .before .before .before .before .before .put2 in
-      let u = c .before .before .before .before .before .before .before .before .before .before .before .before .before .before .before in
+      let r = c .before .before .before .before .before .before .before .before .before .put-slot2 in
+      let u = c .before .before .before .before .before .before .before .before .before .before .before .before .before .before in
       let m = u .before .before .before .before .before .before in
-      let p = m .before .before .before .before .before .put in
-      let s = m .before .before .before .before .before .before .before .before .before .before .before in
+      let p = m .before .before .before .before .before .put-slot in
+      let s = m .before .before .before .before .before .before .before .before .before .before in
       let b = s .before .before .before .before .before in (
-        keep-half (b .pre .1) (bytes s) 1 (omega arith) (b .args .low + 1) refl (m .branch .last .1 .1 .0) (long m) (kept m)
+        keep-half (b .pre .1) (bytes s) 1 (omega arith) (b .args .low + slotWords) refl (m .branch .last .1 .1 .0) (long m) (kept m)
             (u .stand-at2 .last .0) (u .stand-at2 .ensures) (w .last .1 .1 .0) (w .ensures .0),
         rw (parts (b .pre .1) (lower s) (upper u))
             (wrote-two (wrote-two (p .ensures) (m .branch .ensures .1)) (wrote-two (r .ensures) (w .ensures .1))),
@@ -246,14 +231,10 @@ pub +branch+halves-spec : {M : Type 1} → statement M
     (halves-add-high t)
     (halves-sub-rest t)
     (halves-stand-at-requires t)
-    (halves-mul-put t)
-    (halves-shared-slice-read-put t)
-    (halves-put-requires t)
+    (halves-put-slot-requires t)
     (halves-branch-requires t)
     (halves-stand-at-requires-2 t)
-    (halves-mul-put-2 t)
-    (halves-shared-slice-read-put-2 t)
-    (halves-put-requires-2 t)
+    (halves-put-slot-requires-2 t)
     (halves-branch-requires-2 t)
     (halves-same-length t)
     (halves-same-length-2 t)

@@ -6,7 +6,7 @@ use native.Mathlib.Omega.{arith}
 use lib.ListN.{length, drop, length-set}
 use lib.Seq.{sets}
 use Rattle.address.specs.Parts.{filled, filled-length}
-use Rattle.writing.proofs.Laws.{copy-turn, copy-done}
+use Rattle.writing.proofs.Own.{copy-turn, copy-done}
 use borrow.Author.Needs.{needs}
 use Rattle.writing.proofs.put_address.Statement.{statement}
 use Rattle.writing.proofs.put_address.Tie as tie

@@ -1,7 +1,7 @@
 -- The counters after a record stand for the state that the definition hands on. A count stays below the bytes consumed, so no sum wraps. Assumes nothing.
 use native.Mathlib.Omega.{arith}
 use lib.ListN.{getD}
-use Rattle.laws.specs.Turns.{size-pos}
+use Rattle.encoded.specs.Turns.{size-pos}
 use Rattle.replies.specs.Said.{saidReply}
 use Rattle.feed.proofs.Loop.{took}
 use borrow.Author.Needs.{needs}

@@ -1,7 +1,7 @@
--- Each early return is the stop of the tests up to there, in document 01's order; with none, the record is clear. Assumes nothing.
+-- Each early return is the stop of the tests up to there, in the documents' order; with none, the record is clear. Assumes nothing.
 use native.Mathlib.Omega.{arith}
 use mathlib.Core.Path.{sym}
-use Rattle.laws.specs.Turns.{clear-halts, halts-0, halts-1, halts-2, halts-3, halts-4}
+use Rattle.encoded.specs.Turns.{clear-halts, halts-0, halts-1, halts-2, halts-3, halts-4}
 use borrow.Author.Needs.{needs}
 use Rattle.feed.proofs.Progress.halt.Statement.{statement}
 use Rattle.feed.proofs.Progress.halt.Tie as tie

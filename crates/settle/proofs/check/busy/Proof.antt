@@ -6,7 +6,8 @@ use native.Mathlib.Omega.{arith}
 use borrow.Author.Needs.{needs}
 use Rattle.sizes.specs.Sizes.{cellSlots}
 use Rattle.array.specs.Page.{slots, links}
-use Rattle.settle.specs.Busy.{Busy, busy-more}
+use Rattle.settle.specs.Busy.{Busy}
+use Rattle.settle.proofs.Laws.{busy-turn}
 use Rattle.settle.proofs.check.busy.Statement.{statement}
 use Rattle.settle.proofs.check.busy.Tie as tie
 
@@ -28,32 +29,26 @@ sub-s c = search needs
 mul-two : tie.Need-mul-two Inv-loop μ-loop
 mul-two c = search needs
 
+hop-of-requires : tie.Need-hop-of-requires Inv-loop μ-loop
+hop-of-requires c κs = search needs
+
+add-hop-of : tie.Need-add-hop-of Inv-loop μ-loop
+add-hop-of c = search needs
+
+hop-of-requires-2 : tie.Need-hop-of-requires-2 Inv-loop μ-loop
+hop-of-requires-2 c κs = search needs
+
 mul-any : tie.Need-mul-any Inv-loop μ-loop
 mul-any c = search needs
 
-shared-slice-read-any : tie.Need-shared-slice-read-any Inv-loop μ-loop
-shared-slice-read-any c = search needs
+array-read-any : tie.Need-array-read-any Inv-loop μ-loop
+array-read-any c = omega (arith, c .before .before .before .loop .inv .1 .size)
 
 add-any : tie.Need-add-any Inv-loop μ-loop
 add-any c = search needs
 
 mul-any-2 : tie.Need-mul-any-2 Inv-loop μ-loop
 mul-any-2 c = search needs
-
-shared-slice-read-any-2 : tie.Need-shared-slice-read-any-2 Inv-loop μ-loop
-shared-slice-read-any-2 c = search needs
-
-mul-any-3 : tie.Need-mul-any-3 Inv-loop μ-loop
-mul-any-3 c = search needs
-
-array-read-any : tie.Need-array-read-any Inv-loop μ-loop
-array-read-any c = omega (arith, c .before .before .before .loop .inv .1 .size)
-
-add-any-2 : tie.Need-add-any-2 Inv-loop μ-loop
-add-any-2 c = search needs
-
-mul-any-4 : tie.Need-mul-any-4 Inv-loop μ-loop
-mul-any-4 c = search needs
 
 array-read-any-2 : tie.Need-array-read-any-2 Inv-loop μ-loop
 array-read-any-2 c = omega (arith, c .before .before .before .loop .inv .1 .size)
@@ -75,9 +70,12 @@ loop-less c = search needs
 
 loop-again : tie.Need-loop-again Inv-loop μ-loop
 loop-again c =
-    let a = c .before .before .before .before .before .before .before .args in
     let l = c .before .before .before .before .loop in
-    (omega arith, busy-more (a .page .now) (l .all) (l .k) _ (omega arith) (c .any .ensures) (l .inv .1))
+    let a = c .before .before .before .before .before .before .before .args in (
+      omega arith,
+      busy-turn (a .page .now) (l .all) (l .k) _ _ _ (omega arith) (c .before .before .hop-of .ensures .0)
+          (c .before .hop-of2 .ensures .0) (c .any .ensures) (l .inv .1),
+    )
 
 returns : tie.Need-returns Inv-loop μ-loop
 returns c =
@@ -95,15 +93,13 @@ busy-spec =
     loop-holds
     sub-s
     mul-two
+    hop-of-requires
+    add-hop-of
+    hop-of-requires-2
     mul-any
-    shared-slice-read-any
+    array-read-any
     add-any
     mul-any-2
-    shared-slice-read-any-2
-    mul-any-3
-    array-read-any
-    add-any-2
-    mul-any-4
     array-read-any-2
     any-requires
     mul-all

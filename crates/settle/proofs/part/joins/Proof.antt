@@ -11,32 +11,28 @@ across-requires c κs = search needs
 slot-over-requires : tie.Need-slot-over-requires
 slot-over-requires c κs = search needs
 
-mul-if1 : tie.Need-mul-if1
-mul-if1 c = search needs
-
-shared-slice-read-if1 : tie.Need-shared-slice-read-if1
-shared-slice-read-if1 c = search needs
+hop-of-requires : tie.Need-hop-of-requires
+hop-of-requires c κs = search needs
 
 returns : tie.Need-returns
 returns c =
     let a = c .before .before .before .before .before .args in
-    joins-own (a .page .now) (a .i) (a .m) _ (c .before .before .slot-over .ensures .0) (c .if1 .taken)
+    joins-own (a .page .now) (a .i) (a .m) _ (c .before .before .slot-over .ensures .0) _ (c .before .hop-of .ensures .0)
+    (c .if1 .taken)
 
 slot-over-requires-2 : tie.Need-slot-over-requires-2
 slot-over-requires-2 c κs = search needs
 
-mul-if2 : tie.Need-mul-if2
-mul-if2 c = search needs
-
-shared-slice-read-if2 : tie.Need-shared-slice-read-if2
-shared-slice-read-if2 c = search needs
+hop-of-requires-2 : tie.Need-hop-of-requires-2
+hop-of-requires-2 c κs = search needs
 
 returns-2 : tie.Need-returns-2
 returns-2 c =
-    let a = c .before .before .before .before .before .before .before .before .args in
-    joins-other (a .page .now) (a .i) (a .m) _ (c .before .before .before .before .before .slot-over .ensures .0) _ _
-    (c .before .before .before .before .before .before .across .ensures .0) (c .before .before .slot-over2 .ensures .0)
-    (c .before .before .before .if1 .left) (c .if2 .taken)
+    let s = c .before .before .before .before in
+    let a = s .before .before .before .before .args in
+    joins-other (a .page .now) (a .i) (a .m) _ (s .before .slot-over .ensures .0) _ (s .hop-of .ensures .0) _ _
+    (s .before .before .across .ensures .0) (c .before .before .slot-over2 .ensures .0) (c .before .before .before .if1 .left) _
+    (c .before .hop-of2 .ensures .0) (c .if2 .taken)
 
 add-rests : tie.Need-add-rests
 add-rests c = search needs
@@ -52,11 +48,12 @@ rests-requires c κs = search needs
 
 returns-3 : tie.Need-returns-3
 returns-3 c =
-    let s = c .before .before .before .before in
-    let a = s .before .before .before .before .before .before .args in
-    joins-rest (a .page .now) (a .i) (a .m) _ (s .before .before .before .slot-over .ensures .0) _ _
-    (s .before .before .before .before .across .ensures .0) (s .slot-over2 .ensures .0) (s .before .if1 .left)
-    (c .before .before .if2 .left) _ (c .rests .ensures)
+    let t = c .before .before .before in
+    let s = t .before .before .before in
+    let a = s .before .before .before .before .args in
+    joins-rest (a .page .now) (a .i) (a .m) _ (s .before .slot-over .ensures .0) _ (s .hop-of .ensures .0) _ _
+    (s .before .before .across .ensures .0) (t .before .slot-over2 .ensures .0) (t .before .before .if1 .left) _
+    (t .hop-of2 .ensures .0) (c .before .before .if2 .left) _ (c .rests .ensures)
 
 pub joins-spec : {M : Type 1} → statement M
 joins-spec =
@@ -64,12 +61,10 @@ joins-spec =
     (tie.spec
     across-requires
     slot-over-requires
-    mul-if1
-    shared-slice-read-if1
+    hop-of-requires
     returns
     slot-over-requires-2
-    mul-if2
-    shared-slice-read-if2
+    hop-of-requires-2
     returns-2
     add-rests
     mul-rests

@@ -7,9 +7,8 @@ use native.Mathlib.Omega.{arith}
 use borrow.Author.Tests.{not-true, not-false}
 use Rattle.logic.specs.Every.{allB}
 use Rattle.logic.specs.Reflects.{all-none}
-use Rattle.sizes.specs.Sizes.{slotStrides}
-use Rattle.array.specs.Check.{zeroAt}
-use Rattle.slots.specs.Word.{slotAt}
+use Rattle.sizes.specs.Sizes.{slotAt, slotStrides}
+use Rattle.slots.specs.Zeros.{zeroAt}
 use Rattle.slots.proofs.Laws.{strideWords, bare-more, bare-stop, bare-done}
 use Rattle.slots.proofs.check.bare.Statement.{statement}
 use Rattle.slots.proofs.check.bare.Tie as tie

@@ -3,9 +3,8 @@ use mathlib.Core.Path.{_≡_}
 use mathlib.Core.Logic.{⊎-elim}
 use Prim.Native.Nat.{_-_, _*_, _≤_}
 use native.Mathlib.Omega.{arith}
-use Rattle.sizes.specs.Sizes.{lastSlot}
-use Rattle.array.specs.Taken.{taken}
-use Rattle.slots.specs.Word.{slotWords}
+use Rattle.sizes.specs.Sizes.{slotWords, lastSlot}
+use Rattle.slots.specs.Taken.{taken}
 use Rattle.slots.specs.Count.{slotWord}
 use Rattle.slots.proofs.Laws.{count-none, count-more, count-same, count-done}
 use Rattle.slots.proofs.check.candidates.Statement.{statement}
