@@ -14,3 +14,10 @@ pub mod ExportedRound
 pub mod ExportedBoth
 pub mod ExportedRows
 pub mod ExportedNever
+pub mod Swapped
+pub mod SwappedFeeds
+pub mod SwappedRuns
+pub mod Moved
+pub mod MovedRuns
+pub mod ExportedMoved
+pub mod ExportedSwapped

@@ -10,7 +10,7 @@ use Rattle.swaps.specs.Moves as moves
 use Rattle.swaps.specs.Proved.{Holds, table-holds, after-holds, swap-withdrawals, swap-announcements, swap-ahead}
 
 module _ (W : ℕ) (w : W < 256) (A : ℕ) where
-  swap : (cs : List Candidate) (u v : Update) → Holds W w A cs → Move W A cs u v → Swapped W A cs u v
+  pub swap : (cs : List Candidate) (u v : Update) → Holds W w A cs → Move W A cs u v → Swapped W A cs u v
   swap cs u v t (withdrawals a l f b m g n) = swap-withdrawals W w A cs a l f b m g t n
   swap cs u v t (announcements a l h f p b m i g q n d e) = swap-announcements W w A cs a l h f p b m i g q t n d e
   swap cs u v t (ahead a l h f p b m g n d) = swap-ahead W w A cs a l h f p b m g t n d

@@ -75,7 +75,7 @@ roomy {A} {us} ss m f rest c room h =
 abbrev pub replied : {A : ℕ} {us : List Update} → Fed A us → List Reply
 replied {us = us} f = readBack us (outcome f .end .replies)
 
-as-many : (us : List Update) → length (records us) ≡ length us
+pub as-many : (us : List Update) → length (records us) ≡ length us
 as-many [] = refl
 as-many (u ∷ us) = ap suc (as-many us)
 
