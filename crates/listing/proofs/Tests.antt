@@ -18,7 +18,8 @@ use Rattle.sizes.specs.Sizes.{mostArrays}
 use Rattle.candidates.specs.Candidate.{Candidate, key, prefixKey}
 use Rattle.listing.specs.Listed.{fours, kindOf, sizeOf, begin, recordsIn, candidateAt, listOf, routeB, candidateB, recordB}
 use Rattle.listing.specs.Listed.{wholeB, unlisted, listedIn}
-use Rattle.listing.specs.Records.{Begins, Whole, Reads, Bytes, whole-list, record-fits, records-few, records-end, end-fits}
+use Rattle.listing.specs.Records.{addedAt, Begins, Whole, Reads, Bytes}
+use Rattle.listing.specs.Records.{whole-list, record-fits, records-few, records-end, end-fits}
 use Rattle.listing.specs.Winning.{IsLast}
 
 -- ---- a route
@@ -62,12 +63,9 @@ module _ (bs : List ℕ) (s : ℕ) (e : s ≡ sizeOf (fours bs)) where
   pub end-inside : length bs % s ≡ 1 → s * (length bs / s) < length bs
   end-inside o = let n = records-end bs (rw e at o) in rw (records-of .0, e) (omega arith)
 
-module _ (bs : List ℕ) (i b : ℕ) (e : fours bs ≡ true) (q : b ≡ begin bs i) where
-  pub feed-read : getD bs (b + 8) 0 ≡ candidateAt bs i .feed
-  feed-read = rw q (sym (ap (λ (t : Bool). cond t (getD bs (begin bs i + 8) 0) 1) e))
-
-  pub preference-read : getD bs (b + 9) 0 ≡ candidateAt bs i .pref
-  preference-read = rw q (sym (ap (λ (t : Bool). cond t (getD bs (begin bs i + 9) 0) 0) e))
+-- what only kind 4 has
+pub added-read : (bs : List ℕ) (i b n d : ℕ) → fours bs ≡ true → b ≡ begin bs i → getD bs (b + n) 0 ≡ addedAt bs i n d
+added-read bs i b n d e q = rw q (sym (ap (λ (t : Bool). cond t (getD bs (begin bs i + n) 0) d) e))
 
 -- a record of kind 4 has bytes for feed and preference
 pub long-four : (bs : List ℕ) (x : ℕ) → fours bs ≡ true → x + sizeOf (fours bs) ≤ length bs → x + 10 ≤ length bs

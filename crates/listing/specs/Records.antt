@@ -31,6 +31,10 @@ pub record Begins (bs : List ℕ) (i x : ℕ) : Type 0 where
   pub whole : x + sizeOf (fours bs) ≤ length bs
   pub most : x + 8 ≤ length bs
 
+-- byte n of record i in a list of kind 4, d in one of kind 1
+abbrev pub addedAt : List ℕ → ℕ → ℕ → ℕ → ℕ
+addedAt bs i n d = cond (fours bs) (getD bs (begin bs i + n) 0) d
+
 -- records in order, and their end
 pub record Whole (bs : List ℕ) (r : Bool) : Type 0 where
   pub test : r ≡ wholeB bs

@@ -11,7 +11,7 @@ ghost use Rattle.candidates.specs.Winners.{rank as rankOf};
 ghost use Rattle.listing.specs.Listed.{fours, kindOf, sizeOf, recordsIn, candidateAt, candidatesIn, listOf};
 ghost use Rattle.listing.specs.Listed.{routeB, candidateB, recordB};
 ghost use Rattle.listing.specs.Heads.{picks, between, lastHead, Counted};
-ghost use Rattle.listing.specs.Records.{Begins, Whole, Reads, keyBound};
+ghost use Rattle.listing.specs.Records.{addedAt, Begins, Whole, Reads, keyBound};
 ghost use Rattle.listing.specs.Winning.{winningAt, IsLast, LastOf};
 
 // ---- where the records are
@@ -76,27 +76,31 @@ fn address(bytes: &[u8], i: usize) -> u32
     numbers::four_at(bytes, begin(bytes, i) + 1)
 }
 
+// Byte n of record i in a list of kind 4. Records of kind 1 are shorter, and d stands for it there.
+fn added(bytes: &[u8], i: usize, n: usize, d: u32) -> u32
+    requires { ⌜ (i < recordsIn (now bytes)) × (n < 10) × (d < 256) ⌝ }
+    ensures { λ r. ⌜ (r ≡ addedAt (now (bytes .entry)) i n d) × (r < 256) ⌝ }
+{
+    if !is_fours(bytes) {
+        return d;
+    }
+    let at = begin(bytes, i) + n;
+    bytes[at] as u32
+}
+
 // A record of kind 1 means feed 1, preference 0.
 fn feed(bytes: &[u8], i: usize) -> u32
     requires { ⌜ i < recordsIn (now bytes) ⌝ }
     ensures { λ r. ⌜ (r ≡ candidateAt (now (bytes .entry)) i .feed) × (r < 256) ⌝ }
 {
-    if !is_fours(bytes) {
-        return 1;
-    }
-    let at = begin(bytes, i) + 8;
-    bytes[at] as u32
+    added(bytes, i, 8, 1)
 }
 
 fn preference(bytes: &[u8], i: usize) -> u32
     requires { ⌜ i < recordsIn (now bytes) ⌝ }
     ensures { λ r. ⌜ (r ≡ candidateAt (now (bytes .entry)) i .pref) × (r < 256) ⌝ }
 {
-    if !is_fours(bytes) {
-        return 0;
-    }
-    let at = begin(bytes, i) + 9;
-    bytes[at] as u32
+    added(bytes, i, 9, 0)
 }
 
 // The first m bits of record i's address, as a number.

@@ -1,12 +1,12 @@
--- `listing::feed` meets its contract: records of kind 1 have no byte for it. Assumes nothing.
+-- `listing::added` meets its contract: records of kind 1 have no such byte. Assumes nothing.
 use mathlib.Core.Path.{refl, sym, _∙_}
 use Prim.Native.Nat.{_+_}
 use Rattle.logic.specs.Bools.{not-true, not-false}
-use Rattle.listing.proofs.Tests.{long-four, feed-read}
+use Rattle.listing.proofs.Tests.{long-four, added-read}
 use borrow.Author.Needs.{needs}
 use native.Mathlib.Omega.{arith}
-use Rattle.listing.proofs.feed.Statement.{statement}
-use Rattle.listing.proofs.feed.Tie as tie
+use Rattle.listing.proofs.added.Statement.{statement}
+use Rattle.listing.proofs.added.Tie as tie
 
 is-fours-requires : tie.Need-is-fours-requires
 is-fours-requires c κs = search needs
@@ -34,20 +34,22 @@ shared-slice-read-result c =
     )
 
 cast-result : tie.Need-cast-result
-cast-result c = omega (arith, c .shared-slice-known2 .given (c .before .begin .result + 8))
+cast-result c =
+    let s = c .before .before .before .before .before in
+    omega (arith, c .shared-slice-known2 .given (c .before .begin .result + s .args .n))
 
 returns-2 : tie.Need-returns-2
 returns-2 c =
     let s = c .before .before .before .before .before in
     let test = c .before .before .before .is-fours in
     let begin = c .before .begin in (
-      feed-read (s .args .bytes .now) (s .args .i) (begin .result)
+      added-read (s .args .bytes .now) (s .args .i) (begin .result) (s .args .n) (s .args .d)
           (sym (test .ensures) ∙ not-false (test .result) (c .before .before .if1 .left)) (begin .ensures .at),
-      omega (arith, c .shared-slice-known2 .given (begin .result + 8)),
+      omega (arith, c .shared-slice-known2 .given (begin .result + s .args .n)),
     )
 
-pub feed-spec : {M : Type 1} → statement M
-feed-spec =
+pub added-spec : {M : Type 1} → statement M
+added-spec =
     tie.close
     (tie.spec
     is-fours-requires
