@@ -4,63 +4,27 @@
 use mathlib.Core.Path.{_≡_, refl}
 use mathlib.Core.List.{List, [], _∷_}
 use Prim.Native.Nat.{ℕ}
-use lib.ListN.{length}
 use lib.Count.{leadingZeros}
-use Rattle.routes.specs.Room.{need, needTo}
+use Rattle.routes.specs.Room.{needTo}
 use Rattle.routes.specs.Cells.{cells, shown}
+use Rattle.candidates.specs.Candidate.{Candidate}
 use Rattle.candidates.specs.Winners.{winners}
 use Rattle.candidates.specs.Answers.{answer}
 use Rattle.candidates.specs.Bytes.{writtenPlainly}
-use Rattle.candidates.specs.Runs.{Ran, run, runs, halts}
+use Rattle.candidates.specs.Runs.{runs, halts}
+use Rattle.candidates.specs.Cases.{Case, gots, numbers}
 
--- case 2.`number`, with `room` reply bytes: what the run gives, then what the check counts, and the list
-pub record Worked : Type 0 where
-  pub number : ℕ
-  pub room : ℕ
-  pub sent : List ℕ
-  pub stop : ℕ
-  pub consumed : ℕ
-  pub replies : List ℕ
-  pub accepted : ℕ
-  pub refused : ℕ
-  pub routes : ℕ
-  pub arrays : ℕ
-  pub out : List ℕ
-
--- the row with what the definitions give
-abbrev by : Worked → Ran → Worked
-by w r =
-    record {
-      number = w .number;
-      room = w .room;
-      sent = w .sent;
-      stop = r .stop;
-      consumed = r .end .consumed;
-      replies = r .end .replies;
-      accepted = r .end .accepted;
-      refused = r .end .refused;
-      routes = length (r .end .list);
-      arrays = need 32 (winners (r .end .list));
-      out = writtenPlainly (winners (r .end .list));
-    }
-
-abbrev got : Worked → Worked
-got w = by w (run 7 [] (w .sent) (w .room))
-
-abbrev gots : List Worked → List Worked
-gots [] = []
-gots (w ∷ ws) = got w ∷ gots ws
-
-abbrev numbers : List Worked → List ℕ
-numbers [] = []
-numbers (w ∷ ws) = w .number ∷ numbers ws
+-- the winners, as a list of kind 1
+abbrev winnersOut : List Candidate → List ℕ
+winnersOut cs = writtenPlainly (winners cs)
 
 -- 2.1 the empty list and the default route, 2.3 boxes in boxes, 2.5 the last bits, 2.7 five free bytes asked for
-abbrev pub worked : List Worked
+abbrev pub worked : List Case
 worked =
     record {
       number = 1;
-      room = 4096;
+      room = 7;
+      free = 4096;
       sent =
           0x03 ∷ 0x00 ∷ 0x00 ∷ 0x00 ∷ 0x00
           ∷ 0x03 ∷ 0xFF ∷ 0xFF ∷ 0xFF ∷ 0xFF
@@ -84,7 +48,8 @@ worked =
     }
     ∷ record {
       number = 3;
-      room = 4096;
+      room = 7;
+      free = 4096;
       sent =
           0x01 ∷ 0x0A ∷ 0x00 ∷ 0x00 ∷ 0x00 ∷ 0x08 ∷ 0x00 ∷ 0x01
           ∷ 0x01 ∷ 0x0A ∷ 0x01 ∷ 0x04 ∷ 0x00 ∷ 0x16 ∷ 0x00 ∷ 0x02
@@ -117,7 +82,8 @@ worked =
     }
     ∷ record {
       number = 5;
-      room = 4096;
+      room = 7;
+      free = 4096;
       sent =
           0x01 ∷ 0x0A ∷ 0x00 ∷ 0x00 ∷ 0x00 ∷ 0x20 ∷ 0x00 ∷ 0x01
           ∷ 0x03 ∷ 0x0A ∷ 0x00 ∷ 0x00 ∷ 0x00
@@ -152,7 +118,8 @@ worked =
     }
     ∷ record {
       number = 7;
-      room = 8;
+      room = 7;
+      free = 8;
       sent =
           0x03 ∷ 0x01 ∷ 0x01 ∷ 0x01 ∷ 0x01
           ∷ 0x03 ∷ 0x02 ∷ 0x02 ∷ 0x02 ∷ 0x02
@@ -171,6 +138,6 @@ worked =
     ∷ []
 
 -- each row is as the definitions give it, and none of the four is left out
-pub block-cases : (gots worked ≡ worked) × (numbers worked ≡ 1 ∷ 3 ∷ 5 ∷ 7 ∷ [])
+pub block-cases : (gots winnersOut worked ≡ worked) × (numbers worked ≡ 1 ∷ 3 ∷ 5 ∷ 7 ∷ [])
 unfolding answer cells shown needTo runs halts leadingZeros
 block-cases = (refl, refl)

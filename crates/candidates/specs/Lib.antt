@@ -5,6 +5,7 @@ pub mod Answers
 pub mod Bytes
 pub mod Runs
 pub mod Seen
+pub mod Cases
 pub mod Worked
 pub mod Views
 pub mod Small

@@ -5,63 +5,19 @@ use mathlib.Core.Bool.{cond}
 use mathlib.Core.List.{List, [], _∷_}
 use Prim.Native.Nat.{ℕ}
 use lib.Count.{leadingZeros}
-use lib.ListN.{length}
-use Rattle.routes.specs.Family.{v4, width}
-use Rattle.routes.specs.Room.{need, needTo}
+use Rattle.routes.specs.Room.{needTo}
 use Rattle.routes.specs.Cells.{cells, shown}
 use Rattle.routes.specs.Answers.{done}
 use Rattle.routes.specs.Seen.{Answer, gives, refuses}
 use Rattle.routes.specs.Small.{ip}
 use Rattle.candidates.specs.Candidate.{Candidate, candidate}
-use Rattle.candidates.specs.Winners.{winners}
 use Rattle.candidates.specs.Answers.{announce, withdraw, Record, update, answer, replies, leaves}
 use Rattle.candidates.specs.Bytes.{written}
-use Rattle.candidates.specs.Runs.{Ran, run, runs, halts}
+use Rattle.candidates.specs.Runs.{run, runs, halts}
+use Rattle.candidates.specs.Cases.{Case, gots, numbers}
 use Rattle.candidates.specs.Seen.{table, misfits, arrays, countOn}
 
 -- ---- feeds
-
--- case 7.`number`, on a table of `room` arrays
-pub record Case : Type 0 where
-  pub number : ℕ
-  pub room : ℕ
-  pub sent : List ℕ
-  pub stop : ℕ
-  pub consumed : ℕ
-  pub replies : List ℕ
-  pub accepted : ℕ
-  pub refused : ℕ
-  pub routes : ℕ
-  pub arrays : ℕ
-  pub out : List ℕ
-
--- the row with what the definitions give
-abbrev by : Case → Ran → Case
-by c r =
-    record {
-      number = c .number;
-      room = c .room;
-      sent = c .sent;
-      stop = r .stop;
-      consumed = r .end .consumed;
-      replies = r .end .replies;
-      accepted = r .end .accepted;
-      refused = r .end .refused;
-      routes = length (r .end .list);
-      arrays = need (width v4) (winners (r .end .list));
-      out = written (r .end .list);
-    }
-
-abbrev got : Case → Case
-got c = by c (run (c .room) [] (c .sent) 4096)
-
-abbrev gots : List Case → List Case
-gots [] = []
-gots (c ∷ cs) = got c ∷ gots cs
-
-abbrev numbers : List Case → List ℕ
-numbers [] = []
-numbers (c ∷ cs) = c .number ∷ numbers cs
 
 -- 7.1 the better preference wins, and goes; 7.3 equal preference: the lowest feed, equal hop: no cells; 7.5 kinds 1 and 2 are
 -- feed 1, preference 0; 7.7 room: a prefix counts while it has a candidate; 7.9 writing out: kind 4, feeds ascending
@@ -70,6 +26,7 @@ worked =
     record {
       number = 1;
       room = 3;
+      free = 4096;
       sent =
           0x04 ∷ 0x0A ∷ 0x00 ∷ 0x00 ∷ 0x00 ∷ 0x08 ∷ 0x00 ∷ 0x05 ∷ 0x01 ∷ 0x0A
           ∷ 0x04 ∷ 0x0A ∷ 0x00 ∷ 0x00 ∷ 0x00 ∷ 0x08 ∷ 0x00 ∷ 0x06 ∷ 0x02 ∷ 0x05
@@ -98,6 +55,7 @@ worked =
     ∷ record {
       number = 3;
       room = 3;
+      free = 4096;
       sent =
           0x04 ∷ 0x0A ∷ 0x00 ∷ 0x00 ∷ 0x00 ∷ 0x08 ∷ 0x00 ∷ 0x06 ∷ 0x02 ∷ 0x00
           ∷ 0x04 ∷ 0x0A ∷ 0x00 ∷ 0x00 ∷ 0x00 ∷ 0x08 ∷ 0x00 ∷ 0x07 ∷ 0x03 ∷ 0x00
@@ -134,6 +92,7 @@ worked =
     ∷ record {
       number = 5;
       room = 3;
+      free = 4096;
       sent =
           0x04 ∷ 0x0A ∷ 0x00 ∷ 0x00 ∷ 0x00 ∷ 0x08 ∷ 0x00 ∷ 0x05 ∷ 0x01 ∷ 0x09
           ∷ 0x04 ∷ 0x0A ∷ 0x00 ∷ 0x00 ∷ 0x00 ∷ 0x08 ∷ 0x00 ∷ 0x06 ∷ 0x02 ∷ 0x03
@@ -164,6 +123,7 @@ worked =
     ∷ record {
       number = 7;
       room = 2;
+      free = 4096;
       sent =
           0x04 ∷ 0x0A ∷ 0x00 ∷ 0x00 ∷ 0x00 ∷ 0x09 ∷ 0x00 ∷ 0x01 ∷ 0x01 ∷ 0x00
           ∷ 0x04 ∷ 0x0A ∷ 0x00 ∷ 0x00 ∷ 0x00 ∷ 0x09 ∷ 0x00 ∷ 0x02 ∷ 0x02 ∷ 0x00
@@ -194,6 +154,7 @@ worked =
     ∷ record {
       number = 9;
       room = 3;
+      free = 4096;
       sent =
           0x04 ∷ 0x0A ∷ 0x01 ∷ 0x04 ∷ 0x00 ∷ 0x16 ∷ 0x00 ∷ 0x02 ∷ 0x03 ∷ 0xC8
           ∷ 0x04 ∷ 0x0A ∷ 0x00 ∷ 0x00 ∷ 0x00 ∷ 0x08 ∷ 0x00 ∷ 0x01 ∷ 0x04 ∷ 0x00
@@ -258,7 +219,7 @@ sizes =
 -- ---- each row is as the definitions give it, and none of the five feeds is left out
 
 pub record Holds : Type 0 where
-  pub feeds : gots worked ≡ worked
+  pub feeds : gots written worked ≡ worked
   pub all : numbers worked ≡ 1 ∷ 3 ∷ 5 ∷ 7 ∷ 9 ∷ []
   pub words : sized sizes ≡ sizes
   -- 7.9: 41 bytes, a buffer of 40 gets 9, and fed to a cleared table of 3 arrays they give the list again
