@@ -1,0 +1,5 @@
+pub mod Inside
+pub mod Held
+pub mod Below
+pub mod Changed
+pub mod Worked
