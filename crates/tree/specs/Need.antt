@@ -42,7 +42,7 @@ binary (suc m) s h w =
       less = omega (arith, u .less, pow-succ' 2 (u .d));
     }))
 
-depth-low : (d x s : ℕ) → s ≡ 2 ^ d + x → x < 2 ^ d → 2 ≤ s → 1 ≤ d
+pub depth-low : (d x s : ℕ) → s ≡ 2 ^ d + x → x < 2 ^ d → 2 ≤ s → 1 ≤ d
 depth-low zero x s e h w = absurd (omega arith)
 depth-low (suc d) x s e h w = omega arith
 

@@ -39,7 +39,7 @@ pub record Level (A : ℕ) (t : Arrays) (a k : ℕ) : Type 0 where
 
 module _ (A L : ℕ) (t : Arrays) (s : Shape A L t) where
   -- a link that leads somewhere
-  child : (a i : ℕ) → 1 ≤ a → a ≤ A → i < cellCount → 1 ≤ t .link a i → Child A L t a i (t .link a i)
+  pub child : (a i : ℕ) → 1 ≤ a → a ≤ A → i < cellCount → 1 ≤ t .link a i → Child A L t a i (t .link a i)
   child a i h w j p =
       ⊎-elim (λ (z : t .link a i ≡ 0). absurd (omega arith)) (λ (c : Child A L t a i (t .link a i)). c) (s .links a i h w j)
 

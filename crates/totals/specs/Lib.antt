@@ -1,0 +1,9 @@
+pub mod Sums
+pub mod Counted
+pub mod Local
+pub mod Cover
+pub mod Marks
+pub mod Raise
+pub mod Most
+pub mod Empty
+pub mod Bound
