@@ -38,7 +38,7 @@
  * not, clear, announce, withdraw, run and make do. bindings/c/swap.c looks up beside updates, with two tables.
  *
  * Time. A single announcement or withdrawal tests the whole table first, which takes milliseconds at 4,096 arrays. A run
- * tests it once: hand many updates over as one feed, and each takes well under a microsecond. docs/MEASURED.md.
+ * tests it once: hand many updates over as one feed, and each takes about a microsecond or less. docs/MEASURED.md.
  */
 #ifndef TOGGLEASH_H
 #define TOGGLEASH_H
