@@ -63,6 +63,10 @@ static void say_answer(const char *what, toggleash_answer a) {
            a.block);
 }
 
+static void say_total(const char *what, toggleash_total t) {
+    printf("%s %" PRIu32 " %" PRIu32 "\n", what, t.refusal, t.prefixes);
+}
+
 static void say_match(const char *what, toggleash_match m) {
     printf("%s %" PRIu32 " %" PRIu32 " %" PRIu32 " %" PRIu32 "\n", what, m.refusal, m.found, m.hop, m.length);
 }
@@ -172,7 +176,9 @@ static words copied(words table) {
 static void lookups(words table, words copy, size_t count) {
     for (size_t i = 0; i < count; i++) {
         uint32_t a = address();
+        candidate c = any_candidate();
         say_answer("in the table", toggleash_lookup(table.at, table.n, a));
+        say_total("within", toggleash_within(table.at, table.n, c.address, c.length));
         say_match("in the copy", toggleash_copy_lookup(copy.at, copy.n, a));
     }
 }
@@ -180,10 +186,12 @@ static void lookups(words table, words copy, size_t count) {
 /* One bit of the words turned, the calls on them, and the bit turned back. */
 static void damage(words table, words copy) {
     uint32_t a = address(), bit = 1u << any() % 32;
+    candidate c = any_candidate();
     uint32_t *word = &table.at[any() % table.n];
     *word ^= bit;
     say_counts("check, damaged", toggleash_check(table.at, table.n));
     say_answer("lookup, damaged", toggleash_lookup(table.at, table.n, a));
+    say_total("within, damaged", toggleash_within(table.at, table.n, c.address, c.length));
     *word ^= bit;
     word = &copy.at[any() % copy.n];
     *word ^= bit;
@@ -203,6 +211,7 @@ int main(int count, char **word) {
         table.at[i] = other.at[i] = any();
     say_counts("check, foreign", toggleash_check(table.at, n));
     say_answer("lookup, foreign", toggleash_lookup(table.at, n, any()));
+    say_total("within, foreign", toggleash_within(table.at, n, any(), 32));
     printf("clear %" PRIu32 "\n", toggleash_clear(table.at, n));
     printf("clear %" PRIu32 "\n", toggleash_clear(other.at, n));
     records(table, other, many);

@@ -24,6 +24,7 @@ _Static_assert(sizeof(uint64_t) == 8 && _Alignof(uint64_t) == 8, "a count is not
                    "toggleash_" #answer " is not laid out as in the module")
 LAID_OUT(counts, 12, arrays, uint32_t);
 LAID_OUT(answer, 20, block, uint32_t);
+LAID_OUT(total, 8, prefixes, uint32_t);
 LAID_OUT(match, 16, length, uint32_t);
 LAID_OUT(update, 12, cells, uint32_t);
 LAID_OUT(written, 16, bytes, uint64_t);
@@ -35,6 +36,7 @@ LAID_OUT(built, 24, markers, uint64_t);
 uint32_t proved_clear(slice *words);
 void proved_check(toggleash_counts *r, slice *words);
 void proved_lookup(toggleash_answer *r, slice *words, uint32_t address);
+void proved_within(toggleash_total *r, slice *words, uint32_t address, uint32_t length);
 void proved_announce(toggleash_update *r, slice *words, uint32_t address, uint32_t length, uint32_t hop, uint32_t feed,
                      uint8_t preference);
 void proved_withdraw(toggleash_update *r, slice *words, uint32_t address, uint32_t length, uint32_t feed);
@@ -77,6 +79,13 @@ toggleash_answer toggleash_lookup(const uint32_t *words, size_t n, uint32_t addr
     toggleash_answer r;
     slice w = of(words, n);
     proved_lookup(&r, &w, address);
+    return r;
+}
+
+toggleash_total toggleash_within(const uint32_t *words, size_t n, uint32_t address, uint32_t length) {
+    toggleash_total r;
+    slice w = of(words, n);
+    proved_within(&r, &w, address, length);
     return r;
 }
 

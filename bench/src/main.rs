@@ -4,6 +4,7 @@
 mod boxed;
 mod clock;
 mod copies;
+mod insides;
 mod lists;
 mod lpm;
 mod runs;
@@ -62,12 +63,14 @@ fn calls(random: &mut Random, scale: &Scale, lpm: Option<&Lpm>) {
     let rivalled = lists::rivalled(&dense);
     for load in [sparse, dense, rivalled] {
         lookups(random, scale, &load, lpm);
+        insides::counts(random, scale, &load);
         updates(random, scale, &load, ARRAYS, lpm);
         whole(scale, &load);
         copies::whole(scale, &load);
     }
     let most = lists::dense(random, ARRAYS, MOST);
     lookups(random, scale, &most, lpm);
+    insides::counts(random, scale, &most);
     for arrays in [7, 64] {
         updates(random, scale, &lists::sparse(&mut Random::for_case(1, "small", 0), arrays), arrays, None);
     }

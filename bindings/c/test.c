@@ -33,6 +33,11 @@ static void answer(const char *what, toggleash_answer a, uint32_t refusal, uint3
     same(what, block, a.block);
 }
 
+static void total(const char *what, toggleash_total t, uint32_t refusal, uint32_t prefixes) {
+    same(what, refusal, t.refusal);
+    same(what, prefixes, t.prefixes);
+}
+
 static void match(const char *what, toggleash_match m, uint32_t refusal, uint32_t found, uint32_t hop, uint32_t length) {
     same(what, refusal, m.refusal);
     same(what, found, m.found);
@@ -170,6 +175,54 @@ static void blocks(void) {
     answer("block, 255.0.0.0", toggleash_table_find(table, 0xFF000000), 0, 1, 2, 0, 1);
     update("block, default alone", toggleash_table_withdraw(table, 0x0A000000, 32, 1), 0, 1, 1);
     answer("block, 1.2.3.4", toggleash_table_find(table, 0x01020304), 0, 1, 2, 0, 0);
+}
+
+/* A prefix, and how many lie inside it. */
+typedef struct {
+    uint32_t address, length, prefixes;
+} inside;
+
+/* Eight prefixes on all four levels, and what lies inside others. */
+static void withins(void) {
+    static const inside held[] = {{0, 0, 8},           {0x0A000000, 8, 6},  {0x0A000000, 9, 5},  {0x0A010000, 16, 4},
+                                  {0x0A010400, 22, 3}, {0x0A010400, 24, 2}, {0x0A010480, 25, 1}, {0x0B000000, 8, 1}};
+    static const inside others[] = {
+        {0x0A000000, 7, 7},  {0, 1, 7},           {0x80000000, 1, 0},  {0x0C000000, 8, 0},  /* on level 0 */
+        {0x0A800000, 9, 0},  {0x0A000000, 15, 4}, {0x0B000000, 9, 0},                       /* on level 1, or no array */
+        {0x0A010000, 17, 3}, {0x0A010400, 23, 2}, {0x0A010500, 24, 0}, {0x0C010100, 24, 0}, /* on level 2 */
+        {0x0A010400, 25, 0}, {0x0A010480, 26, 0}, {0x0A010480, 32, 0}, {0x0A020000, 32, 0}, /* on level 3 */
+    };
+    toggleash_table table = TOGGLEASH_TABLE(words);
+    same("clear", 0, toggleash_table_clear(table));
+    total("within an empty table", toggleash_table_within(table, 0, 0), 0, 0);
+    for (size_t i = 0; i < sizeof held / sizeof *held; i++)
+        same("announce", 0, toggleash_table_announce(table, held[i].address, held[i].length, 1, 1, 0).refusal);
+    for (size_t i = 0; i < sizeof held / sizeof *held; i++)
+        total("within a held one", toggleash_table_within(table, held[i].address, held[i].length), 0, held[i].prefixes);
+    for (size_t i = 0; i < sizeof others / sizeof *others; i++)
+        total("within another", toggleash_table_within(table, others[i].address, others[i].length), 0, others[i].prefixes);
+    update("withdraw inside", toggleash_table_withdraw(table, 0x0A010480, 25, 1), 0, 1, 128);
+    total("within after it", toggleash_table_within(table, 0x0A010400, 24), 0, 1);
+    total("within all after it", toggleash_table_within(table, 0, 0), 0, 7);
+}
+
+/* Prefixes are counted, not candidates; and the refusals, in their order. */
+static void within_refused(void) {
+    toggleash_table table = TOGGLEASH_TABLE(words);
+    same("clear", 0, toggleash_table_clear(table));
+    update("one side", toggleash_table_announce(table, 0x0A000000, 8, 1, 1, 0), 0, 1, 1);
+    update("another side", toggleash_table_announce(table, 0x0A000000, 8, 2, 2, 0), 0, 2, 0);
+    update("a third", toggleash_table_announce(table, 0x0A000000, 9, 1, 4, 0), 0, 1, 128);
+    total("prefixes", toggleash_table_within(table, 0, 0), 0, 2);
+    counts("candidates", toggleash_table_check(table), 0, 3, 2);
+    total("within, null", toggleash_within(NULL, 0, 1, 33), TOGGLEASH_WORD_COUNT, 0);
+    total("within, a word short", toggleash_within(words, ROOM - 1, 1, 33), TOGGLEASH_WORD_COUNT, 0);
+    memset(words, 0xEE, sizeof words);
+    total("within, length", toggleash_table_within(table, 1, 33), TOGGLEASH_LENGTH_OVER_32, 0);
+    total("within, a large length", toggleash_table_within(table, 1, UINT32_MAX), TOGGLEASH_LENGTH_OVER_32, 0);
+    total("within, stray bit", toggleash_table_within(table, 1, 31), TOGGLEASH_STRAY_BIT, 0);
+    total("within foreign words", toggleash_table_within(table, 1, 32), TOGGLEASH_NOT_A_TABLE, 0);
+    total("within foreign words, no link", toggleash_table_within(table, 0, 0), TOGGLEASH_NOT_A_TABLE, 0);
 }
 
 /* The replies of lookups, of 5 and of 2 bytes. Fewer than 5 free bytes stop the run, though 2 would do. */
@@ -363,6 +416,48 @@ static void foreign(void) {
     answer("a link to the last array", toggleash_lookup(words, ROOM, 0), 0, 1, 7, 8, 8);
 }
 
+/* Words that are no table: what a link and a total on the walk of within must be. There are 4 arrays, so 2,044 slots. */
+static void foreign_totals(void) {
+    uint32_t *cell = words + 3072 + 2048, *totals = words + 3072 + 2304, *below = words + 4 * 3072 + 2304;
+    memset(words, 0, sizeof words);
+    total("zeros", toggleash_within(words, ROOM, 0, 9), 0, 0);
+    totals[1] = below[2] = 2044;
+    total("the largest total", toggleash_within(words, ROOM, 0, 0), 0, 2044);
+    totals[1] = 2045;
+    total("a total over it", toggleash_within(words, ROOM, 0, 0), TOGGLEASH_NOT_A_TABLE, 0);
+    total("a total not met", toggleash_within(words, ROOM, 0, 1), 0, 0);
+    *cell = leads(14, 65535, 4); /* the length beside the link is not looked at */
+    total("a total below a link", toggleash_within(words, ROOM, 0, 9), 0, 2044);
+    total("another one there", toggleash_within(words, ROOM, 0x00800000, 9), 0, 0);
+    below[2] = UINT32_MAX;
+    total("a total over it below", toggleash_within(words, ROOM, 0, 9), TOGGLEASH_NOT_A_TABLE, 0);
+    *cell = leads(0, 0, 5);
+    total("a link past the last array", toggleash_within(words, ROOM, 0, 9), TOGGLEASH_NOT_A_TABLE, 0);
+    total("the same link above the walk's end", toggleash_within(words, ROOM, 0, 8), 0, 0);
+    *cell = leads(0, 0, 1);
+    totals[511] = 7;
+    total("a link to the first array", toggleash_within(words, ROOM, 0x000000FF, 32), 0, 7);
+    *cell = ends(255, 65535, 15);
+    total("no link", toggleash_within(words, ROOM, 0, 32), 0, 0);
+}
+
+/* A table whose totals are not right is none. */
+static void wrong_totals(void) {
+    uint32_t *of_root = words + 3072 + 2304 + 1, *of_free = words + 4 * 3072 + 2304 + 511;
+    same("clear", 0, toggleash_clear(words, ROOM));
+    ++*of_root;
+    counts("a total too large", toggleash_check(words, ROOM), TOGGLEASH_NOT_A_TABLE, 0, 0);
+    update("announce beside it", toggleash_announce(words, ROOM, 0, 0, 1, 1, 0), TOGGLEASH_NOT_A_TABLE, 0, 0);
+    total("what it says", toggleash_within(words, ROOM, 0, 0), 0, 1);
+    --*of_root;
+    counts("the total as it was", toggleash_check(words, ROOM), 0, 0, 1);
+    *of_free = 1;
+    counts("a total of a free array", toggleash_check(words, ROOM), TOGGLEASH_NOT_A_TABLE, 0, 0);
+    *of_free = 0;
+    words[3072 + 2304] = words[3072 + 2816] = 7;
+    counts("words without a use", toggleash_check(words, ROOM), 0, 0, 1);
+}
+
 /* Lent memory whose size is not in a type: by arrays, or by the need. */
 static void sizes(void) {
     toggleash_table whole = toggleash_table_at(words, 4);
@@ -383,7 +478,7 @@ static void sizes(void) {
 }
 
 static void texts(void) {
-    same("version", TOGGLEASH_VERSION, toggleash_version_3());
+    same("version", TOGGLEASH_VERSION, toggleash_version_4());
     for (uint32_t i = 0; i <= 11; i++) {
         int none = strcmp(toggleash_refusal_text(i), toggleash_refusal_text(6)) == 0;
         same("text of a refusal", i == 6 || i == 11, (uint64_t)none);
@@ -400,8 +495,12 @@ int main(void) {
     candidates();
     kinds();
     blocks();
+    withins();
+    within_refused();
     replies();
     foreign();
+    foreign_totals();
+    wrong_totals();
     copies();
     no_copies();
     tables();

@@ -34,8 +34,8 @@
  * for a number of words that is refused with 1, where no word is read. The parts lent to one call must not overlap. What
  * is lent through a pointer to const is not changed.
  *
- * Threads. Calls on the same words may go on at once only where none of them changes words: check, find and write do
- * not, clear, announce, withdraw, run and make do. bindings/c/swap.c looks up beside updates, with two tables.
+ * Threads. Calls on the same words may go on at once only where none of them changes words: check, find, within and
+ * write do not, clear, announce, withdraw, run and make do. bindings/c/swap.c looks up beside updates, with two tables.
  *
  * Time. A single announcement or withdrawal tests the whole table first, which takes milliseconds at 4,096 arrays. A run
  * tests it once: hand many updates over as one feed, and each takes about a microsecond or less. docs/MEASURED.md.
@@ -59,6 +59,8 @@ enum {
     TOGGLEASH_NOT_A_TABLE = 2,  /* the words are not a table. A lookup does not test that; it gives 2 where a cell on its
                                    walk has a length over 8, no link and a block over 8, or a link to an array that the
                                    words do not have, as any link has at the last of the four levels (docs/LAYOUT.md).
+                                   Nor does toggleash_within; it gives 2 where its walk meets a link to an array that the
+                                   words do not have, or a total over 511 for each array of the words.
                                    From toggleash_copy_need and making a copy: the bytes are not one whole list of a
                                    table, of any room, in records of kind 4 or of kind 1 alone. From a lookup in a copy:
                                    the words are fewer than 1,024, or its walk meets a best match, the place of a hash
@@ -122,8 +124,8 @@ enum {
  * It rises with any change that a caller would not notice else, and the archive has it as the name of a function. Each
  * file that includes this header keeps a pointer to that function, four or eight bytes: so a program whose header and
  * archive are of two versions does not link, `undefined reference to toggleash_version_..`. */
-#define TOGGLEASH_VERSION 3
-uint32_t toggleash_version_3(void); /* returns 3 */
+#define TOGGLEASH_VERSION 4
+uint32_t toggleash_version_4(void); /* returns 4 */
 
 #if defined(__GNUC__) && !defined(TOGGLEASH_ARCHIVE) /* which the archive's own files define */
 #if defined(__has_attribute)
@@ -136,7 +138,7 @@ uint32_t toggleash_version_3(void); /* returns 3 */
 #endif
 #pragma GCC diagnostic push
 #pragma GCC diagnostic ignored "-Wattributes" /* a compiler may know the word and not its assembler */
-static uint32_t (*const toggleash_version_linked_)(void) TOGGLEASH_KEPT_ = toggleash_version_3;
+static uint32_t (*const toggleash_version_linked_)(void) TOGGLEASH_KEPT_ = toggleash_version_4;
 #pragma GCC diagnostic pop
 #endif
 
@@ -167,6 +169,12 @@ typedef struct {
     uint32_t length;  /* its length, 0 to 32 */
     uint32_t block;   /* 0 to 32, where none is found too; in a table never below the length */
 } toggleash_answer;
+
+/* What lies inside a prefix. */
+typedef struct {
+    uint32_t refusal;  /* 0, 1, 2, 3 or 4 */
+    uint32_t prefixes; /* prefixes with a candidate inside it, itself included; each once, however many candidates it has */
+} toggleash_total;
 
 /* What a lookup in a copy finds, which tells no block. */
 typedef struct {
@@ -227,6 +235,12 @@ TOGGLEASH_ANSWER toggleash_counts toggleash_check(const uint32_t *words, size_t 
 /* Finds the longest match and the block. Refuses with 1. Does not test the table: on words that are none it reads inside
  * them and gives what its walk gives, or 2. */
 TOGGLEASH_ANSWER toggleash_answer toggleash_lookup(const uint32_t *words, size_t n, uint32_t address);
+
+/* Counts the prefixes that lie inside this one, itself included, which need not be held; inside 0.0.0.0/0 lie all. The totals
+ * are kept in the table, so that this takes about the time of a lookup however many there are. Refuses with 1, 3 or 4. Does
+ * not test the table: on words that are none it reads inside them and gives what its walk gives, or 2. Any length may be
+ * given. */
+TOGGLEASH_ANSWER toggleash_total toggleash_within(const uint32_t *words, size_t n, uint32_t address, uint32_t length);
 
 /* Gives a feed this candidate for a prefix, in place of the one that it had. For a prefix that has a candidate, of any feed,
  * there is always room. Refuses with 1, 3, 4, 5, 10, 2 or 8. Any length, hop and feed may be given. */
@@ -335,6 +349,11 @@ TOGGLEASH_ANSWER static inline toggleash_counts toggleash_table_check(toggleash_
 
 TOGGLEASH_ANSWER static inline toggleash_answer toggleash_table_find(toggleash_table table, uint32_t address) {
     return toggleash_lookup(table.words, table.n, address);
+}
+
+TOGGLEASH_ANSWER static inline toggleash_total toggleash_table_within(toggleash_table table, uint32_t address,
+                                                                      uint32_t length) {
+    return toggleash_within(table.words, table.n, address, length);
 }
 
 TOGGLEASH_ANSWER static inline toggleash_update toggleash_table_announce(toggleash_table table, uint32_t address,

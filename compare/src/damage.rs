@@ -2,12 +2,14 @@
 
 use std::collections::VecDeque;
 
-use reference::layout::{cells, tag_below, winners, word, Arrays, Cell, End, CELLS, HOPS, LINKS, SLOT, UNUSED};
+use reference::layout::{cells, fill_totals, tag_below, unused, winners, word, Arrays, Cell, End};
+use reference::layout::{CELLS, HOPS, LEVELS, LINKS, SLOT, TOTALS, UNUSED};
 use reference::memory::ARRAY_WORDS;
-use reference::{Address, CandidateList};
+use reference::{Address, CandidateList, Prefix};
 
 use crate::feeds::{preference, Mood, Source, Terrain};
 use crate::guard::Side;
+use crate::insides;
 use crate::lists::{filling, litter, scattered};
 use crate::pair::{Pair, Same};
 use crate::random::Random;
@@ -69,6 +71,9 @@ fn every_call(random: &mut Random, terrain: &Terrain, list: &CandidateList, word
     let addresses = every_cell(random, words);
     pair.lookup(&addresses)?;
     tally.lookups += addresses.len() as u64;
+    let prefixes: Vec<Prefix> = addresses.iter().map(|&address| insides::holding(random, address)).collect();
+    pair.within(&prefixes)?;
+    tally.withins += prefixes.len() as u64;
     let full = list.encoded_size();
     for room in [0, full - 1, full, full + random.below(30)] {
         pair.write_out(room, side)?;
@@ -109,7 +114,7 @@ fn every_cell(random: &mut Random, words: &[u32]) -> Vec<u32> {
 }
 
 fn damage(random: &mut Random, words: &mut [u32]) {
-    match random.below(16) {
+    match random.below(19) {
         0..=3 => one_word(random, words),
         4 => whole_pages(random, words),
         5 | 6 => hang_another(random, words),
@@ -118,6 +123,7 @@ fn damage(random: &mut Random, words: &mut [u32]) {
         10 => other_link(random, words),
         11 | 12 => other_block(random, words),
         13 | 14 => other_candidates(random, words),
+        15..=17 => other_total(random, words),
         _ => unused_words(random, words),
     }
 }
@@ -146,7 +152,7 @@ fn some_cell(random: &mut Random, words: &[u32]) -> usize {
 fn one_word(random: &mut Random, words: &mut [u32]) {
     let arrays = (words.len() / ARRAY_WORDS - 1) as u32;
     let page = ARRAY_WORDS * some_array(random, words);
-    let at = match random.below(9) {
+    let at = match random.below(10) {
         0 => random.below(words.len()),
         1 => random.within(0..=2),
         2 => random.pick(&[512, 513, 1_023, 1_024, 3_071]),
@@ -154,6 +160,7 @@ fn one_word(random: &mut Random, words: &mut [u32]) {
         4 => page + random.within(SLOT..=CELLS - 1),
         5 => page + SLOT * random.pick(&[1, 2, 3, 256, 511]) + random.below(SLOT),
         6 => page + some_unused(random),
+        7 => page + random.within(TOTALS + 1..=UNUSED - 1),
         _ => some_cell(random, words),
     };
     words[at] = match random.below(6) {
@@ -203,12 +210,32 @@ fn other_block(random: &mut Random, words: &mut [u32]) {
     }
 }
 
+/// A total, mostly one that is not 0, is one more or less, comes to a border of what the walk takes, or is anything; as often as
+/// not those above it in its array follow, and in the arrays above.
+fn other_total(random: &mut Random, words: &mut [u32]) {
+    let most = 511 * (words.len() / ARRAY_WORDS - 1) as u32;
+    let a = some_array(random, words);
+    let first = ARRAY_WORDS * a + TOTALS;
+    let some: Vec<usize> = (first + 1..first + 512).filter(|&at| words[at] != 0).collect();
+    let any = first + random.within(1..=511);
+    let at = if some.is_empty() || random.chance(30) { any } else { random.pick(&some) };
+    let (more, fewer, far) = (words[at].wrapping_add(1), words[at].wrapping_sub(1), random.word());
+    let value = random.pick(&[more, more, fewer, fewer, 0, most, most + 1, far]);
+    let by = value.wrapping_sub(words[at]);
+    words[at] = value;
+    if random.chance(50) {
+        let mut slot = (at - first) / 2;
+        while slot > 0 {
+            words[first + slot] = words[first + slot].wrapping_add(by);
+            slot /= 2;
+        }
+        total_above(words, a);
+    }
+}
+
 /// A word of an array without a use.
 fn some_unused(random: &mut Random) -> usize {
-    match random.chance(30) {
-        true => random.within(1..=SLOT - 1),
-        false => random.within(UNUSED..=ARRAY_WORDS - 1),
-    }
+    random.pick(&unused().collect::<Vec<_>>())
 }
 
 /// The words of one slot, mostly a taken one, change places, or one of them gets another candidate or none, and no cell
@@ -261,6 +288,7 @@ fn hang_another(random: &mut Random, words: &mut [u32]) {
         words[ARRAY_WORDS * free + SLOT * (256 + cell) + random.below(SLOT)] = 9;
     }
     follow(words, free);
+    total_up(words, free);
     // As often as not the blocks beside the new link are left as they were.
     if random.chance(50) {
         follow(words, parent);
@@ -275,12 +303,31 @@ fn change_a_slot(random: &mut Random, words: &mut [u32]) {
     let at = SLOT * random.pick(&[1, any, any, any]) + random.below(SLOT);
     words[ARRAY_WORDS * a + at] = random.pick(&[0, 1, 65_535, 65_536, word(255, 1), 256 * HOPS + 1]);
     follow(words, a);
+    // As often as not the totals are left as they were.
+    if random.chance(50) {
+        total_up(words, a);
+    }
+}
+
+/// The totals of an array follow, and those of the arrays above it.
+fn total_up(words: &mut [u32], a: usize) {
+    fill_totals(words, a);
+    total_above(words, a);
+}
+
+/// The totals of the arrays above one follow, as far as tags lead to any and levels allow.
+fn total_above(words: &mut [u32], mut a: usize) {
+    for _ in 0..LEVELS {
+        let Some(parent) = Arrays::new(words).and_then(|arrays| arrays.held(arrays.tag(a) / 8192)) else { return };
+        fill_totals(words, parent);
+        a = parent;
+    }
 }
 
 /// Bests and blocks of an array become those that its slots and links make.
 fn follow(words: &mut [u32], a: usize) {
     let page = &mut words[ARRAY_WORDS * a..ARRAY_WORDS * (a + 1)];
-    let links: Vec<_> = page[CELLS..UNUSED].iter().map(|&word| Cell::of(word).link()).collect();
+    let links: Vec<_> = page[CELLS..TOTALS].iter().map(|&word| Cell::of(word).link()).collect();
     for (at, cell) in cells(&winners(page), &links).into_iter().enumerate() {
         page[CELLS + at] = cell.word();
     }

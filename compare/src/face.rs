@@ -3,7 +3,7 @@
 
 use std::ptr::{null, null_mut};
 
-use toggleash::ffi::{self, Answer, Built, Counts, Match, Needed, Ran, Update, Written};
+use toggleash::ffi::{self, Answer, Built, Counts, Match, Needed, Ran, Total, Update, Written};
 
 use crate::guard::{begin_call, Lent, Side};
 use crate::pair::{same, Same};
@@ -27,6 +27,8 @@ fn refused_by_size(words: *mut u32, n: usize) -> Same {
         same(|| format!("check {n}"), ffi::toggleash_check(words, n), counts)?;
         let answer = Answer { refusal: 1, ..Answer::default() };
         same(|| format!("lookup {n}"), ffi::toggleash_lookup(words, n, 0), answer)?;
+        let total = Total { refusal: 1, ..Total::default() };
+        same(|| format!("within {n}"), ffi::toggleash_within(words, n, 1, 33), total)?;
         let update = Update { refusal: 1, ..Update::default() };
         same(|| format!("announce {n}"), ffi::toggleash_announce(words, n, 1, 33, 0, 0, 0), update)?;
         same(|| format!("withdraw {n}"), ffi::toggleash_withdraw(words, n, 1, 33, 0), update)?;
@@ -74,6 +76,13 @@ fn refused_fields() -> Same {
             same(|| format!("announce by {feed}"), got, update(10))?;
             same(|| format!("withdraw by {feed}"), ffi::toggleash_withdraw(first, n, 0, 0, feed), update(10))?;
         }
+        let total = |refusal, prefixes| Total { refusal, prefixes };
+        same(|| "within, length".into(), ffi::toggleash_within(first, n, 1, 33), total(3, 0))?;
+        same(|| "within, stray bit".into(), ffi::toggleash_within(first, n, 1, 31), total(4, 0))?;
+        *first.add(3_072 + 2_304 + 1) = 512;
+        same(|| "within, a total".into(), ffi::toggleash_within(first, n, 0, 0), total(2, 0))?;
+        *first.add(3_072 + 2_304 + 1) = 511;
+        same(|| "within, the largest total".into(), ffi::toggleash_within(first, n, 0, 0), total(0, 511))?;
         let ran = ffi::toggleash_run(first, n, [0].as_ptr(), 1, null_mut(), 0);
         same(|| "run".into(), ran, Ran { refusal: 2, ..Ran::default() })?;
         ffi::toggleash_clear(first, n);
@@ -96,6 +105,7 @@ fn refused_fields() -> Same {
         same(|| "lookup beside a route".into(), ffi::toggleash_lookup(first, n, 7), beside)?;
         let inside = Answer { hop: 6, length: 8, block: 8, ..found };
         same(|| "lookup in a route".into(), ffi::toggleash_lookup(first, n, 1 << 31), inside)?;
+        same(|| "within".into(), ffi::toggleash_within(first, n, 0, 0), total(0, 2))?;
         let refusals = [(3, 1, 33, 0, 0), (4, 1, 0, 0, 0), (5, 0, 0, 0, 0), (10, 0, 9, 1, 0), (8, 0, 9, 1, 1)];
         for (refusal, address, length, hop, feed) in refusals {
             let got = ffi::toggleash_announce(first, n, address, length, hop, feed, 0);

@@ -6,6 +6,7 @@ pub mod face;
 pub mod feeds;
 pub mod foreign;
 pub mod guard;
+pub mod insides;
 pub mod lists;
 pub mod pair;
 pub mod programs;

@@ -3,7 +3,7 @@
 
 use std::collections::{BTreeMap, BTreeSet};
 
-use reference::layout::{self, SLOT, UNUSED};
+use reference::layout::{self, unused};
 use reference::memory::{ARRAY_WORDS, MOST_ARRAYS};
 use reference::{Address, Candidate, CandidateList, Prefix, RouteList};
 
@@ -153,6 +153,5 @@ pub fn scattered(random: &mut Random, list: &CandidateList, arrays: usize) -> Ve
 /// Puts anything into an array's words without a use.
 pub fn litter(random: &mut Random, words: &mut [u32], a: usize) {
     let page = &mut words[ARRAY_WORDS * a..ARRAY_WORDS * (a + 1)];
-    page[1..SLOT].fill_with(|| random.word());
-    page[UNUSED..].fill_with(|| random.word());
+    unused().for_each(|at| page[at] = random.word());
 }

@@ -4,12 +4,12 @@
 use std::net::Ipv4Addr;
 
 use reference::feed::Answer;
-use reference::layout::{self, Arrays, Walked, SLOT, UNUSED};
+use reference::layout::{self, unused, Arrays, Walked, TOTALS, UNUSED};
 use reference::memory::ARRAY_WORDS;
 use reference::{Candidate, CandidateList, Lookup, Memory, Prefix, Refusal};
 
 use crate::guard::{begin_call, Lent, Side};
-use crate::tally::{saw_odd, saw_refusal, saw_stop, saw_winner};
+use crate::tally::{saw_odd, saw_odd_total, saw_refusal, saw_stop, saw_winner};
 
 /// Nothing differs, or the text of what does.
 pub type Same = Result<(), String>;
@@ -103,6 +103,25 @@ impl Pair {
         })
     }
 
+    /// What lies inside prefixes of any numbers, by the layout's walk on any words, and by the list where they are a table.
+    pub fn within(&self, prefixes: &[Prefix]) -> Same {
+        begin_call("within");
+        self.words.sealed(|words| {
+            prefixes.iter().try_for_each(|&Prefix { address, length }| {
+                let what = || format!("within {}/{length}", Ipv4Addr::from(address));
+                let told = library(toggleash::within(words, address.into(), length));
+                same(what, told, list(layout::within(words, address, length)))?;
+                match self.memory.within(address, length) {
+                    Err(Refusal::NotATable) => Ok(count_odd_total(words, Prefix { address, length })),
+                    counted => same(what, told, counted.map_err(Refusal::number)),
+                }
+            })
+        })?;
+        let Ok(held) = self.memory.list() else { return Ok(()) };
+        let all = library(toggleash::within(&self.words, Ipv4Addr::UNSPECIFIED, 0));
+        same(|| "prefixes in all".into(), all, Ok(held.winners().routes().len() as u32))
+    }
+
     /// A feed announces a candidate, whose prefix and feed may be any numbers.
     pub fn announce(&mut self, candidate: Candidate) -> Same {
         let Candidate { prefix, feed, preference, hop } = candidate;
@@ -120,7 +139,7 @@ impl Pair {
         if told.is_ok() {
             saw_winner(won, self.winning(prefix));
         }
-        self.changed(what, (told.is_ok() && !again).then_some(prefix), &before)
+        self.changed(what, (told.is_ok() && !again).then_some((prefix, won)), &before)
     }
 
     pub fn withdraw(&mut self, prefix: Prefix, feed: u32) -> Same {
@@ -135,7 +154,7 @@ impl Pair {
         if told.is_ok() {
             saw_winner(won, self.winning(prefix));
         }
-        self.changed(what, told.is_ok().then_some(prefix), &before)
+        self.changed(what, told.is_ok().then_some((prefix, won)), &before)
     }
 
     /// The hop that wins at the prefix.
@@ -143,11 +162,15 @@ impl Pair {
         self.memory.list().ok()?.winners().hop(prefix)
     }
 
-    /// Only the words changed that the update of this prefix may change; none if it was refused or the candidate held already.
-    fn changed(&self, what: impl Fn() -> String, updated: Option<Prefix>, before: &[u32]) -> Same {
+    /// Only the words changed that the update of this prefix may change, where this hop won before; none if it was refused or the
+    /// candidate held already.
+    fn changed(&self, what: impl Fn() -> String, updated: Option<(Prefix, Option<u32>)>, before: &[u32]) -> Same {
         match updated {
-            Some(prefix) => {
+            Some((prefix, won)) => {
                 confined(&what, prefix, before, &self.words)?;
+                if won.is_some() == self.winning(prefix).is_some() {
+                    totals_left(&what, before, &self.words)?;
+                }
                 unused_left(what, before, &self.words)
             }
             None => left(what, before, &self.words),
@@ -205,6 +228,13 @@ fn count_odd(words: &[u32], address: u32) {
     }
 }
 
+/// Counts what a walk to a total over words that are no table meets, if that ends it.
+fn count_odd_total(words: &[u32], prefix: Prefix) {
+    if let Some(Err((odd, level))) = Arrays::new(words).map(|arrays| layout::trace_total(&arrays, prefix)) {
+        saw_odd_total(odd, level);
+    }
+}
+
 fn same_update(what: impl Fn() -> String, told: Told<toggleash::Update>, expected: Told<reference::Update>) -> Same {
     same(what, told.map(|update| (update.hop, update.cells)), expected.map(|update| (update.hop, update.cells)))
 }
@@ -212,14 +242,24 @@ fn same_update(what: impl Fn() -> String, told: Told<toggleash::Update>, expecte
 /// The words without a use, which only clearing writes, are as they were.
 fn unused_left(what: impl Fn() -> String, before: &[u32], after: &[u32]) -> Same {
     let pages = before.chunks(ARRAY_WORDS).zip(after.chunks(ARRAY_WORDS)).enumerate();
-    for (a, (before, after)) in pages.skip(1) {
-        left(|| format!("{}, array {a} after its tag", what()), &before[1..SLOT], &after[1..SLOT])?;
-        left(|| format!("{}, array {a} from word {UNUSED} on", what()), &before[UNUSED..], &after[UNUSED..])?;
+    for (a, (before, after)) in pages.skip(1).filter(|(_, (before, after))| before != after) {
+        if let Some(at) = unused().find(|&at| before[at] != after[at]) {
+            return Err(format!("{}: word {at} of array {a} changed, which has no use", what()));
+        }
     }
     Ok(())
 }
 
-/// Besides the header and the update's own array only arrays gained or freed, and the one that links to them, changed.
+/// An update that neither adds nor removes a prefix leaves all totals.
+fn totals_left(what: impl Fn() -> String, before: &[u32], after: &[u32]) -> Same {
+    let pages = before.chunks(ARRAY_WORDS).zip(after.chunks(ARRAY_WORDS)).enumerate();
+    pages.skip(1).try_for_each(|(a, (before, after))| {
+        left(|| format!("{}, totals of array {a}", what()), &before[TOTALS..UNUSED], &after[TOTALS..UNUSED])
+    })
+}
+
+/// Besides the header and the update's own array only arrays gained or freed, and the one that links to them, changed; of the
+/// other arrays on the way only totals.
 fn confined(what: impl Fn() -> String, prefix: Prefix, before: &[u32], after: &[u32]) -> Same {
     // The way to the array is whole where more arrays are used.
     let (full, lean) = if after[0] >= before[0] { (after, before) } else { (before, after) };
@@ -234,8 +274,9 @@ fn confined(what: impl Fn() -> String, prefix: Prefix, before: &[u32], after: &[
     let from = path.iter().position(comes_or_goes).unwrap_or(path.len()).saturating_sub(1);
     let allowed = &path[from..];
     let pages = full.chunks(ARRAY_WORDS).zip(lean.chunks(ARRAY_WORDS)).enumerate();
-    for (a, (one, other)) in pages.skip(1) {
-        if one != other && !allowed.contains(&a) {
+    for (a, (one, other)) in pages.skip(1).filter(|(_, (one, other))| one != other) {
+        let no_total_changed = one[..TOTALS] != other[..TOTALS] || one[UNUSED..] != other[UNUSED..];
+        if !path.contains(&a) || (no_total_changed && !allowed.contains(&a)) {
             return Err(format!("{}: array {a} changed, which has no part in it", what()));
         }
     }

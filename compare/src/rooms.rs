@@ -7,6 +7,7 @@ use reference::{Candidate, CandidateList, Prefix};
 
 use crate::feeds::{Mood, Source, Terrain};
 use crate::guard::Side;
+use crate::insides;
 use crate::lists::{filling, scattered};
 use crate::pair::{Pair, Same};
 use crate::random::Random;
@@ -110,6 +111,17 @@ fn after_burst(random: &mut Random, terrain: &Terrain, pair: &Pair, known: &[Pre
     }
     pair.lookup(&addresses)?;
     tally.lookups += addresses.len() as u64;
+    let mut prefixes: Vec<Prefix> = addresses.iter().map(|&address| insides::holding(random, address)).collect();
+    for _ in 0..12 {
+        let prefix = random.pick(known);
+        prefixes.extend(insides::around(random, prefix));
+        if !list.candidates().is_empty() {
+            let prefix = random.pick(list.candidates()).prefix;
+            prefixes.extend(insides::around(random, prefix));
+        }
+    }
+    pair.within(&prefixes)?;
+    tally.withins += prefixes.len() as u64;
     tally.tables += 1;
     let full = list.encoded_size();
     let (more, fewer) = (full + random.below(40), random.below(full));

@@ -3,7 +3,7 @@
 use std::fmt;
 use std::sync::atomic::{AtomicU64, Ordering::Relaxed};
 
-use reference::layout::{Odd, LEVELS};
+use reference::layout::{Odd, OddTotal, LEVELS};
 
 /// Differences after which no more are looked for.
 const ENOUGH: u64 = 10;
@@ -15,6 +15,7 @@ pub struct Tally {
     pub feeds: u64,
     pub updates: u64,
     pub lookups: u64,
+    pub withins: u64,
     pub tables: u64,
     pub damaged: u64,
     pub copies: Copies,
@@ -41,6 +42,9 @@ static REFUSALS: [AtomicU64; 11] = [const { AtomicU64::new(0) }; 11];
 static STOPS: [AtomicU64; 5] = [const { AtomicU64::new(0) }; 5];
 /// How often a lookup's walk ended at what no table has: lengths, then blocks, then links, by level.
 static ODD: [AtomicU64; 3 * LEVELS as usize] = [const { AtomicU64::new(0) }; 3 * LEVELS as usize];
+
+/// How often a walk to a total ended so: at links, by the levels but the last, then at totals, by level.
+static ODD_TOTALS: [AtomicU64; 2 * LEVELS as usize - 1] = [const { AtomicU64::new(0) }; 2 * LEVELS as usize - 1];
 
 /// How often a direct update made a hop win at its prefix, changed it, left it, and left none.
 static WINNERS: [AtomicU64; 4] = [const { AtomicU64::new(0) }; 4];
@@ -73,6 +77,14 @@ pub fn saw_odd(odd: Odd, level: u32) {
     ODD[(first + level) as usize].fetch_add(1, Relaxed);
 }
 
+pub fn saw_odd_total(odd: OddTotal, level: u32) {
+    let first = match odd {
+        OddTotal::Array => 0,
+        OddTotal::Total => LEVELS - 1,
+    };
+    ODD_TOTALS[(first + level) as usize].fetch_add(1, Relaxed);
+}
+
 impl Tally {
     /// Prints how often each refusal and stop was met. A comparison that met one of them never has shown nothing of it.
     pub fn answers(&mut self) {
@@ -87,9 +99,12 @@ impl Tally {
         let odd = counts(&ODD);
         let by_level: Vec<_> = odd.chunks(LEVELS as usize).collect();
         println!("lookups refused with 2 for a length, a block and a link, on each level {by_level:?} times");
+        let odd_totals = counts(&ODD_TOTALS);
+        let by_level = odd_totals.split_at(LEVELS as usize - 1);
+        println!("counts inside a prefix refused with 2 for a link and a total, on each level {by_level:?} times");
         let copies = [self.copies.bytes_refused, self.copies.words_refused, self.copies.lookups_refused];
         println!("for copies, bytes refused with 2, words by 9 and lookups by 2 {copies:?} times");
-        if !self.enough() && [&refusals[..], &stops, &winners, &odd, &copies].concat().contains(&0) {
+        if !self.enough() && [&refusals[..], &stops, &winners, &odd, &odd_totals, &copies].concat().contains(&0) {
             println!("difference: one of them was never met");
             self.differences += 1;
         }
@@ -110,8 +125,9 @@ impl Tally {
 
 impl fmt::Display for Tally {
     fn fmt(&self, f: &mut fmt::Formatter<'_>) -> fmt::Result {
-        let Tally { records, feeds, updates, lookups, tables, damaged, copies, differences } = self;
+        let Tally { records, feeds, updates, lookups, withins, tables, damaged, copies, differences } = self;
         write!(f, "{records} records in {feeds} feeds, {updates} direct updates, {lookups} lookups, ")?;
+        write!(f, "{withins} counts inside a prefix, ")?;
         write!(f, "{tables} tables, {damaged} damaged memories; {copies}: {differences} differences")
     }
 }

@@ -23,6 +23,11 @@ impl<A: Address> Prefix<A> {
         address & A::mask(self.length) == self.address
     }
 
+    /// Whether the other one is this one or shorter, and the addresses of this one are among its.
+    pub fn lies_inside(self, other: Self) -> bool {
+        other.length <= self.length && other.matches(self.address)
+    }
+
     /// The last address inside.
     pub fn last(self) -> A {
         self.address | !A::mask(self.length)
@@ -122,6 +127,11 @@ impl<A: Address> RouteList<A> {
         let turns = inner.flat_map(|prefix| [Some(prefix.address), prefix.last().next()]).flatten();
         let turns = turns.filter(|&address| inside.matches(address));
         [inside.address].into_iter().chain(turns).all(|address| self.longest_match(address) == route)
+    }
+
+    /// How many routes' prefixes lie inside this one, itself included.
+    pub fn within(&self, prefix: Prefix<A>) -> usize {
+        self.routes.iter().filter(|route| route.prefix.lies_inside(prefix)).count()
     }
 
     /// The number of arrays that the list needs.

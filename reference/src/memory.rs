@@ -89,6 +89,13 @@ impl<A: Address> Memory<A> {
         Ok(Lookup { route: list.longest_match(address), block: list.block(address) })
     }
 
+    /// How many prefixes with a candidate lie inside this one. Refused by 2 as a lookup is.
+    pub fn within(&self, address: A, length: u32) -> Result<u32, Refusal> {
+        self.room()?;
+        let prefix = well_formed(address, length)?;
+        Ok(self.list()?.winners().within(prefix) as u32)
+    }
+
     pub fn announce(
         &mut self,
         address: A,
@@ -133,7 +140,8 @@ impl Memory {
     }
 }
 
-fn well_formed<A: Address>(address: A, length: u32) -> Result<Prefix<A>, Refusal> {
+/// The prefix, or refusal 3 or 4.
+pub fn well_formed<A: Address>(address: A, length: u32) -> Result<Prefix<A>, Refusal> {
     if length > A::BITS {
         return Err(Refusal::TooLong);
     }

@@ -1,13 +1,13 @@
 //! The reading of docs/LAYOUT.md: a table laid out is read again, its walk is the longest match, and each condition of
 //! the definition is missed when it alone is broken.
 
-use reference::layout::{check, lay, read, walk, winner, word, Cell, End, Walked};
+use reference::layout::{check, fill_totals, lay, read, unused, walk, winner, word, Cell, End, Walked};
 use reference::{Candidate, CandidateList, Counts, Lookup, Memory, Prefix, Refusal, RouteList};
 
-/// The words of an array, and where in it the cells and what follows them begin.
+/// The words of an array, and where in it the cells and the totals begin.
 const ARRAY: usize = 3072;
 const CELLS: usize = 2048;
-const AFTER: usize = 2304;
+const TOTALS: usize = 2304;
 
 fn sample() -> CandidateList {
     let candidates = [
@@ -93,10 +93,16 @@ fn each_single_word_with_a_use_matters() {
     let mut words = words();
     let seen = read(&words);
     for at in 0..words.len() {
-        let used = at < ARRAY || at % ARRAY == 0 || (4..AFTER).contains(&(at % ARRAY));
+        let unused = matches!(at % ARRAY, 1..=3 | TOTALS | 2816..);
+        let used = at < ARRAY || !unused;
         // In a cell these are bits of its block or link, of its hop, and of its length or whether it has a link; in a slot
-        // of the hop, the preference, and above it. A word without a use is read no other way whatever its bits.
-        let bits = if used { &[0, 12, 16, 28][..] } else { &[31] };
+        // of the hop, the preference, and above it. In a total one bit is as good as another. A word without a use is read no
+        // other way whatever its bits.
+        let bits = match at % ARRAY {
+            _ if !used => &[31][..],
+            2305.. if at >= ARRAY => &[0],
+            _ => &[0, 12, 16, 28],
+        };
         for &bit in bits {
             words[at] ^= 1 << bit;
             assert_eq!(read(&words) != seen, used, "bit {bit} of word {at}");
@@ -117,11 +123,14 @@ fn sizes() {
     }
 }
 
-/// Sets words and tells whether a table is left.
+/// Sets words and tells whether a table is left, once all totals follow, level by level.
 fn after(changes: &[(usize, u32)]) -> bool {
     let mut words = words();
     for &(at, value) in changes {
         words[at] = value;
+    }
+    for _ in 0..4 {
+        (1..=12).for_each(|a| fill_totals(&mut words, a));
     }
     check(&words).is_ok()
 }
@@ -203,10 +212,10 @@ fn the_best_is_the_winners() {
 /// Words without a use hold anything, in a free array too.
 #[test]
 fn words_without_a_use() {
-    let unused = |a: usize| (1..4).chain(AFTER..ARRAY).map(move |at| (a * ARRAY + at, u32::MAX));
+    assert!(unused().eq((1..4).chain([TOTALS]).chain(2816..ARRAY)));
     let mut words = words();
     let seen = read(&words);
-    (1..=12).flat_map(unused).for_each(|(at, word)| words[at] = word);
+    (1..=12).flat_map(|a| unused().map(move |at| a * ARRAY + at)).for_each(|at| words[at] = u32::MAX);
     assert_eq!(read(&words), seen);
 }
 

@@ -13,7 +13,8 @@ pub enum Refusal {
     WordCount = 1,
     /// 2: the words are not a table. [`lookup`](crate::lookup) does not test that; it gives 2 where a cell on its walk has a
     /// length over 8, no link and a block over 8, or a link to an array that the words do not have, as any link has at the
-    /// last of the four levels.
+    /// last of the four levels. Nor does [`within`](crate::within); it gives 2 where its walk meets a link to an array that
+    /// the words do not have, or a total over 511 for each array of the words.
     ///
     /// From [`copy::need`](crate::copy::need) and [`copy::build`](crate::copy::build): the bytes are not one whole list of
     /// a table, of any room, in records of kind 4 or of kind 1 alone. From [`copy::lookup`](crate::copy::lookup): the words

@@ -22,6 +22,13 @@ pub struct Answer {
 
 #[repr(C)]
 #[derive(Clone, Copy, Debug, Default, PartialEq, Eq)]
+pub struct Total {
+    pub refusal: u32,
+    pub prefixes: u32,
+}
+
+#[repr(C)]
+#[derive(Clone, Copy, Debug, Default, PartialEq, Eq)]
 pub struct Match {
     pub refusal: u32,
     pub found: u32,
@@ -72,13 +79,14 @@ pub struct Built {
 
 /// Kept in each program, so that an archive of another version does not link.
 #[used]
-static VERSION: unsafe extern "C" fn() -> u32 = toggleash_version_3;
+static VERSION: unsafe extern "C" fn() -> u32 = toggleash_version_4;
 
 extern "C" {
-    pub fn toggleash_version_3() -> u32;
+    pub fn toggleash_version_4() -> u32;
     pub fn toggleash_clear(words: *mut u32, n: usize) -> u32;
     pub fn toggleash_check(words: *const u32, n: usize) -> Counts;
     pub fn toggleash_lookup(words: *const u32, n: usize, address: u32) -> Answer;
+    pub fn toggleash_within(words: *const u32, n: usize, address: u32, length: u32) -> Total;
     pub fn toggleash_announce(
         words: *mut u32,
         n: usize,

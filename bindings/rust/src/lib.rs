@@ -118,6 +118,39 @@ pub fn lookup(words: &[u32], address: Ipv4Addr) -> Result<Lookup, Refusal> {
     Ok(Lookup { found: matched(answer.found, answer.hop, answer.length), block: answer.block })
 }
 
+/// Counts the prefixes with a candidate that lie inside this one, itself included. It need not be held, and any length may be
+/// given. The totals are kept in the table, so that this takes about the time of a lookup however many prefixes there are.
+///
+/// The table is not tested: on words that are none the call reads inside them and gives what its walk gives.
+///
+/// ```
+/// use std::net::Ipv4Addr;
+/// use toggleash::{announce, clear, within, Candidate, Refusal};
+///
+/// # fn main() -> Result<(), Refusal> {
+/// let mut words = vec![0; 6_144];
+/// clear(&mut words)?;
+/// let ten = Ipv4Addr::new(10, 0, 0, 0);
+/// announce(&mut words, ten, 8, Candidate { hop: 1, feed: 1, preference: 0 })?;
+/// announce(&mut words, ten, 8, Candidate { hop: 2, feed: 2, preference: 0 })?;
+/// announce(&mut words, ten, 7, Candidate::via(3))?;
+/// assert_eq!(within(&words, Ipv4Addr::UNSPECIFIED, 0), Ok(2));
+/// assert_eq!(within(&words, ten, 8), Ok(1));
+/// assert_eq!(within(&words, ten, 9), Ok(0));
+/// assert_eq!(within(&words, ten, 6), Err(Refusal::StrayBit));
+/// # Ok(())
+/// # }
+/// ```
+///
+/// # Errors
+/// In this order [`Refusal::WordCount`], [`Refusal::LengthOver32`], [`Refusal::StrayBit`]; then [`Refusal::NotATable`] where
+/// the walk meets a link to an array that the words do not have, or a total over 511 for each array of the words.
+pub fn within(words: &[u32], address: Ipv4Addr, length: u32) -> Result<u32, Refusal> {
+    let total = unsafe { ffi::toggleash_within(words.as_ptr(), words.len(), address.into(), length) };
+    accepted(total.refusal)?;
+    Ok(total.prefixes)
+}
+
 /// Gives a feed this candidate for a prefix, in place of the one that it had. For a prefix that has a candidate, of any feed,
 /// there is always room. Any length, hop and feed may be given; those out of their range are refused.
 ///

@@ -3,7 +3,7 @@
 use core::fmt;
 use core::net::Ipv4Addr;
 
-use crate::{announce, check, clear, lookup, run, withdraw, write_out};
+use crate::{announce, check, clear, lookup, run, withdraw, within, write_out};
 use crate::{Candidate, Counts, Lookup, Prefix, Ran, Refusal, Update};
 
 /// Words that are a table.
@@ -78,6 +78,28 @@ impl<W: AsRef<[u32]>> Table<W> {
     /// [`Refusal::NotATable`] only where something else has changed the words, see [`lookup`].
     pub fn lookup(&self, address: Ipv4Addr) -> Result<Lookup, Refusal> {
         lookup(self.words(), address)
+    }
+
+    /// Counts the prefixes with a candidate that lie inside this one, itself included; inside [`Prefix::DEFAULT`] lie all.
+    ///
+    /// ```
+    /// use toggleash::{words_for, Candidate, Prefix, Table};
+    ///
+    /// # fn main() -> Result<(), Box<dyn std::error::Error>> {
+    /// let mut table = Table::new(vec![0; words_for(7).unwrap()])?;
+    /// table.announce("10.0.0.0/8".parse()?, Candidate::via(1))?;
+    /// table.announce("10.1.4.0/22".parse()?, Candidate::via(2))?;
+    /// assert_eq!(table.within(Prefix::DEFAULT), Ok(2));
+    /// assert_eq!(table.within("10.1.0.0/16".parse()?), Ok(1));
+    /// assert_eq!(table.within("11.0.0.0/8".parse()?), Ok(0));
+    /// # Ok(())
+    /// # }
+    /// ```
+    ///
+    /// # Errors
+    /// [`Refusal::NotATable`] only where something else has changed the words, see [`within`].
+    pub fn within(&self, prefix: Prefix) -> Result<u32, Refusal> {
+        within(self.words(), prefix.address(), prefix.length().into())
     }
 
     /// Writes the candidates as a feed of announcements and an end, and gives the part of the buffer that it filled.

@@ -4,16 +4,27 @@
 --     10.1.4.0/22, L = 4      level 2, depth 6, value 1: the first 6 bits of byte 4
 use mathlib.Core.Path.{_≡_}
 use mathlib.Core.Logic.{_⊎_, inl, inr, ⊎-elim}
+use mathlib.Core.Bool.{cond}
 use Prim.Native.Nat.{ℕ, _+_, _-_, _*_, _/_, _%_, _^_, _≤_, _<_}
 use native.Mathlib.Omega.{arith}
-use Rattle.logic.specs.Cases.{same}
+use Rattle.logic.specs.Cases.{same, less}
 use Rattle.numbers.specs.Front.{byteOf, value}
+use Rattle.routes.specs.Route.{tooLong, stray}
 use Rattle.routes.specs.Room.{level}
 
 -- no bit after the length is set
 pub record IsPrefix (L a l : ℕ) : Type 0 where
   pub fits : l ≤ 8 * L
   pub clean : a % 2 ^ (8 * L - l) ≡ 0
+
+-- the number of the first fault of a prefix, 0 where it has none
+abbrev pub prefixFault : ℕ → ℕ → ℕ → ℕ
+prefixFault W a l = cond (tooLong W l) 3 (cond (stray W a l) 4 0)
+
+pub no-fault : (L a l : ℕ) → prefixFault (8 * L) a l ≡ 0 → IsPrefix L a l
+no-fault L a l e =
+    less (8 * L) l (λ _ t. absurd (omega (arith, rw t at e)))
+    (λ h t. same (a % 2 ^ (8 * L - l)) 0 (λ q _. record { fits = h; clean = q }) (λ _ y. absurd (omega (arith, rw (t, y) at e))))
 
 pub record Stands (L a l k d x : ℕ) : Type 0 where
   pub top : k < L

@@ -8,7 +8,8 @@ ghost use Rattle.routes.specs.Route.{stray as strayOf};
 ghost use Rattle.routes.specs.Room.{level as levelOf};
 ghost use Rattle.numbers.specs.Digits.{four};
 ghost use Rattle.numbers.specs.Front.{byteOf};
-ghost use Rattle.address.specs.Address.{Stands};
+ghost use Rattle.sizes.specs.Sizes.{levelBound};
+ghost use Rattle.address.specs.Address.{Stands, prefixFault};
 ghost use Rattle.numbers.specs.Number.{number};
 
 // The bytes of an IPv4 address.
@@ -94,4 +95,19 @@ pub fn stray(address: &[u8], length: u32) -> bool
         return true;
     }
     set_from(address, k + 1)
+}
+
+// The number of the first fault of a prefix, 0 where it has none.
+pub fn prefix_fault(address: &[u8], length: u32) -> u32
+    requires { ⌜ size (now address) < levelBound ⌝ }
+    ensures { λ r. ⌜ r ≡ prefixFault (8 * size (now (address .entry))) (number (now (address .entry))) length ⌝ }
+{
+    let width = 8 * address.len() as u32;
+    if length > width {
+        return 3;
+    }
+    if stray(address, length) {
+        return 4;
+    }
+    0
 }

@@ -24,6 +24,11 @@ use Rattle.audit.specs.declared.Checked.{Checked}
 use Rattle.audit.specs.declared.Checked.the-variants as checked
 use Rattle.replies.specs.Said.{saidReply, replyOf, said-back}
 use Rattle.lookup.specs.Walk.{walk}
+use Rattle.inside.specs.Seen.{withinOn}
+use Rattle.within.specs.Walk as total
+use Rattle.within.specs.Answer.{withinAnswer}
+use Rattle.within.specs.declared.Inside.{Inside}
+use Rattle.within.specs.declared.Inside.the-variants as inside
 use Rattle.update.specs.Update as update
 use Rattle.writing.specs.Answer.{countAnswer, HasFilled, front-length, front-none}
 use Rattle.writing.specs.declared.Counted.{Counted as Size}
@@ -32,9 +37,11 @@ use Rattle.feed.specs.Runs as feed
 use Rattle.feed.specs.declared.Report.{Report}
 use Rattle.feed.specs.declared.Ran.{Ran}
 use Rattle.feed.specs.declared.Ran.the-variants as stop
-use Rattle.toggleash.specs.Face.{refusal, counted, looked, updated, wrote, ran, HasCleared, HasUpdated, HasWritten, HasRun}
+use Rattle.toggleash.specs.Face.{refusal, counted, looked, totalled, updated, wrote, ran}
+use Rattle.toggleash.specs.Face.{HasCleared, HasUpdated, HasWritten, HasRun}
 use Rattle.toggleash.specs.declared.Counted.{Counted}
 use Rattle.toggleash.specs.declared.Found.{Found}
+use Rattle.toggleash.specs.declared.Total.{Total}
 use Rattle.toggleash.specs.declared.Updated.{Updated}
 use Rattle.toggleash.specs.declared.Written.{Written}
 use Rattle.toggleash.specs.declared.Ran.{Ran as Fields}
@@ -86,6 +93,23 @@ pub lookup-below : (ws : List ℕ) (a : ℕ) (r : Found) → r ≡ looked (looku
 lookup-below ws a r p =
     let y : Reply = lookupOn 32 (seen 4 ws) (walk 4 ws a) a in
     record { answer = replyOf y; told = p ∙ ap looked (sym (said-back y)); promise = said-back y }
+
+-- ---- toggleash_within
+
+abbrev asInside : Answer ℕ → Inside
+asInside (gives n) = inside.Prefixes n
+asInside (refuses n) = inside.Refused n
+
+inside-back : (a : Answer ℕ) → withinAnswer (asInside a) ≡ a
+inside-back (gives n) = refl
+inside-back (refuses n) = refl
+
+pub within-below : (ws : List ℕ) (a l : ℕ) (r : Total) → r ≡ totalled (withinOn 32 (seen 4 ws) (total.walk 4 ws a l) a l)
+    → Below (λ m. totalled (withinAnswer m)) (λ m. withinAnswer m ≡ withinOn 32 (seen 4 ws) (total.walk 4 ws a l) a l) r
+within-below ws a l r p =
+    let y : Answer ℕ = withinOn 32 (seen 4 ws) (total.walk 4 ws a l) a l in
+    let e = inside-back y in
+    record { answer = asInside y; told = p ∙ ap totalled (sym e); promise = e }
 
 -- ---- toggleash_announce, toggleash_withdraw
 

@@ -26,6 +26,11 @@ use Rattle.audit.specs.declared.Checked.{Checked}
 use Rattle.replies.specs.Said.{saidReply}
 use Rattle.replies.specs.declared.Reply as code
 use Rattle.lookup.specs.Walk.{walk}
+use Rattle.inside.specs.Inside.{prefixesInside}
+use Rattle.inside.specs.Seen.{asked, withinOn}
+use Rattle.within.specs.Walk as total
+use Rattle.within.specs.Answer.{withinAnswer}
+use Rattle.within.specs.declared.Inside.{Inside}
 use Rattle.feed.specs.Runs.{HasRun, reportOf}
 use Rattle.feed.specs.declared.Report.{Report}
 use Rattle.feed.specs.declared.Ran.{Ran}
@@ -39,11 +44,13 @@ use Rattle.feed.specs.Series.{Series, all-answered}
 
 -- ---- words that stand for a list
 
--- lookup answers by it, the check counts it, and writing out gives it
+-- lookup and within answer by it, the check counts it, and writing out gives it
 pub record Holds (A : ℕ) (cs : List Candidate) (ws : List ℕ) : Type 0 where
   pub list : seen 4 ws ≡ table A cs
   pub lookups : (a : ℕ) (r : code.Reply) → saidReply r ≡ lookupOn 32 (seen 4 ws) (walk 4 ws a) a
       → saidReply r ≡ lookedUp 32 cs a
+  pub insides : (a l : ℕ) (r : Inside) → withinAnswer r ≡ withinOn 32 (seen 4 ws) (total.walk 4 ws a l) a l
+      → withinAnswer r ≡ asked 32 a l (gives (prefixesInside 32 cs a l))
   pub checks : (r : Checked) → checkAnswer r ≡ checkOn 32 (seen 4 ws)
       → checkAnswer r ≡ gives (record { routes = length cs; arrays = need 32 (winners cs) })
   pub fronts : (b front : List ℕ) → 10 * length cs + 1 ≤ length b → front ≡ frontOn (seen 4 ws) (length b) → front ≡ written cs
@@ -53,6 +60,7 @@ holds A cs ws e =
     record {
       list = e;
       lookups = λ a r p. rw e at p;
+      insides = λ a l r p. rw e at p;
       checks = λ r p. rw e at p;
       fronts = λ b x h p. p ∙ rw (e, le-ltb (length b) (10 * length cs + 1) h);
     }

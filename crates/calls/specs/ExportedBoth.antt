@@ -20,29 +20,36 @@ use Rattle.candidates.specs.Runs.{run}
 use Rattle.candidates.specs.Seen.{table, lookupOn, checkOn}
 use Rattle.words.specs.Table.{seen}
 use Rattle.lookup.specs.Walk.{walk}
+use Rattle.routes.specs.Seen.{gives}
+use Rattle.inside.specs.Inside.{prefixesInside}
+use Rattle.inside.specs.Seen.{asked, withinOn}
+use Rattle.within.specs.Walk as total
 use Rattle.feed.specs.Runs.{HasRun as Made, runAnswer, reportOf}
 use Rattle.feed.specs.declared.Report.{Report}
 use Rattle.feed.specs.declared.Ran.{Ran}
 use Rattle.feed.specs.declared.Ran.the-variants.{Stopped}
 use Rattle.weaves.specs.Feeds.{Weave, flip, heard, kept, keptBoth, Union, Meets, Closes, bytes, readBack}
-use Rattle.toggleash.specs.Face.{counted, looked, ran, HasWritten, HasRun}
+use Rattle.toggleash.specs.Face.{counted, looked, totalled, ran, HasWritten, HasRun}
 use Rattle.toggleash.specs.declared.Counted.{Counted}
 use Rattle.toggleash.specs.declared.Found.{Found}
+use Rattle.toggleash.specs.declared.Total.{Total}
 use Rattle.toggleash.specs.declared.Written.{Written}
 use Rattle.toggleash.specs.declared.Ran.{Ran as Fields}
 use Rattle.calls.specs.Held.{stopped}
 use Rattle.calls.specs.Round.{filled-front}
 use Rattle.calls.specs.Both as rattle
-use Rattle.calls.specs.Below.{Below, lookup-below, check-below, write-below, run-below}
+use Rattle.calls.specs.Below.{Below, lookup-below, within-below, check-below, write-below, run-below}
 use Rattle.calls.specs.Exported.{Cleared, Series, cleared, series-below}
 
 -- ---- words that stand for a list
 
--- toggleash_lookup answers by it, toggleash_check counts it, and toggleash_write_out gives it
+-- toggleash_lookup and toggleash_within answer by it, toggleash_check counts it, and toggleash_write_out gives it
 pub record Holds (A : ℕ) (cs : List Candidate) (ws : List ℕ) : Type 0 where
   pub list : seen 4 ws ≡ table A cs
   pub lookups : (a : ℕ) (r : Found) → r ≡ looked (lookupOn 32 (seen 4 ws) (walk 4 ws a) a)
       → r ≡ looked (lookedUp 32 cs a)
+  pub insides : (a l : ℕ) (r : Total) → r ≡ totalled (withinOn 32 (seen 4 ws) (total.walk 4 ws a l) a l)
+      → r ≡ totalled (asked 32 a l (gives (prefixesInside 32 cs a l)))
   pub checks : (r : Counted) → r ≡ counted (checkOn 32 (seen 4 ws))
       → r ≡ record { refusal = 0; routes = length cs; arrays = need 32 (winners cs) }
   pub fronts : (b c : List ℕ) (r : Written) → 10 * length cs + 1 ≤ length b → HasWritten ws b c r → take (r .bytes) c ≡ written cs
@@ -54,6 +61,7 @@ holds {A} {cs} {ws} h =
     record {
       list = h .list;
       lookups = λ a r p. (let b = lookup-below ws a r p in b .told ∙ ap looked (h .lookups a (b .answer) (b .promise)));
+      insides = λ a l r p. (let b = within-below ws a l r p in b .told ∙ ap totalled (h .insides a l (b .answer) (b .promise)));
       checks = λ r p. (let b = check-below ws r p in b .told ∙ ap counted (h .checks (b .answer) (b .promise)));
       fronts = λ b c r l p.
           h .fronts b (take (r .bytes) c) l (filled-front (seen 4 ws) b (r .bytes) c (write-below ws b c r p .promise .1));

@@ -11,16 +11,19 @@ use Rattle.candidates.specs.Answers.{Update}
 use Rattle.candidates.specs.Seen.{answerOn, lookupOn, clearOn, checkOn, runOn}
 use Rattle.words.specs.Table.{seen}
 use Rattle.lookup.specs.Walk.{walk}
+use Rattle.inside.specs.Seen.{withinOn}
+use Rattle.within.specs.Walk as total
 use Rattle.lengths.specs.Marks.{wordsFor}
 use Rattle.listing.specs.Listed.{listed, listedIn}
 use Rattle.lengths_build.specs.Answer.{needOn, buildOn}
 use Rattle.listing.specs.Records.{Bytes}
 use Rattle.lengths.specs.Layout as copy
 use Rattle.lengths_build.specs.Sharp.{Alike, words-sharp}
-use Rattle.toggleash.specs.Face.{HasCleared, HasUpdated, HasWritten, HasRun, counted, looked}
+use Rattle.toggleash.specs.Face.{HasCleared, HasUpdated, HasWritten, HasRun, counted, looked, totalled}
 use Rattle.toggleash.specs.Copies.{HasBuilt, needed, matched}
 use Rattle.toggleash.specs.declared.Counted.{Counted}
 use Rattle.toggleash.specs.declared.Found.{Found}
+use Rattle.toggleash.specs.declared.Total.{Total}
 use Rattle.toggleash.specs.declared.Updated.{Updated}
 use Rattle.toggleash.specs.declared.Written.{Written}
 use Rattle.toggleash.specs.declared.Ran.{Ran as Fields}
@@ -58,6 +61,10 @@ check-agrees ws r r′ p q = p ∙ sym q
 pub lookup-agrees : (ws : List ℕ) (a : ℕ) (r r′ : Found) → r ≡ looked (lookupOn 32 (seen 4 ws) (walk 4 ws a) a)
     → r′ ≡ looked (lookupOn 32 (seen 4 ws) (walk 4 ws a) a) → r ≡ r′
 lookup-agrees ws a r r′ p q = p ∙ sym q
+
+pub within-agrees : (ws : List ℕ) (a l : ℕ) (r r′ : Total) → r ≡ totalled (withinOn 32 (seen 4 ws) (total.walk 4 ws a l) a l)
+    → r′ ≡ totalled (withinOn 32 (seen 4 ws) (total.walk 4 ws a l) a l) → r ≡ r′
+within-agrees ws a l r r′ p q = p ∙ sym q
 
 pub update-agrees : (ws : List ℕ) (u : Update) (vs vs′ : List ℕ) (r r′ : Updated) → HasUpdated ws vs u r → HasUpdated ws vs′ u r′
     → Agree (ByReply (answerOn 32 (seen 4 ws) u)) vs vs′ r r′

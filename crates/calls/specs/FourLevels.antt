@@ -12,9 +12,10 @@ use native.Mathlib.Omega.{arith}
 use lib.ListN.{length, getD, set, length-set}
 use lib.Seq.{getD-set-same, getD-set-other, ext-getD}
 use lib.Pow.{shr-shr, shr-lt}
-use Rattle.sizes.specs.Sizes.{arrayWords, slotAt, slotEnd, cellCount, cellsAt, cellSlots, arrayAt, wordAt, cellAt, hopBound}
+use Rattle.sizes.specs.Sizes.{arrayWords, slotAt, slotEnd, cellCount, cellsAt, cellSlots, totalsAt, totalAt, arrayAt}
+use Rattle.sizes.specs.Sizes.{wordAt, cellAt, hopBound}
 use Rattle.routes.specs.Small.{ip}
-use Rattle.logic.specs.Cases.{same}
+use Rattle.logic.specs.Cases.{same, less}
 use Rattle.candidates.specs.Keyed.{put}
 use Rattle.candidates.specs.Candidate.{Candidate, candidate, key}
 use Rattle.candidates.specs.Seen.{table}
@@ -39,7 +40,8 @@ use Rattle.tree.specs.Need.{node-child}
 use Rattle.gather.specs.Views.{feedView, wordHeld, view-shape}
 use Rattle.gather.specs.Hung.{gathered-same}
 use Rattle.gather.specs.WordSet.{TreeWordSet, tree-put}
-use Rattle.words.specs.Words.{feedsOf, arraysOf, arrayCount, wordsOf, slotsOf, bestsOf, blocksOf}
+use Rattle.totals.specs.Sums.{Sums}
+use Rattle.words.specs.Words.{feedsOf, arraysOf, arrayCount, wordsOf, slotsOf, bestsOf, blocksOf, totalsOf}
 use Rattle.words.specs.TableBut.{TableBut}
 use Rattle.words.specs.Lent.{lent-best, lent-link, settled-page}
 use Rattle.words.specs.Gained.{groupAt, retagged, Ends, Gained}
@@ -48,6 +50,7 @@ use Rattle.tree.specs.HungBelow.{HungBelow, node-cases, hang-held}
 use Rattle.words.specs.Gain.{Gain, gain-ends, gained-hung-below, gained-feed, gained-table-but}
 use Rattle.tree.specs.SlotSet.{Place, same-node}
 use Rattle.words.specs.SlotSet.{SlotSet, table-is-but, but-is-table, slot-set-tree, slot-set-table-but}
+use Rattle.words.specs.Retotalled.{step, retotalled, WordSet, end-slot-set, end-sums}
 use Rattle.words.specs.Clear.{cleared, cleared-word, cleared-length, cleared-table, cleared-candidates}
 use Rattle.words.specs.Table.{listOf, seen}
 use Rattle.words.specs.View.{seen-table}
@@ -196,6 +199,10 @@ module _ (ws : List ℕ) (a : ℕ) (inside : arrayAt (a + 1) ≤ length ws) wher
   anew-low : (k : ℕ) → k < cellsAt → getD (anew ws a) (wordAt a k) 0 ≡ getD ws (wordAt a k) 0
   anew-low k h = sym (page-word (anew ws a) a k (omega arith)) ∙ again .low k h ∙ page-word ws a k (omega arith)
 
+  -- what comes after the cells
+  anew-past : (k : ℕ) → totalsAt ≤ k → k < arrayWords → getD (anew ws a) (wordAt a k) 0 ≡ getD ws (wordAt a k) 0
+  anew-past k h b = sym (page-word (anew ws a) a k b) ∙ again .high k h ∙ page-word ws a k b
+
   anew-word : (s f : ℕ) → s < slotEnd → IsFeed f → wordsOf (anew ws a) a s f ≡ wordsOf ws a s f
   anew-word s f h y = anew-low (slotAt s + f - 1) (omega (arith, y .high))
 
@@ -229,8 +236,8 @@ bested ws a x f w =
 abbrev posted : List ℕ → ℕ → ℕ → ℕ → ℕ → List ℕ
 posted ws a x f w = anew (bested ws a x f w) a
 
-module _ (ws : List ℕ) (a x f n h : ℕ) (inside : arrayAt (a + 1) ≤ length ws) (small : x < cellCount) (feed : IsFeed f)
-    (low : n ≤ 255) (some : 1 ≤ h) (hop : h < hopBound) (deep : 1 ≤ levelIn (getD ws (arrayAt a) 0))
+module _ (ws : List ℕ) (a x f n h : ℕ) (array : 1 ≤ a) (inside : arrayAt (a + 1) ≤ length ws) (small : x < cellCount)
+    (feed : IsFeed f) (low : n ≤ 255) (some : 1 ≤ h) (hop : h < hopBound) (deep : 1 ≤ levelIn (getD ws (arrayAt a) 0))
     (words : RightSlot (wordsOf ws a (cellSlots + x)))
     (right : Right (levelIn (getD ws (arrayAt a) 0)) (slotsOf ws a) (bestsOf ws a)) where
   abbrev lv : ℕ
@@ -349,12 +356,29 @@ module _ (ws : List ℕ) (a x f n h : ℕ) (inside : arrayAt (a + 1) ≤ length 
       let e : arrayAt a ≡ wordAt a 0 = omega arith in
       ap (λ (k : ℕ). getD (anew ps a) k 0) e ∙ anew-low ps a room 0 (omega arith) ∙ ap (λ (k : ℕ). getD ps k 0) (sym e) ∙ tag-same
 
+  outside : (k : ℕ) → (k < arrayAt a) ⊎ (arrayAt (a + 1) ≤ k) → getD (posted ws a x f w) k 0 ≡ getD ws k 0
+  outside k o =
+      anew-outside ps a room k o ∙ ⊎-elim
+      (λ (z : k < arrayAt a). word k (λ e. omega arith) (λ e. omega (arith, within .1)))
+      (λ (z : arrayAt (a + 1) ≤ k). word k (λ e. omega arith) (λ e. omega (arith, within .0))) o
+
+  -- a word of another array
+  elsewhere : (c k : ℕ) → c ≢ a → k < arrayWords → getD (posted ws a x f w) (wordAt c k) 0 ≡ getD ws (wordAt c k) 0
+  elsewhere c k m b = outside (wordAt c k) (less c a (λ l _. inl (omega arith)) (λ l _. inr (omega arith)))
+
+  -- no total yet
+  posted-totals : (c q : ℕ) → q < slotEnd → totalsOf (posted ws a x f w) c q ≡ totalsOf ws c q
+  posted-totals c q b =
+      same c a
+      (λ e _. rw e (anew-past ps a room (totalAt q) (omega arith) (omega arith)
+      ∙ word (wordAt a (totalAt q)) (λ z. omega arith) (λ z. omega (arith, feed .high))))
+      (λ m _. elsewhere c (totalAt q) m (omega arith))
+
   posted-reslot : SlotSet ws (posted ws a x f w) a (cellSlots + x) f w
   posted-reslot = record {
     size = anew-size ps a room ∙ long;
-    outside = λ k o. anew-outside ps a room k o ∙ ⊎-elim
-        (λ (z : k < arrayAt a). word k (λ e. omega arith) (λ e. omega (arith, within .1)))
-        (λ (z : arrayAt (a + 1) ≤ k). word k (λ e. omega arith) (λ e. omega (arith, within .0))) o;
+    header = λ k b. outside k (inl (omega (arith, array)));
+    others = λ c k l m b. elsewhere c k m (omega arith);
     tag = tag-kept;
     links = λ i b. anew-link ps a room i b ∙ link-same i b;
     here = λ j y. anew-word ps a room (cellSlots + x) j (omega arith) y ∙ word-here j y;
@@ -363,6 +387,12 @@ module _ (ws : List ℕ) (a x f n h : ℕ) (inside : arrayAt (a + 1) ≤ length 
         (λ s l b. anew-slot ps a room s b) (λ i b. anew-best ps a room i b) right-now);
     settled = anew-settled ps a room;
   }
+
+-- and the totals on the path of that array, the one of level j
+unfoldable pub counted : List ℕ → ℕ → ℕ → ℕ → ℕ → List ℕ
+counted ws j x f w =
+    let vs = posted ws (j + 1) x f w in
+    retotalled j vs (j + 1) (cellSlots + x) (step (slotsOf ws (j + 1) (cellSlots + x)) (slotsOf vs (j + 1) (cellSlots + x)))
 
 -- ---- candidates in each array of the row 10.1.1
 
@@ -391,13 +421,34 @@ module _ (e : ℕ) (ws : List ℕ) (cs : List Candidate) (p : Posts e ws cs) (j 
   right-slot : RightSlot (wordsOf ws (j + 1) (cellSlots + x))
   right-slot = p .ok .words (j + 1) (cellSlots + x) (omega arith) (omega (arith, p .size)) used (omega arith) (omega arith)
 
+  abbrev ps₁ : List ℕ
+  ps₁ = posted ws (j + 1) x f (wordOf n h)
+
   abbrev us : List ℕ
-  us = posted ws (j + 1) x f (wordOf n h)
+  us = counted ws j x f (wordOf n h)
+
+  set-slot : WordSet 4 e ws ps₁ v j (j + 1) (cellSlots + x) f (wordOf n h)
+  set-slot =
+      let right = p .ok .right (j + 1) (omega arith) (omega (arith, p .size)) used in
+      record {
+        ok = p .ok;
+        leads = p .leads j deep;
+        there = omega arith;
+        low = omega arith;
+        high = omega arith;
+        slot = posted-reslot ws (j + 1) x f n h (omega arith) (omega (arith, p .size)) small feed low some hop
+            (omega (arith, level₁)) right-slot right;
+        totals = λ c q y l b. posted-totals ws (j + 1) x f n h (omega arith) (omega (arith, p .size)) small feed low some hop
+            (omega (arith, level₁)) right-slot right c q b;
+      }
 
   slot : SlotSet ws us (j + 1) (cellSlots + x) f (wordOf n h)
-  slot =
-      posted-reslot ws (j + 1) x f n h (omega (arith, p .size)) small feed low some hop (omega (arith, level₁)) right-slot
-      (p .ok .right (j + 1) (omega arith) (omega (arith, p .size)) used)
+  unfolding counted
+  slot = end-slot-set set-slot
+
+  sums : Sums (arrayCount ws) (arraysOf us) (totalsOf us)
+  unfolding counted
+  sums = end-sums set-slot
 
   slotted : TreeWordSet (feedsOf ws) (feedsOf us) (j + 1) (cellSlots + x) f (wordOf n h)
   slotted = slot-set-tree 4 e ws us (j + 1) (cellSlots + x) f (wordOf n h) (omega arith) slot
@@ -415,7 +466,7 @@ module _ (e : ℕ) (ws : List ℕ) (cs : List Candidate) (p : Posts e ws cs) (j 
   -- the slot is not free
   taken : slotsOf us (j + 1) (cellSlots + x) ≢ 0
   taken z =
-      won ws (j + 1) x f n h (omega (arith, p .size)) small feed low some hop (omega (arith, level₁)) right-slot
+      won ws (j + 1) x f n h (omega arith) (omega (arith, p .size)) small feed low some hop (omega (arith, level₁)) right-slot
       (p .ok .right (j + 1) (omega arith) (omega (arith, p .size)) used)
       (sym (ap hopIn (winner-same (wordsOf us (j + 1) (cellSlots + x))
       (withWord (wordsOf ws (j + 1) (cellSlots + x)) f (wordOf n h)) (slot .here))) ∙ z)
@@ -423,7 +474,7 @@ module _ (e : ℕ) (ws : List ℕ) (cs : List Candidate) (p : Posts e ws cs) (j 
   post : Posts 0 us (put key (candidate ((v * 256 + x) * 2 ^ (32 - (8 * j + 8))) (8 * j + 8) f n h) cs)
   post = record {
     ok = but-is-table 4 (j + 1) us (slot-set-table-but 4 e ws us (j + 1) (cellSlots + x) f (wordOf n h) (omega arith) slot
-        (p .ok) at used (right-of n h low some hop))
+        (p .ok) at used (right-of n h low some hop) sums)
         (λ _. inl (record { s = cellSlots + x; low = omega arith; high = omega arith; some = omega (arith, taken) }));
     size = slot .size ∙ p .size;
     leads = λ i b. same-node t₁ (arraysOf us) (slotted .tags) (slotted .links) (655617 / 2 ^ (8 * (3 - i))) i ∙ p .leads i b;
@@ -439,8 +490,8 @@ row = hung (hung (hung (cleared 15360) 1 10 2) 2 1 3) 3 1 4
 
 abbrev pub deep : List ℕ
 deep =
-    posted (posted (posted (posted (posted row 4 1 1 (wordOf 7 4)) 4 1 4 (wordOf 7 5)) 3 1 3 (wordOf 255 3)) 2 1 2 (wordOf 1 2))
-    1 10 1 (wordOf 0 1)
+    let hosts = counted (counted row 3 1 1 (wordOf 7 4)) 3 1 4 (wordOf 7 5) in
+    counted (counted (counted hosts 2 1 3 (wordOf 255 3)) 1 1 2 (wordOf 1 2)) 0 10 1 (wordOf 0 1)
 
 abbrev pub deepList : List Candidate
 deepList =

@@ -6,6 +6,7 @@ pub mod Three
 pub mod Both
 pub mod Sharp
 pub mod Face
+pub mod Counts
 pub mod Copy
 pub mod Below
 pub mod Sorts

@@ -21,6 +21,10 @@ use Rattle.audit.specs.declared.Checked.{Checked}
 use Rattle.replies.specs.Said.{saidReply, reply-one}
 use Rattle.replies.specs.declared.Reply as code
 use Rattle.lookup.specs.Walk.{walk}
+use Rattle.inside.specs.Seen.{withinOn}
+use Rattle.within.specs.Walk as total
+use Rattle.within.specs.Answer.{withinAnswer, within-one}
+use Rattle.within.specs.declared.Inside.{Inside}
 use Rattle.update.specs.Update.{HasUpdated, HasApplied}
 use Rattle.update.specs.Sharp as update
 use Rattle.writing.specs.Answer as writing
@@ -45,6 +49,13 @@ check-agrees ws r r′ p q = audit.check-sharp (checkOn 32 (seen 4 ws)) r r′ p
 pub lookup-agrees : (ws : List ℕ) (a : ℕ) (r r′ : code.Reply) → saidReply r ≡ lookupOn 32 (seen 4 ws) (walk 4 ws a) a
     → saidReply r′ ≡ lookupOn 32 (seen 4 ws) (walk 4 ws a) a → r ≡ r′
 lookup-agrees ws a r r′ p q = reply-one r r′ (p ∙ sym q)
+
+-- ---- within: on a table by its list, on other words by the layout's walk over them
+
+pub within-agrees : (ws : List ℕ) (a l : ℕ) (r r′ : Inside)
+    → withinAnswer r ≡ withinOn 32 (seen 4 ws) (total.walk 4 ws a l) a l
+    → withinAnswer r′ ≡ withinOn 32 (seen 4 ws) (total.walk 4 ws a l) a l → r ≡ r′
+within-agrees ws a l r r′ p q = within-one r r′ (p ∙ sym q)
 
 -- ---- announce, withdraw
 

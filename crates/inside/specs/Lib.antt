@@ -1,4 +1,5 @@
 pub mod Inside
+pub mod Seen
 pub mod Held
 pub mod Below
 pub mod Changed

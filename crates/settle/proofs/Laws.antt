@@ -93,10 +93,12 @@ module _ (l m : List ℕ) (d x f w i : ℕ) (c : Changed) (ie : i ≡ x * 2 ^ (8
   pub reslot-was : Was m i d (c .before) (c .after)
   reslot-was = rw (r .after) (was-so l m d x _ i (c .before) ie ib high (r .before) z (r .slot) (r .blocks))
 
-  pub reslot-resets : IsFeed f → (n : List ℕ) → Resettled m n → Resets l n d x f w (c .cells)
+  pub reslot-resets : IsFeed f → (n : List ℕ) → Resettled m n → Resets l n d x f w c
   reslot-resets p n y =
       let e = reset l m d x _ i (c .before) ie ib high (r .before) z (r .slot) (r .blocks) n y in
       record {
+        before = r .before;
+        after = r .after;
         word = reset-word l m d x _ i (c .before) ie ib high (r .before) z (r .slot) (r .blocks) f w p (r .word) n y;
         slot = e .0;
         settled = e .1;

@@ -14,7 +14,7 @@ use lib.Seq.{getD-set-same, getD-set-other}
 use borrow.Author.Tests.{leb-true}
 use Rattle.logic.specs.Cases.{same, most, less}
 use Rattle.logic.specs.Bools.{and-to}
-use Rattle.sizes.specs.Sizes.{arrayWords, mostArrays, cellCount, cellsAt, unusedAt, blockBound, bestBound}
+use Rattle.sizes.specs.Sizes.{arrayWords, mostArrays, cellCount, cellsAt, totalsAt, blockBound, bestBound}
 use Rattle.numbers.specs.Agree.{agreement}
 use Rattle.calm.specs.Calm.{Calm, Block, Settled}
 use Rattle.calm.specs.Taken.{Taken, parted, shares-to, taken-some, freed-some}
@@ -32,7 +32,7 @@ use Rattle.settle.specs.Settled.{SettledPage, Resettled, put-link, put-b
 pub record Relinked (l m : List ℕ) (i a : ℕ) : Type 0 where
   pub size : length m ≡ length l
   pub low : (r : ℕ) → r < cellsAt → getD m r 0 ≡ getD l r 0
-  pub high : (r : ℕ) → unusedAt ≤ r → getD m r 0 ≡ getD l r 0
+  pub high : (r : ℕ) → totalsAt ≤ r → getD m r 0 ≡ getD l r 0
   pub same-bests : (j : ℕ) → j < cellCount → bests m j ≡ bests l j
   pub here : links m i ≡ a
   pub same-links : (j : ℕ) → j < cellCount → j ≢ i → links m j ≡ links l j
@@ -53,7 +53,7 @@ module _ (l : List ℕ) (i v : ℕ) (size : length l ≡ arrayWords) (ib : i < c
   pub set-low : (r : ℕ) → r < cellsAt → getD (set l (cellsAt + i) v) r 0 ≡ getD l r 0
   set-low r h = getD-set-other l (cellsAt + i) r v 0 (λ e. omega arith)
 
-  pub set-high : (r : ℕ) → unusedAt ≤ r → getD (set l (cellsAt + i) v) r 0 ≡ getD l r 0
+  pub set-high : (r : ℕ) → totalsAt ≤ r → getD (set l (cellsAt + i) v) r 0 ≡ getD l r 0
   set-high r h = getD-set-other l (cellsAt + i) r v 0 (λ e. omega arith)
 
 -- the blocks first, then the link

@@ -22,7 +22,7 @@ use lib.ListN.{length, getD}
 use lib.Pow.{pow-pos, pow-add, shr-lt, shr-shr}
 use borrow.Author.Tests.{lt-ltb, le-ltb, le-leb, eq-eqb, ne-eqb}
 use Rattle.logic.specs.Cases.{bool, most, tri}
-use Rattle.sizes.specs.Sizes.{arrayWords, cellCount, cellsAt, unusedAt}
+use Rattle.sizes.specs.Sizes.{arrayWords, cellCount, cellsAt, totalsAt}
 use Rattle.numbers.specs.Agree.{agreement}
 use Rattle.calm.specs.Taken.{shares-to, shares-from}
 use Rattle.calm.specs.Climb.{across, across-low, across-up, across-off}
@@ -34,7 +34,7 @@ use Rattle.settle.specs.Fill.{filled, fill-length, fill-other, fill-cell
 pub record Recelled (l m : List ℕ) (h : ℕ → ℕ → ℕ) : Type 0 where
   pub size : length m ≡ length l
   pub low : (r : ℕ) → r < cellsAt → getD m r 0 ≡ getD l r 0
-  pub high : (r : ℕ) → unusedAt ≤ r → getD m r 0 ≡ getD l r 0
+  pub high : (r : ℕ) → totalsAt ≤ r → getD m r 0 ≡ getD l r 0
   pub cells : (j : ℕ) → j < cellCount → word m j ≡ h j (word l j)
 
 -- ---- the cells that share m bits with i

@@ -10,7 +10,7 @@ use Prim.Native.Nat.{ℕ, _+_, _/_, _^_, _≤_, _<_}
 use native.Mathlib.Omega.{arith}
 use lib.ListN.{length, getD}
 use Rattle.logic.specs.Cases.{bool}
-use Rattle.sizes.specs.Sizes.{slotEnd, cellCount, cellSlots, cellsAt, unusedAt, blockBound}
+use Rattle.sizes.specs.Sizes.{slotEnd, cellCount, cellSlots, cellsAt, totalsAt, blockBound}
 use Rattle.calm.specs.Same.{settled-ext}
 use Rattle.calm.specs.Calm.{Settled}
 use Rattle.calm.specs.Slotted.{slot-range}
@@ -28,7 +28,7 @@ SettledPage l = Settled (slots l) (links l) (blocks l)
 pub record Resettled (l m : List ℕ) : Type 0 where
   pub size : length m ≡ length l
   pub low : (r : ℕ) → r < cellsAt → getD m r 0 ≡ getD l r 0
-  pub high : (r : ℕ) → unusedAt ≤ r → getD m r 0 ≡ getD l r 0
+  pub high : (r : ℕ) → totalsAt ≤ r → getD m r 0 ≡ getD l r 0
   pub same-bests : (j : ℕ) → j < cellCount → bests m j ≡ bests l j
   pub same-links : (j : ℕ) → j < cellCount → links m j ≡ links l j
   pub settled : SettledPage m

@@ -108,6 +108,7 @@ module _ (l m : List ℕ) (d x hop i old : ℕ) (ie : i ≡ x * 2 ^ (8 - d)) (ib
     record {
       size = r .size ∙ s .size;
       tag = r .low 0 (omega arith) ∙ s .tag;
+      high = λ q h. r .high q h ∙ s .high q h;
       same-links = λ j b. r .same-links j b ∙ s .same-links j b;
       here = low-slots m n (r .low) (2 ^ d + x) below ∙ s .here;
       same-slots = λ q a b e. low-slots m n (r .low) q b ∙ s .same-slots q a b e;

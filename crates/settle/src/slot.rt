@@ -4,6 +4,7 @@ use super::part::fill_below;
 use super::part::part;
 use array::cell::block_in;
 use array::cell::has_link;
+use array::change::Changed;
 use array::place::first_cell;
 use sizes::CELLS_AT;
 ghost use mathlib.Core.Path.{_≡_};
@@ -71,11 +72,11 @@ fn resettle(page: &mut [u32], i: usize, d: usize, old: u32, hop: u32)
 
 // Sets the word of a feed in the slot of in-array length d and value x, to 0 for none. Where another hop wins there then, the
 // cells below that no longer slot covers take the slot's cover, and are counted; and every cell without a link has its block.
-pub fn reslot(page: &mut [u32], d: usize, x: usize, feed: usize, word: u32) -> u32
+pub fn reslot(page: &mut [u32], d: usize, x: usize, feed: usize, word: u32) -> Changed
     requires { ⌜ SlotAt (now page) d x × SettledPage (now page) × IsFeed feed ⌝ }
     ensures { λ r. ⌜ Resets (now (page .entry)) (now (page .exit)) d x feed word r ⌝ }
 {
     let changed = array::change::reslot(page, d, x, feed, word);
     resettle(page, first_cell(d, x), d, changed.before, changed.after);
-    changed.cells
+    changed
 }

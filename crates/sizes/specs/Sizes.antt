@@ -18,7 +18,7 @@ leastWords = 6144
 abbrev pub mostWords : ℕ
 mostWords = 12585984
 
--- ---- an array: its tag, its slots, its cells, and words without use
+-- ---- an array: its tag, its slots, its cells, its totals, and words without use
 
 -- the slots have the numbers 1 .. lastSlot, and slot s has a word for each feed, from slotAt s on
 abbrev pub slotWords : ℕ
@@ -54,13 +54,24 @@ slotStride = 34
 abbrev pub slotStrides : ℕ
 slotStrides = 15
 
--- the words from here on have no use, whatever they hold
-abbrev pub unusedAt : ℕ
-unusedAt = 2304
-
 -- how many words the slots and the cells are, from the first slot's on
 abbrev pub bodyWords : ℕ
 bodyWords = 2300
+
+-- each slot has a total, and its word is totalAt s; there is no slot 0, and the word at totalsAt has no use
+abbrev pub totalsAt : ℕ
+totalsAt = 2304
+
+abbrev pub totalAt : ℕ → ℕ
+totalAt s = totalsAt + s
+
+-- the slots that stand above two others are those before cellSlots, the first of them 1
+abbrev pub innerSlots : ℕ
+innerSlots = 255
+
+-- the words from here on have no use, whatever they hold
+abbrev pub unusedAt : ℕ
+unusedAt = 2816
 
 -- ---- where array a stands in the words, its word k, and its cell i
 

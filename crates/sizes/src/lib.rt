@@ -25,10 +25,12 @@ pub const CELL_COUNT: usize = 256;
 pub const CELLS_AT: usize = 2048;
 // Slot CELL_SLOTS + i is the longest above cell i.
 pub const CELL_SLOTS: usize = 256;
-// The first word of an array after the cells: from there on no word has a use, whatever it holds.
-pub const UNUSED_AT: usize = 2304;
 // How many words the slots and the cells are, from the first slot's on.
 pub const BODY_WORDS: usize = 2300;
+// The total of slot s is word TOTALS_AT + s of an array. There is no slot 0, and the word at TOTALS_AT has no use.
+pub const TOTALS_AT: usize = 2304;
+// The slots that stand above two others: from 1 to this one.
+pub const INNER_SLOTS: usize = 255;
 // The word of the root's first slot, which is that of length 0.
 pub const ROOT_SLOT: usize = 3076;
 

@@ -16,6 +16,7 @@ use Rattle.feed.specs.declared.Report.{Report}
 use Rattle.feed.specs.Runs.{reported}
 use Rattle.toggleash.specs.declared.Counted.{Counted}
 use Rattle.toggleash.specs.declared.Found.{Found}
+use Rattle.toggleash.specs.declared.Total.{Total}
 use Rattle.toggleash.specs.declared.Updated.{Updated}
 use Rattle.toggleash.specs.declared.Written.{Written}
 use Rattle.toggleash.specs.declared.Ran.{Ran as Fields}
@@ -34,6 +35,10 @@ looked (done h c) = record { refusal = 0; found = 0; hop = 0; length = 0; block 
 looked (found h l q) = record { refusal = 0; found = 1; hop = h; length = l; block = q }
 looked (none q) = record { refusal = 0; found = 0; hop = 0; length = 0; block = q }
 looked (refused n) = record { refusal = n; found = 0; hop = 0; length = 0; block = 0 }
+
+abbrev pub totalled : Answer ℕ → Total
+totalled (gives n) = record { refusal = 0; prefixes = n }
+totalled (refuses n) = record { refusal = n; prefixes = 0 }
 
 -- no update is answered by `found` or `none`
 abbrev pub updated : Reply → Updated
@@ -71,7 +76,7 @@ pub record HasUpdated (ws vs : List ℕ) (u : Update) (r : Updated) : Type 0 whe
   pub kept : (n : ℕ) → answerOn 32 (seen 4 ws) u ≡ refused n → vs ≡ ws
   -- a candidate that is held already changes no word
   pub still : seen 4 vs ≡ seen 4 ws → vs ≡ ws
-  -- an array that the prefix's path does not touch has the same words
+  -- an array off the prefix's path has the same words, and where the prefix neither appears nor goes all but its own
   pub frame : (c : ℕ) → 1 ≤ c → ¬ Touches 4 u ws vs c → Alike ws vs c
 
 pub record HasWritten (ws b c : List ℕ) (r : Written) : Type 0 where

@@ -14,11 +14,14 @@ ghost use Rattle.candidates.specs.Seen.{lookupOn, checkOn};
 ghost use Rattle.words.specs.Table.{seen};
 ghost use Rattle.lookup.specs.Walk.{walk};
 ghost use Rattle.lookup.specs.Ended.{ended};
+ghost use Rattle.inside.specs.Seen.{withinOn};
+ghost use Rattle.within.specs.Walk.{walk as totalWalk};
+ghost use Rattle.within.specs.Answer.{withinAnswer};
 ghost use Rattle.writing.specs.Answer.{countAnswer};
 ghost use Rattle.feed.specs.Runs.{runAnswer};
 ghost use Rattle.audit.specs.Answer.{clearAnswer, checkAnswer};
 ghost use Rattle.replies.specs.Said.{saidReply};
-ghost use Rattle.toggleash.specs.Face.{refusal as refusalOf, counted, looked, updated, wrote, ran};
+ghost use Rattle.toggleash.specs.Face.{refusal as refusalOf, counted, looked, totalled, updated, wrote, ran};
 ghost use Rattle.toggleash.specs.Face.{HasCleared, HasUpdated, HasWritten, HasRun};
 
 #[repr(C)]
@@ -35,6 +38,12 @@ pub struct Found {
     pub hop: u32,
     pub length: u32,
     pub block: u32,
+}
+
+#[repr(C)]
+pub struct Total {
+    pub refusal: u32,
+    pub prefixes: u32,
 }
 
 #[repr(C)]
@@ -120,6 +129,21 @@ fn finding(end: lookup::End) -> Found
     }
 }
 
+fn inside(answer: within::Inside) -> Total
+    ensures { λ r. ⌜ r ≡ totalled (withinAnswer answer) ⌝ }
+{
+    match answer {
+        within::Inside::Prefixes(n) => Total {
+            refusal: 0,
+            prefixes: n,
+        },
+        within::Inside::Refused(n) => Total {
+            refusal: n,
+            prefixes: 0,
+        },
+    }
+}
+
 // No update is found, nor nothing.
 fn change(answer: Reply) -> Updated
     ensures { λ r. ⌜ r ≡ updated (saidReply answer) ⌝ }
@@ -191,10 +215,10 @@ fn report(answer: feed::Ran) -> Ran
 // The version is in the name, so that a caller made for another one does not link (bindings/c/toggleash.h). It rises with any
 // change that such a caller would not notice: of a call, of its answer, or of what words are a table or a copy.
 #[no_mangle]
-pub extern "C" fn toggleash_version_3() -> u32
-    ensures { λ r. ⌜ r ≡ 3 ⌝ }
+pub extern "C" fn toggleash_version_4() -> u32
+    ensures { λ r. ⌜ r ≡ 4 ⌝ }
 {
-    3
+    4
 }
 
 #[no_mangle]
@@ -216,6 +240,14 @@ pub extern "C" fn toggleash_lookup(words: &[u32], address: u32) -> Found
     ensures { λ r. ⌜ r ≡ looked (lookupOn 32 (seen 4 (now (words .entry))) (walk 4 (now (words .entry)) address) address) ⌝ }
 {
     finding(lookup::walk_of(words, address))
+}
+
+#[no_mangle]
+pub extern "C" fn toggleash_within(words: &[u32], address: u32, length: u32) -> Total
+    ensures { λ r. ⌜ r ≡ totalled (withinOn 32 (seen 4 (now (words .entry)))
+        (totalWalk 4 (now (words .entry)) address length) address length) ⌝ }
+{
+    inside(within::within(words, address, length))
 }
 
 #[no_mangle]

@@ -10,6 +10,7 @@ use Rattle.sizes.specs.Sizes.{cellCount, cellSlots, slotEnd}
 use Rattle.tree.specs.Arrays.{Arrays}
 use Rattle.tree.specs.HungBelow.{HungBelow, cell-cases, other}
 use Rattle.totals.specs.Sums.{some, some-none, sum, Sums, sum-none, sum-some}
+use Rattle.totals.specs.Check.{SumsAt}
 
 module _ (A : ℕ) (t : Arrays) (T : ℕ → ℕ → ℕ) (a : ℕ) (c : Sums A t T) (h : 1 ≤ a) (w : a ≤ A)
     (f : (s : ℕ) → 1 ≤ s → s < slotEnd → t .slot a s ≡ 0) (g : (i : ℕ) → i < cellCount → t .link a i ≡ 0) where
@@ -36,6 +37,26 @@ module _ (A : ℕ) (t : Arrays) (T : ℕ → ℕ → ℕ) (a : ℕ) (c : Sums A 
 
   pub empty-none : (s : ℕ) → 1 ≤ s → s < slotEnd → T a s ≡ 0
   empty-none s l x = rows 8 s l x (omega arith)
+
+-- and totals 0 are right there
+pub none-sums : (t : Arrays) (T : ℕ → ℕ → ℕ) (a : ℕ) → ((s : ℕ) → 1 ≤ s → s < slotEnd → t .slot a s ≡ 0)
+    → ((i : ℕ) → i < cellCount → t .link a i ≡ 0) → ((s : ℕ) → 1 ≤ s → s < slotEnd → T a s ≡ 0) → SumsAt t T a
+none-sums t T a f g z = record {
+  inner = λ s l h. rw (
+    z s l (omega arith),
+    z (2 * s) (omega arith) (omega arith),
+    z (2 * s + 1) (omega arith) (omega arith),
+    f s l (omega arith),
+    some-none 0 refl,
+  );
+  outer = λ i h. rw (
+    z (cellSlots + i) (omega arith) (omega arith),
+    f (cellSlots + i) (omega arith) (omega arith),
+    g i h,
+    some-none 0 refl,
+    sum-none T 0 1 refl,
+  );
+}
 
 module _ (A L : ℕ) (t u : Arrays) (T : ℕ → ℕ → ℕ) (p i a : ℕ) (g : HungBelow A L t u p i a) where
   low : 1 ≤ a

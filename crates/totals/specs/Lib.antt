@@ -1,7 +1,9 @@
 pub mod Sums
 pub mod Counted
+pub mod Check
 pub mod Local
 pub mod Cover
+pub mod Up
 pub mod Marks
 pub mod Raise
 pub mod Most

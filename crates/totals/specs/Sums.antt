@@ -8,7 +8,7 @@ use Prim.Native.Nat.{ℕ, zero, suc, _+_, _*_, _/_, _%_, _^_, _≤_, _<_}
 use native.Mathlib.Omega.{arith}
 use lib.Dec.{eqb}
 use borrow.Author.Tests.{eq-eqb, ne-eqb}
-use Rattle.sizes.specs.Sizes.{cellCount, cellSlots}
+use Rattle.sizes.specs.Sizes.{cellCount, cellSlots, slotEnd}
 use Rattle.routes.specs.Room.{level}
 use Rattle.tree.specs.Arrays.{Arrays, down, at, node, depthOf, slotOf}
 
@@ -48,6 +48,11 @@ unfolding sum
 sum-some T zero s h = absurd (omega arith)
 sum-some T (suc a) s h = refl
 
+pub sum-ext : (T U : ℕ → ℕ → ℕ) (a s : ℕ) → (1 ≤ a → U a s ≡ T a s) → sum U a s ≡ sum T a s
+unfolding sum
+sum-ext T U zero s e = refl
+sum-ext T U (suc a) s e = e (omega arith)
+
 pub ends-early : (t : Arrays) (T : ℕ → ℕ → ℕ) (v l : ℕ) → node t (v / 2 ^ depthOf l) (level l) ≡ 0 → counted t T v l ≡ 0
 unfolding counted
 ends-early t T v l e = sum-none T _ _ e
@@ -65,3 +70,23 @@ module _ (A : ℕ) (t : Arrays) (T : ℕ → ℕ → ℕ) (c : Sums A t T) where
   unfolding sum at down some
   sum-outer zero i w h = refl
   sum-outer (suc a) i w h = c .outer (suc a) i (omega arith) w h
+
+-- other arrays and totals, where links, totals and the slots that hold something are the same
+pub sums-ext : (A : ℕ) (t u : Arrays) (T U : ℕ → ℕ → ℕ)
+    → ((a s : ℕ) → 1 ≤ a → a ≤ A → 1 ≤ s → s < slotEnd → some (u .slot a s) ≡ some (t .slot a s))
+    → ((a i : ℕ) → 1 ≤ a → a ≤ A → i < cellCount → u .link a i ≡ t .link a i)
+    → ((a s : ℕ) → 1 ≤ a → 1 ≤ s → s < slotEnd → U a s ≡ T a s) → Sums A t T → Sums A u U
+sums-ext A t u T U f g h c = record {
+  inner = λ a s l w x y. rw (
+    h a s l x (omega arith),
+    f a s l w x (omega arith),
+    h a (2 * s) l (omega arith) (omega arith),
+    h a (2 * s + 1) l (omega arith) (omega arith),
+  ) (c .inner a s l w x y);
+  outer = λ a i l w x. rw (
+    h a (cellSlots + i) l (omega arith) (omega arith),
+    f a (cellSlots + i) l w (omega arith) (omega arith),
+    g a i l w x,
+    sum-ext T U (t .link a i) 1 (λ z. h (t .link a i) 1 z (omega arith) (omega arith)),
+  ) (c .outer a i l w x);
+}

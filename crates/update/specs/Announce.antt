@@ -9,14 +9,14 @@ use Prim.Native.Nat.{ℕ, _+_, _-_, _*_, _/_, _^_, _≤_, _<_}
 use native.Mathlib.Omega.{arith}
 use lib.Dec.{eqb}
 use lib.ListN.{getD}
-use lib.Pow.{pow-mono}
+use lib.Pow.{pow-pos, pow-mono}
 use borrow.Author.Tests.{eq-eqb, ne-eqb, lt-ltb, le-ltb}
 use Rattle.sizes.specs.Sizes.{arrayWords, hopBound, slotEnd}
 use Rattle.routes.specs.Route.{Route, route, hopAt, insert}
 use Rattle.routes.specs.Collect.{routes}
 use Rattle.routes.specs.Room.{needTo, need}
 use Rattle.routes.specs.Answers.{done, refused, lacking}
-use Rattle.logic.specs.Cases.{bool}
+use Rattle.logic.specs.Cases.{bool, same}
 use Rattle.laws.specs.Collect.{routes-hop}
 use Rattle.candidates.specs.Keyed.{Ordered, find, put, Every}
 use Rattle.candidates.specs.Candidate.{Candidate, candidate, place, key}
@@ -35,7 +35,8 @@ use Rattle.tree.specs.Missing.{need-more}
 use Rattle.gather.specs.Views.{wordHeld}
 use Rattle.gather.specs.WordSet.{TreeWordSet, tree-put}
 use Rattle.gather.specs.Hung.{gathered-same}
-use Rattle.words.specs.Words.{feedsOf, arraysOf, arrayCount, wordsOf}
+use Rattle.totals.specs.Sums.{some as some-of, some-one}
+use Rattle.words.specs.Words.{feedsOf, arraysOf, arrayCount, wordsOf, slotsOf}
 use Rattle.words.specs.TableBut.{TableBut, Table}
 use Rattle.words.specs.Table.{listOf}
 use Rattle.words.specs.Listed.{table-list}
@@ -49,7 +50,8 @@ use Rattle.paths.specs.Held.{Sought, sought-wide, sought-head, sought-small, so
 use Rattle.paths.specs.Held.{sought-gone, sought-word, sought-same}
 use Rattle.replies.specs.declared.Reply.the-variants.{Done, Refused}
 use Rattle.update.specs.Update.{HasApplied}
-use Rattle.update.specs.Seat.{Seat, Seated, seat-at}
+use Rattle.update.specs.Reseat.{Sits, Reseated, sits-at}
+use Rattle.update.specs.Prefix.{won-slot}
 use Rattle.update.specs.Reloaded.{seated-tree, seated-won, seated-cells}
 use Rattle.update.specs.Spared.{spared-hung}
 
@@ -151,8 +153,8 @@ module _ {L : ℕ} {ws : List ℕ} {a l f k d x j b w : ℕ} (s : Sought L ws a 
         spot : Place (arrayCount vs) L (arraysOf vs) r (front L a k) k d x
         spot = sought-at s (arrayCount vs) (arraysOf vs) r (grown .leads) (grown .some)
 
-        pub announce-seat : Seat vs r k d x
-        announce-seat = seat-at L r vs r (front L a k) k d x (grown .ok) spot
+        pub announce-sits : Sits L vs r k d x
+        announce-sits = sits-at L r vs r (front L a k) k d x (grown .ok) spot
 
         same-before : listOf L vs ≡ listOf L ws
         same-before = gathered-same (wordHeld (feedsOf vs)) (wordHeld (feedsOf ws)) (grown .held) (8 * L)
@@ -172,14 +174,14 @@ module _ {L : ℕ} {ws : List ℕ} {a l f k d x j b w : ℕ} (s : Sought L ws a 
             let e = le-ltb (arrayCount ws) (need (8 * L) (insert (route a l h) (winners (listOf L ws)))) room in
             bool (eqb (hopAt (winners (listOf L ws)) (a * 256 + l)) 0) (λ t. rw (t, e)) (λ t. rw t)
 
-        module _ (byte : n ≤ 255) (us : List ℕ) (c : ℕ) (p : Seated vs us r d x f (wordOf n h) c) where
+        module _ (byte : n ≤ 255) (us : List ℕ) (c : ℕ) (p : Reseated vs us r k d x f (wordOf n h) c) where
           right : RightWord (wordOf n h)
           right = right-of n h byte hop low
 
           almost : TableBut L r us
           almost =
               slot-set-table-but L r vs us r (2 ^ d + x) f (wordOf n h) (grown .some) (p .slot) (grown .ok) (inr refl)
-              (omega (arith, lv .level)) right
+              (omega (arith, lv .level)) right (p .sums)
 
           -- the candidate's slot has a winner
           taken : 1 ≤ 2 ^ d + x → arraysOf us .slot r (2 ^ d + x) ≢ 0
@@ -206,6 +208,20 @@ module _ {L : ℕ} {ws : List ℕ} {a l f k d x j b w : ℕ} (s : Sought L ws a 
                 some = omega (arith, some);
               })
 
+          -- a prefix that was held had its whole path, and its slot taken
+          held-before : winning (listOf L ws) (a * 256 + l) ≢ 0
+              → (j ≡ k) × (some-of (slotsOf us r (2 ^ d + x)) ≡ some-of (slotsOf vs r (2 ^ d + x)))
+          held-before z =
+              let none : j ≢ k → winning (listOf L ws) (a * 256 + l) ≡ 0 =
+              λ m. sym (winners-hop (listOf L ws) (a * 256 + l)) ∙ no-winner m in
+              let whole : j ≡ k = same j k (λ e _. e) (λ m _. absurd (z (none m))) in
+              let had : slotsOf vs r (2 ^ d + x) ≢ 0 =
+              λ e. z (ap (λ (cs : List Candidate). winning cs (a * 256 + l)) (sym same-before)
+              ∙ won-slot s vs (grown .ok) r (grown .leads) (grown .some) ∙ e) in
+              let lo : 1 ≤ 2 ^ d + x = omega (arith, pow-pos d) in
+              let has = taken lo in
+              (whole, some-one _ (omega arith) ∙ sym (some-one _ (omega arith)))
+
           tree : TreeWordSet (feedsOf vs) (feedsOf us) r (2 ^ d + x) f (wordOf n h)
           tree = seated-tree (grown .ok) spot p
 
@@ -228,6 +244,6 @@ module _ {L : ℕ} {ws : List ℕ} {a l f k d x j b w : ℕ} (s : Sought L ws a 
             still = λ e. absurd (other (sym (sought-word s)
                 ∙ ap (λ (cs : List Candidate). wordFor (find key cs (place a l f))) (sym e ∙ with-candidate)
                 ∙ ap wordFor (put-same key new (listOf L ws))));
-            frame = λ c h n. spared-hung (s .ok .shape) (s .stands .top) (s .stops) grown (p .slot)
-                (seated-won (grown .ok) spot p) c h (rw (stands-level L a l k d x (s .stands)) at n);
+            frame = spared-hung l (s .stands .top) (stands-level L a l k d x (s .stands)) grown p (seated-won (grown .ok) spot p)
+                held-before;
           }

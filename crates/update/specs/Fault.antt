@@ -13,7 +13,7 @@ use Rattle.routes.specs.Answers.{Reply, refused}
 use Rattle.candidates.specs.Candidate.{badFeed}
 use Rattle.candidates.specs.Answers.{Update, announce, withdraw, faulty}
 use Rattle.slots.specs.Word.{IsFeed}
-use Rattle.address.specs.Address.{IsPrefix}
+use Rattle.address.specs.Address.{IsPrefix, prefixFault}
 use Rattle.update.specs.Update.{faultOf}
 
 -- 3, 4, 5, 10
@@ -26,10 +26,7 @@ faulty-by W (withdraw a l f) r =
     bool (tooLong W l) (λ e. rw e)
     (λ e. rw e (bool (stray W a l) (λ y. rw y) (λ y. rw y (bool (badFeed f) (λ z. rw z) (λ z. rw z)))))
 
--- ---- the fault of a prefix, of a hop, of a feed, 0 where it has none
-
-abbrev pub prefixFault : ℕ → ℕ → ℕ → ℕ
-prefixFault W a l = cond (tooLong W l) 3 (cond (stray W a l) 4 0)
+-- ---- the fault of a hop, of a feed, 0 where it has none
 
 abbrev pub hopFault : ℕ → ℕ
 hopFault h = cond (badHop h) 5 0

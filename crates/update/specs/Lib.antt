@@ -1,6 +1,8 @@
 pub mod Cells
 pub mod Update
 pub mod Seat
+pub mod Reseat
+pub mod Prefix
 pub mod Reloaded
 pub mod Announce
 pub mod Sharp

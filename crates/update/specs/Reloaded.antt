@@ -17,11 +17,11 @@ use Rattle.words.specs.Words.{feedsOf, arraysOf, arrayCount, wordsOf, slotsOf}
 use Rattle.words.specs.Table.{listOf}
 use Rattle.words.specs.TableBut.{TableBut}
 use Rattle.words.specs.SlotSet.{slot-set-tree}
-use Rattle.update.specs.Seat.{Seated}
+use Rattle.update.specs.Reseat.{Reseated}
 use Rattle.update.specs.Cells.{cells-place}
 
-module _ {L e : ℕ} {ws vs : List ℕ} {b q k d x f w c : ℕ} (ok : TableBut L e ws)
-    (p : Place (arrayCount ws) L (arraysOf ws) b q k d x) (g : Seated ws vs b d x f w c) where
+module _ {L e : ℕ} {ws vs : List ℕ} {b q k d x f w c m : ℕ} (ok : TableBut L e ws)
+    (p : Place (arrayCount ws) L (arraysOf ws) b q k d x) (g : Reseated ws vs b m d x f w c) where
   -- the tree with the word, and the winners' view of it
   pub seated-tree : TreeWordSet (feedsOf ws) (feedsOf vs) b (2 ^ d + x) f w
   seated-tree = slot-set-tree L e ws vs b (2 ^ d + x) f w (p .array) (g .slot)

@@ -1,7 +1,7 @@
 -- A slot of one array of the words, as the floor of one page has it: what that floor asks, and what its promise says of the
 -- words. Assumes nothing.
 use mathlib.Core.Path.{_≡_, refl, sym, ap, _∙_}
-use mathlib.Core.Logic.{_⊎_, ⊎-elim}
+use mathlib.Core.Logic.{_⊎_, _≢_, inl, inr, ⊎-elim}
 use mathlib.Core.Bool.{cond}
 use mathlib.Core.List.{List}
 use Prim.Native.Nat.{ℕ, zero, suc, _+_, _-_, _*_, _/_, _^_, _≤_, _<_}
@@ -10,8 +10,8 @@ use native.Mathlib.Omega.{arith}
 use lib.Dec.{eqb}
 use lib.ListN.{length, getD}
 use lib.Pow.{pow-add, pow-mono}
-use Rattle.logic.specs.Cases.{same}
-use Rattle.sizes.specs.Sizes.{arrayWords, slotAt, slotEnd, cellCount, cellSlots, cellsAt, arrayAt, wordAt, cellAt}
+use Rattle.logic.specs.Cases.{same, less}
+use Rattle.sizes.specs.Sizes.{arrayWords, slotAt, slotEnd, cellCount, cellSlots, cellsAt, totalAt, arrayAt, wordAt, cellAt}
 use Rattle.calm.specs.Calm.{Settled}
 use Rattle.calm.specs.Same.{settled-ext}
 use Rattle.slots.specs.Word.{IsFeed, hopIn}
@@ -26,17 +26,20 @@ use Rattle.array.specs.Page.{slots, bests, links, blocks}
 use Rattle.array.specs.Right.{Right, right-ext}
 use Rattle.array.specs.Put.{anyUp, exposed, SlotAt, wonWith, PageWordSet, PageSlotSet}
 use Rattle.array.specs.Reslot.{rewritten}
+use Rattle.array.specs.declared.change.Changed.{Changed}
 use Rattle.array.specs.Frame.{pageOf, withPage, page-word, page-length, with-length, with-in, with-other}
 use Rattle.tree.specs.Arrays.{lev}
-use Rattle.words.specs.Words.{arraysOf, arrayCount, wordsOf, slotsOf, bestsOf, blocksOf}
+use Rattle.words.specs.Words.{arraysOf, arrayCount, wordsOf, slotsOf, bestsOf, blocksOf, totalsOf}
 use Rattle.words.specs.TableBut.{TableBut}
 use Rattle.tree.specs.Tree.{node-level}
 use Rattle.tree.specs.SlotSet.{Place}
 use Rattle.words.specs.SlotSet.{SlotSet}
+use Rattle.paths.specs.Alike.{Alike}
 use Rattle.words.specs.Lent.{lent-word, lent-slot, lent-best, lent-link, page-settled}
 
 -- array a, of level k, is right, and has a slot of length d and value x
 pub record Seat (ws : List ℕ) (a k d x : ℕ) : Type 0 where
+  pub some : 1 ≤ a
   pub inside : arrayAt (a + 1) ≤ length ws
   pub level : lev (arraysOf ws) a ≡ k + 1
   pub deep : d ≤ 8
@@ -51,6 +54,7 @@ pub seat-at : (L e : ℕ) (ws : List ℕ) (a q k d x : ℕ) → TableBut L e ws 
 seat-at L e ws a q k d x ok p =
     let lv = rw (p .leads) at (node-level (arrayCount ws) L (arraysOf ws) (ok .shape) q k (rw (p .leads) (p .array))) in
     record {
+      some = p .array;
       inside = omega (arith, ok .whole, ok .low, lv .within);
       level = lv .level;
       deep = p .deep;
@@ -163,12 +167,26 @@ module _ (ws : List ℕ) (a k d x : ℕ) (s : Seat ws a k d x) where
       first = λ z. g .same-slots 1 (omega arith) (omega arith) (not-first z) ∙ page-slot 1 (omega arith) ∙ s .right .first z;
     }
 
+    -- a word of another array
+    elsewhere : (c i : ℕ) → c ≢ a → i < arrayWords → getD vs (wordAt c i) 0 ≡ getD ws (wordAt c i) 0
+    elsewhere c i n b =
+        with-other ws a m (s .inside) whole (wordAt c i) (less c a (λ l _. inl (omega arith)) (λ l _. inr (omega arith)))
+
+    -- totals stay
+    total : (c q : ℕ) → q < slotEnd → totalsOf vs c q ≡ totalsOf ws c q
+    total c q b =
+        same c a
+        (λ e _. rw e (word (totalAt q) (omega arith) ∙ g .high (totalAt q) (omega arith)
+        ∙ page-word ws a (totalAt q) (omega arith)))
+        (λ n _. elsewhere c (totalAt q) n (omega arith))
+
     seat-reslot : SlotSet ws (withPage ws a m) a (2 ^ d + x) f w
     seat-reslot =
         let lv : lev (arraysOf vs) a ≡ k + 1 = ap levelIn tag ∙ s .level in
         record {
           size = with-length ws a m (s .inside) whole;
-          outside = with-other ws a m (s .inside) whole;
+          header = λ i l. with-other ws a m (s .inside) whole i (inl (omega (arith, s .some)));
+          others = λ c i l n b. elsewhere c i n (omega arith);
           tag = tag;
           links = λ i w. ap linkIn (cell i w) ∙ g .same-links i w ∙ lent-link ws a i w;
           here = here;
@@ -179,18 +197,27 @@ module _ (ws : List ℕ) (a k d x : ℕ) (s : Seat ws a k d x) where
               (λ r l w. slot r w) (λ i w. ap linkIn (cell i w)) (λ i w _. ap blockIn (cell i w)) b;
         }
 
--- ---- feed f's word in a seat set to w, or to 0 for none: vs is ws but for that word and the array's best cells and blocks, and
--- so many cells took another best
+-- ---- feed f's word in a seat set to w, or to 0 for none: vs is ws but for that word and the array's best cells and blocks; r
+-- tells the hops that won there before and after, and how many cells took another best
 
-pub record Seated (ws vs : List ℕ) (a d x f w cells : ℕ) : Type 0 where
+pub record Seated (ws vs : List ℕ) (a d x f w : ℕ) (r : Changed) : Type 0 where
   pub slot : SlotSet ws vs a (2 ^ d + x) f w
-  pub count : cells ≡ reseated ws a d x f w
+  pub before : r .before ≡ slotsOf ws a (2 ^ d + x)
+  pub after : r .after ≡ slotsOf vs a (2 ^ d + x)
+  pub count : r .cells ≡ reseated ws a d x f w
+  pub totals : (c q : ℕ) → q < slotEnd → totalsOf vs c q ≡ totalsOf ws c q
+  pub others : (c : ℕ) → c ≢ a → Alike ws vs c
 
 -- with the words as the code has them
-pub seated : (ws vs m : List ℕ) (a k d x f w cells : ℕ) → Seat ws a k d x → Resets (pageOf ws a) m d x f w cells
-    → vs ≡ withPage ws a m → Seated ws vs a d x f w cells
-seated ws vs m a k d x f w cells s r e =
+pub seated : (ws vs m : List ℕ) (a k d x f w : ℕ) (r : Changed) → Seat ws a k d x → Resets (pageOf ws a) m d x f w r
+    → vs ≡ withPage ws a m → Seated ws vs a d x f w r
+seated ws vs m a k d x f w r s g e =
     rw e (record {
-      slot = seat-reslot ws a k d x s m f w _ (r .word) (r .slot) (r .settled);
-      count = r .cells ∙ seat-rewritten ws a k d x s f w;
+      slot = seat-reslot ws a k d x s m f w _ (g .word) (g .slot) (g .settled);
+      before = g .before ∙ page-slot ws a k d x s (2 ^ d + x) (slot-lt ws a k d x s);
+      after = g .after ∙ sym (g .slot .here)
+          ∙ sym (slot ws a k d x s m f w _ (g .word) (g .slot) (g .settled) (2 ^ d + x) (slot-lt ws a k d x s));
+      count = g .cells ∙ seat-rewritten ws a k d x s f w;
+      totals = total ws a k d x s m f w _ (g .word) (g .slot) (g .settled);
+      others = λ c n i b. elsewhere ws a k d x s m f w _ (g .word) (g .slot) (g .settled) c i n b;
     })

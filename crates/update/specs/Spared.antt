@@ -1,48 +1,57 @@
--- Which arrays an update spares: those that its path does not touch. Assumes nothing.
+-- Which arrays an update spares: all but its own and, where its prefix appears or goes, those of its path. Assumes nothing.
 use mathlib.Core.Path.{_≡_, refl, sym, ap, _∙_}
-use mathlib.Core.Logic.{_≢_, inl, inr, ⊎-elim}
+use mathlib.Core.Logic.{_⊎_, _≢_, inl, inr}
 use mathlib.Core.List.{List}
-use Prim.Native.Nat.{ℕ, zero, suc, _+_, _-_, _/_, _%_, _≤_, _<_}
+use Prim.Native.Nat.{ℕ, zero, suc, _+_, _-_, _*_, _/_, _%_, _^_, _≤_, _<_}
 use native.Mathlib.Omega.{arith}
-use Rattle.logic.specs.Cases.{same, less}
-use Rattle.sizes.specs.Sizes.{wordAt}
+use Rattle.logic.specs.Cases.{same}
 use Rattle.array.specs.Tag.{tagOf, parentIn, levelIn}
 use Rattle.tree.specs.Arrays.{Arrays, node, par}
 use Rattle.tree.specs.Shape.{Shape}
 use Rattle.tree.specs.Tree.{node-level, node-tag}
 use Rattle.tree.specs.Need.{node-above}
-use Rattle.words.specs.Words.{arraysOf, arrayCount}
+use Rattle.candidates.specs.Winners.{winning}
+use Rattle.routes.specs.Room.{level}
+use Rattle.totals.specs.Sums.{some}
+use Rattle.words.specs.Words.{arraysOf, arrayCount, slotsOf}
+use Rattle.words.specs.Table.{listOf}
 use Rattle.tree.specs.SlotSet.{TreeSlotSet, same-node}
-use Rattle.words.specs.SlotSet.{SlotSet}
 use Rattle.numbers.specs.Front.{front, front-up}
 use Rattle.paths.specs.Alike.{Alike}
 use Rattle.paths.specs.Grown.{Grown}
-use Rattle.paths.specs.Stop.{On, Stops, stops-below}
 use Rattle.paths.specs.Shrunk.{up, Freed}
+use Rattle.update.specs.Reseat.{Reseated}
 use Rattle.update.specs.Update.{Touched}
 
--- a slot of array a set: the others are alike
-reslot-alike : {ws vs : List ℕ} {a s f w : ℕ} → SlotSet ws vs a s f w → (c : ℕ) → c ≢ a → Alike ws vs c
-reslot-alike {a = a} g c n i m = g .outside (wordAt c i) (less c a (λ l _. inl (omega arith)) (λ l _. inr (omega arith)))
-
--- arrays hung at the levels j + 1 .. k, then a slot set in the last
-module _ {L : ℕ} {ws vs us : List ℕ} {a j k b r s f w h : ℕ} (shape : Shape (arrayCount ws) L (arraysOf ws)) (top : k < L)
-    (stop : Stops L ws a k j b) (g : Grown L ws vs a j k r) (re : SlotSet vs us r s f w)
-    (sl : TreeSlotSet (arraysOf vs) (arraysOf us) r s h) where
-  hung-touched : (c i : ℕ) → j ≤ i → i ≤ k → node (arraysOf vs) (front L a i) i ≡ c → Touched L (arraysOf us) (arraysOf ws) a k c
-  hung-touched c i lo hi e = record {
+-- arrays hung at the levels j + 1 .. k, then a slot set in the last. A prefix that was held had its whole path and keeps its slot
+-- taken
+module _ {L : ℕ} {ws vs us : List ℕ} {a j k r d x f w h c : ℕ} (l : ℕ) (top : k < L) (level : level l ≡ k)
+    (g : Grown L ws vs a j k r) (re : Reseated vs us r k d x f w c) (sl : TreeSlotSet (arraysOf vs) (arraysOf us) r (2 ^ d + x) h)
+    (held : winning (listOf L ws) (a * 256 + l) ≢ 0
+    → (j ≡ k) × (some (slotsOf us r (2 ^ d + x)) ≡ some (slotsOf vs r (2 ^ d + x)))) where
+  hung-on : (c i : ℕ) → i ≤ k → node (arraysOf vs) (front L a i) i ≡ c → (i ≡ k) ⊎ (winning (listOf L ws) (a * 256 + l) ≡ 0)
+      → Touched L (arraysOf us) (listOf L ws) a l c
+  hung-on c i hi e o = record {
     i = i;
-    high = hi;
+    high = rw level hi;
     on = same-node (arraysOf vs) (arraysOf us) (sl .tags) (sl .links) (front L a i) i ∙ e;
-    edge = same i k (λ q _. inl q) (λ q _. inr (stops-below L ws a shape k j b (suc i) top stop (omega arith) (omega arith)));
+    edge = rw level o;
   }
 
-  pub spared-hung : (c : ℕ) → 1 ≤ c → ¬ Touched L (arraysOf us) (arraysOf ws) a k c → Alike ws us c
-  spared-hung c l n i m =
-      reslot-alike re c (λ e. n (hung-touched c k (stop .low) (omega arith) (g .leads ∙ sym e))) i m
-      ∙ g .others c l (λ i lo hi e. n (hung-touched c i lo hi e)) i m
+  pub spared-hung : (c : ℕ) → 1 ≤ c → ¬ Touched L (arraysOf us) (listOf L ws) a l c → Alike ws us c
+  spared-hung c lo n i m =
+      same (winning (listOf L ws) (a * 256 + l)) 0
+      (λ z _. (let off : (y : ℕ) → y ≤ k → node (arraysOf vs) (front L a y) y ≢ c = λ y hi e. n (hung-on c y hi e (inr z)) in
+      re .off (front L a k) (g .leads) c (λ y hi. rw (above y hi) (off y hi)) i m ∙ g .others c lo (λ y _ hi. off y hi) i m))
+      (λ z _. (let q = held z in
+      let own : c ≢ r = λ e. n (hung-on c k (omega arith) (g .leads ∙ sym e) (inl refl)) in
+      re .still (q .1) c own i m
+      ∙ g .others c lo (λ y a b e. (let p : y ≡ k = omega (arith, q .0) in own (sym e ∙ rw p (g .leads)))) i m))
+    where
+      above : (y : ℕ) → y ≤ k → front L a k / 2 ^ (8 * (k - y)) ≡ front L a y
+      above y hi = front-up L a (k - y) y k (omega arith) (omega arith)
 
-up-zero : (t : Arrays) (b : ℕ) → up t 0 b ≡ b
+pub up-zero : (t : Arrays) (b : ℕ) → up t 0 b ≡ b
 unfolding up
 up-zero t b = refl
 
@@ -67,40 +76,37 @@ up-front A L t a k b s top e h (suc n) w =
     up-tag : (p v i z : ℕ) → z ≡ tagOf p (v % 256) (i + 2) → levelIn z ≡ suc i + 1 → parentIn z ≡ p
     up-tag p v i z e l = omega arith
 
--- a slot cleared in the array of level k, then it and those above it released while empty
-module _ {L : ℕ} {ws vs us : List ℕ} {a k b s f w h m : ℕ} (shape : Shape (arrayCount vs) L (arraysOf vs))
-    (left : Shape (arrayCount us) L (arraysOf us)) (top : k < L) (on : On L vs a k b) (re : SlotSet ws vs b s f w)
-    (sl : TreeSlotSet (arraysOf ws) (arraysOf vs) b s h) (fr : Freed vs us b m) (deep : m ≤ k) where
-  -- what is free is on no path
-  off : (v i : ℕ) → arraysOf us .tag (node (arraysOf vs) v i) ≡ 0 → node (arraysOf us) v i ≡ 0
-  off v i z =
-      same (node (arraysOf us) v i) 0 (λ q _. q)
-      (λ q _. ⊎-elim
-      (λ (e : node (arraysOf us) v i ≡ node (arraysOf vs) v i).
-      let l = node-level (arrayCount us) L (arraysOf us) left v i (omega arith) .level in
-      absurd (omega (arith, ap (arraysOf us .tag) e)))
-      (λ (e : node (arraysOf us) v i ≡ 0). e)
-      (fr .paths v i))
+-- a slot cleared in the array of level k, then it and those above it released while empty. A prefix that is held still keeps its
+-- slot taken, and its array
+module _ (L a l : ℕ) {ws vs us : List ℕ} {k b d x f w h m c : ℕ} (shape : Shape (arrayCount vs) L (arraysOf vs)) (top : k < L)
+    (level : level l ≡ k) (leads : node (arraysOf ws) (front L a k) k ≡ b) (some-array : 1 ≤ b)
+    (re : Reseated ws vs b k d x f w c) (sl : TreeSlotSet (arraysOf ws) (arraysOf vs) b (2 ^ d + x) h) (fr : Freed vs us b m)
+    (deep : m ≤ k)
+    (held : winning (listOf L us) (a * 256 + l) ≢ 0
+    → (m ≡ 0) × (some (slotsOf vs b (2 ^ d + x)) ≡ some (slotsOf ws b (2 ^ d + x)))) where
+  old-node : (v i : ℕ) → node (arraysOf vs) v i ≡ node (arraysOf ws) v i
+  old-node = same-node (arraysOf ws) (arraysOf vs) (sl .tags) (sl .links)
 
   -- the array n levels above b
-  above : (n : ℕ) → n ≤ k → up (arraysOf vs) n b ≡ node (arraysOf vs) (front L a (k - n)) (k - n)
-  above = up-front (arrayCount vs) L (arraysOf vs) a k b shape top (on .leads) (on .some)
+  above : (n : ℕ) → n ≤ k → up (arraysOf vs) n b ≡ node (arraysOf ws) (front L a (k - n)) (k - n)
+  above n h =
+      up-front (arrayCount vs) L (arraysOf vs) a k b shape top (old-node _ k ∙ leads) some-array n h ∙ old-node _ (k - n)
 
-  freed-touched : (c n : ℕ) → n ≤ m → up (arraysOf vs) n b ≡ c → Touched L (arraysOf ws) (arraysOf us) a k c
-  freed-touched c n z e = record {
-    i = k - n;
-    high = omega arith;
-    on =
-        sym (same-node (arraysOf ws) (arraysOf vs) (sl .tags) (sl .links) (front L a (k - n)) (k - n))
-        ∙ sym (above n (omega arith)) ∙ e;
-    edge = same n 0
-        (λ q _. inl (omega arith))
-        (λ q _. inr (let y : k - (n - 1) ≡ suc (k - n) = omega arith in
-        rw (← y) (off (front L a (k - (n - 1))) (k - (n - 1))
-        (rw (← (above (n - 1) (omega arith))) (fr .gone (n - 1) (omega arith))))));
-  }
+  freed-on : (c i : ℕ) → i ≤ k → node (arraysOf ws) (front L a i) i ≡ c → (i ≡ k) ⊎ (winning (listOf L us) (a * 256 + l) ≡ 0)
+      → Touched L (arraysOf ws) (listOf L us) a l c
+  freed-on c i hi e o = record { i = i; high = rw level hi; on = e; edge = rw level o }
 
-  pub spared-freed : (c : ℕ) → 1 ≤ c → ¬ Touched L (arraysOf ws) (arraysOf us) a k c → Alike ws us c
-  spared-freed c l n i x =
-      fr .others c l (λ i lo e. n (freed-touched c i lo e)) i x
-      ∙ reslot-alike re c (λ e. n (freed-touched c 0 (omega arith) (up-zero (arraysOf vs) b ∙ sym e))) i x
+  pub spared-freed : (c : ℕ) → 1 ≤ c → ¬ Touched L (arraysOf ws) (listOf L us) a l c → Alike ws us c
+  spared-freed c lo n i y =
+      same (winning (listOf L us) (a * 256 + l)) 0
+      (λ z _. (let off : (y : ℕ) → y ≤ k → node (arraysOf ws) (front L a y) y ≢ c = λ y hi e. n (freed-on c y hi e (inr z)) in
+      fr .others c lo (λ q hi e. off (k - q) (omega arith) (sym (above q (omega arith)) ∙ e)) i y
+      ∙ re .off (front L a k) leads c (λ y hi. rw (bits y hi) (off y hi)) i y))
+      (λ z _. (let q = held z in
+      let own : c ≢ b = λ e. n (freed-on c k (omega arith) (leads ∙ sym e) (inl refl)) in
+      fr .others c lo (λ p hi e. (let o : p ≡ 0 = omega (arith, q .0) in
+      own (sym e ∙ rw o (up-zero (arraysOf vs) b)))) i y
+      ∙ re .still (q .1) c own i y))
+    where
+      bits : (y : ℕ) → y ≤ k → front L a k / 2 ^ (8 * (k - y)) ≡ front L a y
+      bits y hi = front-up L a (k - y) y k (omega arith) (omega arith)

@@ -4,13 +4,14 @@ use mathlib.Core.Path.{_≡_}
 use mathlib.Core.Bool.{true, cond}
 use mathlib.Core.List.{List}
 use mathlib.Core.Logic.{_⊎_}
-use Prim.Native.Nat.{ℕ, suc, _*_, _≤_}
+use Prim.Native.Nat.{ℕ, _+_, _*_, _≤_}
 use lib.Dec.{eqb}
 use lib.ListN.{length}
 use Rattle.routes.specs.Route.{tooLong, stray, badHop}
 use Rattle.routes.specs.Room.{level}
 use Rattle.routes.specs.Answers.{isDone, isRefused}
-use Rattle.candidates.specs.Candidate.{badFeed}
+use Rattle.candidates.specs.Candidate.{Candidate, badFeed}
+use Rattle.candidates.specs.Winners.{winning}
 use Rattle.candidates.specs.Answers.{Update, announce, withdraw, changed, verdict}
 use Rattle.candidates.specs.Seen.{misfits, answerOn, afterOn}
 use Rattle.tree.specs.Arrays.{Arrays, node}
@@ -24,18 +25,19 @@ use Rattle.replies.specs.declared.Reply.{Reply}
 
 -- ---- which arrays may differ
 
--- array c stands on the path of address a in the larger of two tables, at the prefix's own level k, or above an array of the path
--- that the smaller lacks: that array was gained or freed, and c was linked to it
-pub record Touched (L : ℕ) (big small : Arrays) (a k c : ℕ) : Type 0 where
+-- array c stands on the path of the prefix a of length l in the larger of two tables, and is the prefix's own array, or the
+-- smaller table, which holds cs, does not hold the prefix: then c counts it in one of them, and was perhaps gained, freed or
+-- linked anew
+pub record Touched (L : ℕ) (big : Arrays) (cs : List Candidate) (a l c : ℕ) : Type 0 where
   pub i : ℕ
-  pub high : i ≤ k
+  pub high : i ≤ level l
   pub on : node big (front L a i) i ≡ c
-  pub edge : (i ≡ k) ⊎ (node small (front L a (suc i)) (suc i) ≡ 0)
+  pub edge : (i ≡ level l) ⊎ (winning cs (a * 256 + l) ≡ 0)
 
 -- an announcement leaves the larger table, a withdrawal finds it
 abbrev pub Touches : ℕ → Update → List ℕ → List ℕ → ℕ → Type 0
-Touches L (announce a l h f p) ws vs c = Touched L (arraysOf vs) (arraysOf ws) a (level l) c
-Touches L (withdraw a l f) ws vs c = Touched L (arraysOf ws) (arraysOf vs) a (level l) c
+Touches L (announce a l h f p) ws vs c = Touched L (arraysOf vs) (listOf L ws) a l c
+Touches L (withdraw a l f) ws vs c = Touched L (arraysOf ws) (listOf L vs) a l c
 
 -- ---- any words ws become vs, seen as tables of L levels
 

@@ -1,5 +1,6 @@
 // Announcements and withdrawals: a feed's candidate put into a table of lent words, or taken out of it. An address is its bytes,
 // as many as the table has levels.
+use array::change::Changed;
 use replies::Reply;
 use slots::word::hop_in;
 use slots::word::word_of;
@@ -12,26 +13,12 @@ ghost use Rattle.slots.specs.Word.{IsFeed};
 ghost use Rattle.words.specs.TableBut.{Table};
 ghost use Rattle.address.specs.Address.{IsPrefix};
 ghost use Rattle.numbers.specs.Number.{number};
-ghost use Rattle.update.specs.Fault.{prefixFault, feedFault, SoundRoute};
+ghost use Rattle.update.specs.Fault.{feedFault, SoundRoute};
 ghost use Rattle.update.specs.Seat.{Seat, Seated};
+ghost use Rattle.update.specs.Reseat.{Sits, Reseated};
 ghost use Rattle.update.specs.Update.{HasUpdated, HasApplied, faultOf, refusalOf};
 
-// The number of the first fault of a prefix, 0 where it has none.
-fn prefix_fault(address: &[u8], length: u32) -> u32
-    requires { ⌜ size (now address) < levelBound ⌝ }
-    ensures { λ r. ⌜ r ≡ prefixFault (8 * size (now (address .entry))) (number (now (address .entry))) length ⌝ }
-{
-    let width = 8 * address.len() as u32;
-    if length > width {
-        return 3;
-    }
-    if address::stray(address, length) {
-        return 4;
-    }
-    0
-}
-
-// The same of a feed's number.
+// The number of the fault of a feed's number, 0 where it has none.
 fn feed_fault(feed: u32) -> u32
     ensures { λ r. ⌜ r ≡ feedFault feed ⌝ }
 {
@@ -44,13 +31,13 @@ fn feed_fault(feed: u32) -> u32
     0
 }
 
-// The same of an announcement; no preference is a fault.
+// The first fault of an announcement, 0 where it has none; no preference is a fault.
 fn announce_fault(address: &[u8], length: u32, hop: u32, feed: u32) -> u32
     requires { ⌜ size (now address) < levelBound ⌝ }
     ensures { λ r. ⌜ r ≡ faultOf (8 * size (now (address .entry)))
         (announced (number (now (address .entry))) length hop feed 0) ⌝ }
 {
-    let f = prefix_fault(address, length);
+    let f = address::prefix_fault(address, length);
     if f != 0 {
         return f;
     }
@@ -68,16 +55,15 @@ fn withdraw_fault(address: &[u8], length: u32, feed: u32) -> u32
     requires { ⌜ size (now address) < levelBound ⌝ }
     ensures { λ r. ⌜ r ≡ faultOf (8 * size (now (address .entry))) (withdrawn (number (now (address .entry))) length feed) ⌝ }
 {
-    let f = prefix_fault(address, length);
+    let f = address::prefix_fault(address, length);
     if f != 0 {
         return f;
     }
     feed_fault(feed)
 }
 
-// A feed's word in the slot at a place of array a set, to 0 for none. The page of that array alone is lent; the cells rewritten
-// are counted.
-fn reslot(words: &mut [u32], a: usize, p: address::Place, feed: usize, word: u32) -> u32
+// A feed's word in the slot at a place of array a set, to 0 for none. The page of that array alone is lent.
+fn reslot(words: &mut [u32], a: usize, p: address::Place, feed: usize, word: u32) -> Changed
     requires { ⌜ Seat (now words) a (p .level) (p .depth) (p .value) × IsFeed feed ⌝ }
     ensures { λ r. ⌜ Seated (now (words .entry)) (now (words .exit)) a (p .depth) (p .value) feed word r ⌝ }
 {
@@ -86,6 +72,24 @@ fn reslot(words: &mut [u32], a: usize, p: address::Place, feed: usize, word: u32
     let d = p.depth;
     let x = p.value;
     settle::slot::reslot(&mut words[from..to], d, x, feed, word)
+}
+
+// The same, and the totals on the path of the array; the cells rewritten are counted.
+fn reseat(
+    words: &mut [u32],
+    levels: usize,
+    a: usize,
+    p: address::Place,
+    feed: usize,
+    word: u32,
+) -> u32
+    requires { ⌜ Sits levels (now words) a (p .level) (p .depth) (p .value) × IsFeed feed ⌝ }
+    ensures { λ r. ⌜ Reseated (now (words .entry)) (now (words .exit)) a (p .level) (p .depth) (p .value) feed word r ⌝ }
+{
+    let changed = reslot(words, a, p, feed, word);
+    let slot = array::place::slot_of(p.depth, p.value);
+    words::total::retotal(words, levels, a, slot, changed.before, changed.after);
+    changed.cells
 }
 
 // A candidate announced to a table. One that is held already changes no word; another replaces the feed's, in the array that is
@@ -117,7 +121,7 @@ fn announce_in(
     if a == 0 {
         return Reply::Refused(8);
     }
-    let cells = reslot(words, a, p, feed as usize, word);
+    let cells = reseat(words, address.len(), a, p, feed as usize, word);
     Reply::Done(hop, cells)
 }
 
@@ -134,7 +138,7 @@ fn withdraw_in(words: &mut [u32], address: &[u8], length: u32, feed: u32) -> Rep
     }
     let s = f.stop;
     let a = s.array;
-    let cells = reslot(words, a, f.place, feed as usize, 0);
+    let cells = reseat(words, address.len(), a, f.place, feed as usize, 0);
     paths::prune(words, address.len(), a);
     Reply::Done(hop_in(f.word), cells)
 }

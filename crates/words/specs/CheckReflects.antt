@@ -12,23 +12,25 @@ use Rattle.logic.specs.Cases.{same}
 use Rattle.logic.specs.Bools.{and-to, and-from}
 use Rattle.logic.specs.Every.{allB}
 use Rattle.logic.specs.Reflects.{Reflects, reflects-eq, reflects-and, reflects-all, reflects-as, all-from, all-to}
-use Rattle.sizes.specs.Sizes.{arrayWords, leastWords, mostWords, slotAt, lastSlot, cellCount, cellsAt, unusedAt, bodyWords}
-use Rattle.sizes.specs.Sizes.{arrayAt, wordAt, cellAt, levelBound, groupCount, restAt, restWords}
+use Rattle.sizes.specs.Sizes.{arrayWords, leastWords, mostWords, slotAt, lastSlot, slotEnd, cellCount, cellsAt, bodyWords}
+use Rattle.sizes.specs.Sizes.{totalsAt, totalAt, arrayAt, wordAt, cellAt, levelBound, groupCount, restAt, restWords}
 use Rattle.array.specs.Cell.{link-blank}
 use Rattle.array.specs.Right.{Right}
 use Rattle.calm.specs.Calm.{Settled}
 use Rattle.calm.specs.Check.{settled-reflects}
 use Rattle.slots.specs.Zeros.{zeroAt}
 use Rattle.slots.specs.Winner.{won-small}
-use Rattle.slots.specs.Slot.{RightSlot, rightSlotB, right-slot-reflects}
+use Rattle.slots.specs.Slot.{RightSlot, rightSlotB, right-slot-reflects, free-won}
 use Rattle.array.specs.Check.{emptyB}
 use Rattle.array.specs.CheckReflects.{right-reflects, full-reflects}
 use Rattle.tree.specs.Arrays.{Arrays, lev, usedIn, usedOf}
 use Rattle.tree.specs.Shape.{Child, ParentLinks, HasSlot, HasLink}
-use Rattle.words.specs.Words.{arraysOf, arrayCount, wordsOf, slotsOf, bestsOf, blocksOf}
+use Rattle.words.specs.Words.{arraysOf, arrayCount, wordsOf, slotsOf, bestsOf, blocksOf, totalsOf}
+use Rattle.totals.specs.Check.{SumsAt, sums-reflects, sums-all, sums-one}
+use Rattle.totals.specs.Empty.{empty-none, none-sums}
 use Rattle.words.specs.TableBut.{Header, RightSlotsOf, Table}
 use Rattle.tree.specs.Check.{linksB, parentLinksB, links-reflects, parent-links-reflects}
-use Rattle.words.specs.Table.{slotsB, pageB, arrayB, groupB, headerB, tableB}
+use Rattle.words.specs.Table.{slotsB, contentB, blankB, arrayB, groupB, headerB, tableB}
 
 -- something in an array
 pub some-reflects : (t : Arrays) (a : ℕ) → Reflects (not (emptyB (t .slot a) (t .link a))) (HasSlot t a ⊎ HasLink t a)
@@ -36,19 +38,38 @@ some-reflects t a = full-reflects (t .slot a) (t .link a)
 
 -- ---- one array
 
+-- words 0 hold nothing and lead nowhere
+module _ (ws : List ℕ) (a : ℕ) (z : (k : ℕ) → slotAt 1 ≤ k → k < totalsAt → getD ws (wordAt a k) 0 ≡ 0) where
+  pub blank-slots : (s : ℕ) → 1 ≤ s → s < slotEnd → slotsOf ws a s ≡ 0
+  blank-slots s l h =
+      free-won (wordsOf ws a s) (λ f y. z (slotAt s + f - 1) (omega (arith, y .low)) (omega (arith, y .high)))
+
+  pub blank-links : (i : ℕ) → i < cellCount → arraysOf ws .link a i ≡ 0
+  blank-links i h =
+      let e : cellAt a i ≡ wordAt a (cellsAt + i) = omega arith in
+      link-blank _ (rw e (z (cellsAt + i) (omega arith) (omega arith)))
+
 record Free (ws : List ℕ) (a : ℕ) : Type 0 where
   pub tag : getD ws (arrayAt a) 0 ≡ 0
-  pub blank : (k : ℕ) → slotAt 1 ≤ k → k < unusedAt → getD ws (wordAt a k) 0 ≡ 0
+  pub blank : (k : ℕ) → slotAt 1 ≤ k → k < totalsAt → getD ws (wordAt a k) 0 ≡ 0
+  pub totals : (s : ℕ) → 1 ≤ s → s < slotEnd → totalsOf ws a s ≡ 0
 
 record Used (L : ℕ) (ws : List ℕ) (a : ℕ) : Type 0 where
   pub tag : getD ws (arrayAt a) 0 ≢ 0
   pub words : RightSlotsOf ws a
   pub right : Right (lev (arraysOf ws) a) (slotsOf ws a) (bestsOf ws a)
   pub settled : Settled (slotsOf ws a) (arraysOf ws .link a) (blocksOf ws a)
+  pub sums : SumsAt (arraysOf ws) (totalsOf ws) a
   pub links : (i : ℕ) → i < cellCount
       → (arraysOf ws .link a i ≡ 0) ⊎ Child (arrayCount ws) L (arraysOf ws) a i (arraysOf ws .link a i)
   pub hung : a ≢ 1 → ParentLinks (arrayCount ws) (arraysOf ws) a
   pub some : a ≢ 1 → HasSlot (arraysOf ws) a ⊎ HasLink (arraysOf ws) a
+
+free-slots : (ws : List ℕ) (a : ℕ) → Free ws a → (s : ℕ) → 1 ≤ s → s < slotEnd → slotsOf ws a s ≡ 0
+free-slots ws a x = blank-slots ws a (x .blank)
+
+free-links : (ws : List ℕ) (a : ℕ) → Free ws a → (i : ℕ) → i < cellCount → arraysOf ws .link a i ≡ 0
+free-links ws a x = blank-links ws a (x .blank)
 
 pub slots-reflects : (ws : List ℕ) (a : ℕ) → Reflects (slotsB ws a) (RightSlotsOf ws a)
 unfolding slotsB
@@ -70,27 +91,30 @@ module _ (L : ℕ) (ws : List ℕ) (a : ℕ) where
   placed = parentLinksB A t a && not (emptyB (slotsOf ws a) (t .link a))
 
   abbrev usedB : Bool
-  usedB = pageB ws a && (linksB A L t a && (eqb a 1 || placed))
+  usedB = contentB ws a && (linksB A L t a && (eqb a 1 || placed))
 
-  page-reflects : Reflects (pageB ws a)
-      ((RightSlotsOf ws a × Right (lev t a) (slotsOf ws a) (bestsOf ws a))
-      × Settled (slotsOf ws a) (t .link a) (blocksOf ws a))
-  page-reflects =
+  content-reflects : Reflects (contentB ws a)
+      (((RightSlotsOf ws a × Right (lev t a) (slotsOf ws a) (bestsOf ws a))
+      × Settled (slotsOf ws a) (t .link a) (blocksOf ws a)) × SumsAt t (totalsOf ws) a)
+  content-reflects =
       reflects-and
+      (reflects-and
       (reflects-and (slots-reflects ws a)
       (right-reflects (lev t a) (slotsOf ws a) (bestsOf ws a) (λ s h b. won-small (wordsOf ws a s))))
-      (settled-reflects (slotsOf ws a) (t .link a) (blocksOf ws a))
+      (settled-reflects (slotsOf ws a) (t .link a) (blocksOf ws a)))
+      (sums-reflects t (totalsOf ws) a)
 
   used-to : getD ws (arrayAt a) 0 ≢ 0 → usedB ≡ true → Used L ws a
   used-to n b =
-      let x = and-to (pageB ws a) (linksB A L t a && (eqb a 1 || placed)) b in
-      let w = page-reflects .to (x .0) in
+      let x = and-to (contentB ws a) (linksB A L t a && (eqb a 1 || placed)) b in
+      let w = content-reflects .to (x .0) in
       let y = and-to (linksB A L t a) (eqb a 1 || placed) (x .1) in
       record {
         tag = n;
-        words = w .0 .0;
-        right = w .0 .1;
-        settled = w .1;
+        words = w .0 .0 .0;
+        right = w .0 .0 .1;
+        settled = w .0 .1;
+        sums = w .1;
         links = links-reflects A L t a .to (y .0);
         hung =
             λ m. ⊎-elim (λ (z : t .tag a ≡ 0). absurd (n z)) (λ (z : ParentLinks A t a). z)
@@ -103,33 +127,44 @@ module _ (L : ℕ) (ws : List ℕ) (a : ℕ) where
 
   used-from : Used L ws a → usedB ≡ true
   used-from x =
-      and-from (pageB ws a) (linksB A L t a && (eqb a 1 || placed))
-      (page-reflects .from ((x .words, x .right), x .settled))
+      and-from (contentB ws a) (linksB A L t a && (eqb a 1 || placed))
+      (content-reflects .from (((x .words, x .right), x .settled), x .sums))
       (and-from (linksB A L t a) (eqb a 1 || placed) (links-reflects A L t a .from (x .links))
       (same a 1 (λ q e. rw e) (λ n e. rw e (and-from (parentLinksB A t a) (not (emptyB (slotsOf ws a) (t .link a)))
       (parent-links-reflects A t a .from (inr (x .hung n))) (some-reflects t a .from (x .some n))))))
 
-  blank-to : allB (zeroAt ws (arrayAt a + slotAt 1)) bodyWords ≡ true → (k : ℕ) → slotAt 1 ≤ k → k < unusedAt
-      → getD ws (wordAt a k) 0 ≡ 0
-  blank-to b k h w =
-      let e : arrayAt a + slotAt 1 + (k - slotAt 1) ≡ wordAt a k = omega arith in
-      rw e at (eqb-true (getD ws (arrayAt a + slotAt 1 + (k - slotAt 1)) 0) 0
-      (all-to (zeroAt ws (arrayAt a + slotAt 1)) bodyWords b (k - slotAt 1) (omega arith)))
+  -- n words of the array from word m on are 0
+  zeros-reflect : (m n : ℕ)
+      → Reflects (allB (zeroAt ws (arrayAt a + m)) n) ((k : ℕ) → m ≤ k → k < m + n → getD ws (wordAt a k) 0 ≡ 0)
+  zeros-reflect m n =
+      reflects-as
+      (λ z k h w. (let e : arrayAt a + m + (k - m) ≡ wordAt a k = omega arith in rw e at (z (k - m) (omega arith))))
+      (λ z k h. (let e : arrayAt a + m + k ≡ wordAt a (m + k) = omega arith in rw e (z (m + k) (omega arith) (omega arith))))
+      (reflects-all (zeroAt ws (arrayAt a + m)) (λ k. getD ws (arrayAt a + m + k) 0 ≡ 0) n
+      (λ k h. reflects-eq (getD ws (arrayAt a + m + k) 0) 0))
 
-  blank-from : ((k : ℕ) → slotAt 1 ≤ k → k < unusedAt → getD ws (wordAt a k) 0 ≡ 0)
-      → allB (zeroAt ws (arrayAt a + slotAt 1)) bodyWords ≡ true
-  blank-from z =
-      all-from (zeroAt ws (arrayAt a + slotAt 1)) bodyWords
-      (λ k h. let e : arrayAt a + slotAt 1 + k ≡ wordAt a (slotAt 1 + k) = omega arith in
-      rw e (eq-eqb _ 0 (z (slotAt 1 + k) (omega arith) (omega arith))))
+  free-reflects : getD ws (arrayAt a) 0 ≡ 0 → Reflects (blankB ws a) (Free ws a)
+  free-reflects z =
+      reflects-as
+      (λ x. record {
+        tag = z;
+        blank = λ k h w. x .0 k h (omega arith);
+        totals = λ s l h. x .1 (totalAt s) (omega arith) (omega arith);
+      })
+      (λ x. (
+        λ k h w. x .blank k h (omega arith),
+        λ k h w. (let e : totalAt (k - totalsAt) ≡ k = omega arith in
+            rw e at (x .totals (k - totalsAt) (omega arith) (omega arith))),
+      ))
+      (reflects-and (zeros-reflect (slotAt 1) bodyWords) (zeros-reflect (totalAt 1) lastSlot))
 
   array-reflects : Reflects (arrayB L ws a) (Free ws a ⊎ Used L ws a)
   unfolding arrayB
   array-reflects =
       same (getD ws (arrayAt a) 0) 0
       (λ z e. rw e (record {
-        to = λ b. inl (record { tag = z; blank = blank-to b });
-        from = λ b. ⊎-elim (λ (x : Free ws a). blank-from (x .blank)) (λ (x : Used L ws a). absurd (x .tag z)) b;
+        to = λ b. inl (free-reflects z .to b);
+        from = λ b. ⊎-elim (λ (x : Free ws a). free-reflects z .from x) (λ (x : Used L ws a). absurd (x .tag z)) b;
       }))
       (λ n e. rw e (record {
         to = λ b. inr (used-to n b);
@@ -182,8 +217,7 @@ module _ (L : ℕ) (ws : List ℕ) (some : 1 ≤ L) (levels : L < levelBound) (s
       levels = levels;
       root = r;
       links = λ a i h w b. ⊎-elim
-          (λ (x : Free ws a). let e : cellAt a i ≡ wordAt a (cellsAt + i) = omega arith in
-          inl (link-blank _ (rw e (x .blank (cellsAt + i) (omega arith) (omega arith)))))
+          (λ (x : Free ws a). inl (free-links ws a x i b))
           (λ (x : Used L ws a). x .links i b) (one f a h w);
       tags =
           λ a h w. ⊎-elim (λ (x : Free ws a). inl (x .tag)) (λ (x : Used L ws a). inr (x .hung (λ e. omega arith)))
@@ -198,6 +232,9 @@ module _ (L : ℕ) (ws : List ℕ) (some : 1 ≤ L) (levels : L < levelBound) (s
     right = λ a h w p. ⊎-elim (λ (x : Free ws a). absurd (omega (arith, x .tag))) (λ (x : Used L ws a). x .right) (one f a h w);
     settled =
         λ a h w p. ⊎-elim (λ (x : Free ws a). absurd (omega (arith, x .tag))) (λ (x : Used L ws a). x .settled) (one f a h w);
+    sums = sums-all (arrayCount ws) (arraysOf ws) (totalsOf ws) (λ a h w. ⊎-elim
+        (λ (x : Free ws a). none-sums (arraysOf ws) (totalsOf ws) a (free-slots ws a x) (free-links ws a x) (x .totals))
+        (λ (x : Used L ws a). x .sums) (one f a h w));
     header = hd .0;
     rest = hd .1;
   }
@@ -205,18 +242,29 @@ module _ (L : ℕ) (ws : List ℕ) (some : 1 ≤ L) (levels : L < levelBound) (s
   from-table : Table L ws → Each
   from-table k j h =
       same (getD ws (arrayAt (j + 1)) 0) 0
-      (λ z _. inl (record { tag = z; blank = k .blank (j + 1) (omega arith) (omega arith) z }))
+      (λ z _. inl (free z))
       (λ m _. inr (record {
         tag = m;
         words = λ s x y. k .words (j + 1) s (omega arith) (omega arith) (omega arith) x y;
         right = k .right (j + 1) (omega arith) (omega arith) (omega arith);
         settled = k .settled (j + 1) (omega arith) (omega arith) (omega arith);
+        sums = sums-one (arrayCount ws) (arraysOf ws) (totalsOf ws) (k .sums) (j + 1) (omega arith) (omega arith);
         links = λ i b. k .shape .links (j + 1) i (omega arith) (omega arith) b;
         hung =
             λ e. ⊎-elim (λ (z : arraysOf ws .tag (j + 1) ≡ 0). absurd (m z))
             (λ (z : ParentLinks (arrayCount ws) (arraysOf ws) (j + 1)). z) (k .shape .tags (j + 1) (omega arith) (omega arith));
         some = λ e. k .filled (j + 1) (omega arith) (omega arith) (λ q. omega arith) (omega arith);
       }))
+    where
+      free : getD ws (arrayAt (j + 1)) 0 ≡ 0 → Free ws (j + 1)
+      free z =
+          let blank = k .blank (j + 1) (omega arith) (omega arith) z in
+          record {
+            tag = z;
+            blank = blank;
+            totals = empty-none (arrayCount ws) (arraysOf ws) (totalsOf ws) (j + 1) (k .sums) (omega arith) (omega arith)
+                (blank-slots ws (j + 1) blank) (blank-links ws (j + 1) blank);
+          }
 
   -- the check is true exactly of a table
   pub table-reflects : Reflects (tableB L ws) (Table L ws)

@@ -8,7 +8,7 @@ use native.Mathlib.Omega.{arith}
 use lib.ListN.{length, getD, set, replicate, length-set, length-replicate, getD-replicate, List·getD-eq-default}
 use lib.Seq.{getD-set-same, getD-set-other}
 use Rattle.logic.specs.Cases.{same, less}
-use Rattle.sizes.specs.Sizes.{slotAt, arrayWords, leastWords, mostWords, arrayAt, wordAt, cellAt, levelBound, perGroup}
+use Rattle.sizes.specs.Sizes.{slotAt, totalAt, arrayWords, leastWords, mostWords, arrayAt, wordAt, cellAt, levelBound, perGroup}
 use Rattle.routes.specs.Room.{level}
 use Rattle.calm.specs.Same.{none-settled}
 use Rattle.slots.specs.Word.{IsFeed}
@@ -19,10 +19,12 @@ use Rattle.array.specs.Right.{right-none}
 use Rattle.tree.specs.Arrays.{Arrays, lev, node, held, depthOf, slotOf, usedIn}
 use Rattle.tree.specs.Need.{at-some, slot-some}
 use Rattle.tree.specs.SlotSet.{at-none}
+use Rattle.totals.specs.Check.{sums-all}
+use Rattle.totals.specs.Empty.{none-sums}
 use Rattle.gather.specs.Gather.{gathered}
 use Rattle.gather.specs.Views.{feedView, wordHeld}
 use Rattle.gather.specs.Hung.{gathered-none}
-use Rattle.words.specs.Words.{feedsOf, arraysOf, wordsOf, slotsOf, bestsOf, blocksOf}
+use Rattle.words.specs.Words.{feedsOf, arraysOf, wordsOf, slotsOf, bestsOf, blocksOf, totalsOf}
 use Rattle.words.specs.TableBut.{TableBut, Table}
 use Rattle.candidates.specs.Seen.{table, misfits, arrays}
 use Rattle.words.specs.Table.{listOf, seen}
@@ -117,6 +119,8 @@ module _ (n : ℕ) (low : leastWords ≤ n) where
         (λ i b. best-blank _ (cell-none a i h));
     settled = λ a h k p. none-settled (slotsOf (cleared n) a) (t .link a) (λ r m b. slot-none a r h m) (λ j b. link-none a j h)
         (blocksOf (cleared n) a) (λ j b. ap blockIn (cell-none a j h));
+    sums = sums-all _ t (totalsOf (cleared n)) (λ a h k. none-sums t (totalsOf (cleared n)) a (λ s m b. slot-none a s h m)
+        (λ i b. link-none a i h) (λ s m b. body-none a (totalAt s) h (omega arith)));
     header = record {
       count = rw cleared-length
           (let d : n / arrayWords - 1 ≡ suc (n / arrayWords - 2) = omega arith in

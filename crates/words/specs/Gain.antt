@@ -6,7 +6,7 @@ use Prim.Native.Nat.{ℕ, _+_, _-_, _≤_, _<_}
 use native.Mathlib.Omega.{arith}
 use lib.ListN.{getD}
 use Rattle.logic.specs.Cases.{same}
-use Rattle.sizes.specs.Sizes.{slotAt, slotEnd, cellCount, cellsAt, unusedAt}
+use Rattle.sizes.specs.Sizes.{slotAt, slotEnd, cellCount, cellsAt, totalsAt}
 use Rattle.sizes.specs.Sizes.{arrayAt, wordAt, cellAt}
 use Rattle.calm.specs.Calm.{Settled}
 use Rattle.calm.specs.Same.{none-settled}
@@ -20,11 +20,12 @@ use Rattle.tree.specs.Shape.{Child}
 use Rattle.tree.specs.HungBelow.{HungBelow, hang-shape, hang-filled}
 use Rattle.gather.specs.Views.{feedView, RightWords}
 use Rattle.gather.specs.Hung.{feed-hung-below}
-use Rattle.words.specs.Words.{feedsOf, arraysOf, arrayCount, wordsOf, slotsOf, bestsOf, blocksOf}
+use Rattle.totals.specs.Empty.{gain-sums}
+use Rattle.words.specs.Words.{feedsOf, arraysOf, arrayCount, wordsOf, slotsOf, bestsOf, blocksOf, totalsOf}
 use Rattle.words.specs.TableBut.{TableBut}
 use Rattle.words.specs.Gained.{Ends, Gained}
 use Rattle.words.specs.Rehung.{re-word, re-header, re-tags, re-words, re-slots, re-cell, re-bests, re-here, re-links}
-use Rattle.words.specs.Rehung.{re-settled-here, re-settled}
+use Rattle.words.specs.Rehung.{re-settled-here, re-settled, re-sums}
 use Rattle.words.specs.Rehung.{Counted, counted-up}
 
 -- an array a that is free, and a cell i of p without a link, above the last level
@@ -107,7 +108,7 @@ module _ (L : ℕ) (ws : List ℕ) (p i a : ℕ) (ok : TableBut L p ws) (gn : Ga
       groups = λ g b n. re-header gain-ends re (g + 1) (omega arith) (λ e. omega arith) n;
     }
 
-    blank : (c : ℕ) → 1 ≤ c → c ≤ arrayCount ws → u .tag c ≡ 0 → (k : ℕ) → slotAt 1 ≤ k → k < unusedAt
+    blank : (c : ℕ) → 1 ≤ c → c ≤ arrayCount ws → u .tag c ≡ 0 → (k : ℕ) → slotAt 1 ≤ k → k < totalsAt
         → getD vs (wordAt c k) 0 ≡ 0
     blank c h w z k o b =
         let n : c ≢ a = λ e. (let q : u .tag c ≡ u .tag a = ap (u .tag) e in omega (arith, re .tag)) in
@@ -160,6 +161,9 @@ module _ (L : ℕ) (ws : List ℕ) (p i a : ℕ) (ok : TableBut L p ws) (gn : Ga
       words = rw (re .size) words;
       right = rw (re .size) right;
       settled = rw (re .size) settled;
+      sums =
+          rw (re .size) (re-sums gain-ends re (arrayCount ws)
+          (gain-sums (arrayCount ws) L t u (totalsOf ws) p i a gained-hung-below (ok .sums)));
       header = counted-up L ws vs p i a gained-hung-below gained-counted (ok .high) (ok .header);
       rest =
           λ k h w. re-header gain-ends re k w (λ e. omega arith) (λ e. omega (arith, gain-ends .within, ok .high))

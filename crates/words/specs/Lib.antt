@@ -12,5 +12,8 @@ pub mod Release
 pub mod Stock
 pub mod Clear
 pub mod SlotSet
+pub mod Added
+pub mod Climbing
+pub mod Retotalled
 pub mod Listed
 pub mod Half

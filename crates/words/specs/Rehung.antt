@@ -1,6 +1,6 @@
 -- The words after an array is gained or released: how they come about, what is seen in them, and what the header counts then.
 -- Assumes nothing.
-use mathlib.Core.Path.{_≡_, sym, ap, _∙_}
+use mathlib.Core.Path.{_≡_, refl, sym, ap, _∙_}
 use mathlib.Core.Logic.{_⊎_, _≢_, inl, inr, ⊎-elim}
 use mathlib.Core.List.{List}
 use Prim.Native.Nat.{ℕ, _+_, _-_, _*_, _/_, _≤_, _<_}
@@ -8,7 +8,7 @@ use native.Mathlib.Omega.{arith}
 use lib.ListN.{length, getD, set, length-set}
 use lib.Seq.{getD-set-same, getD-set-other, ext-getD}
 use Rattle.logic.specs.Cases.{same, less}
-use Rattle.sizes.specs.Sizes.{arrayWords, mostWords, slotAt, slotEnd, cellCount, cellsAt}
+use Rattle.sizes.specs.Sizes.{arrayWords, mostWords, slotAt, slotEnd, cellCount, cellsAt, totalsAt, totalAt}
 use Rattle.sizes.specs.Sizes.{arrayAt, wordAt, cellAt, perGroup, groupCount}
 use Rattle.slots.specs.Word.{IsFeed, hopIn}
 use Rattle.slots.specs.Winner.{winner-same}
@@ -19,7 +19,8 @@ use Rattle.settle.specs.Link.{Relinked}
 use Rattle.array.specs.Frame.{pageOf, withPage, page-word, page-length, with-length, with-in, with-other}
 use Rattle.tree.specs.Arrays.{Arrays, usedIn, usedOf}
 use Rattle.tree.specs.HungBelow.{HungBelow, used-out, used-inside}
-use Rattle.words.specs.Words.{arraysOf, arrayCount, wordsOf, slotsOf, bestsOf, blocksOf}
+use Rattle.totals.specs.Sums.{Sums, sums-ext}
+use Rattle.words.specs.Words.{arraysOf, arrayCount, wordsOf, slotsOf, bestsOf, blocksOf, totalsOf}
 use Rattle.words.specs.Lent.{lent-best, lent-link, settled-page}
 use Rattle.words.specs.TableBut.{Header}
 use Rattle.words.specs.Gained.{groupAt, retagged, Ends, Rehung}
@@ -113,6 +114,21 @@ module _ {ws vs : List ℕ} {p i a x c n m : ℕ} (g : Ends ws p i a) (r : Rehun
   -- a word of p that is no cell
   pub re-low : (k : ℕ) → k < cellsAt → getD vs (wordAt p k) 0 ≡ getD ws (wordAt p k) 0
   re-low k h = sym (page-word vs p k (omega arith)) ∙ r .page .low k h ∙ page-word ws p k (omega arith)
+
+  -- a word past the cells
+  pub re-past : (d k : ℕ) → 1 ≤ d → totalsAt ≤ k → k < arrayWords → getD vs (wordAt d k) 0 ≡ getD ws (wordAt d k) 0
+  re-past d k h l w =
+      same d p
+      (λ q _. rw q (sym (page-word vs p k w) ∙ r .page .high k l ∙ page-word ws p k w))
+      (λ n _. re-word d k h w n (inr (λ q. omega arith)))
+
+  pub re-totals : (d s : ℕ) → 1 ≤ d → 1 ≤ s → s < slotEnd → totalsOf vs d s ≡ totalsOf ws d s
+  re-totals d s h l b = re-past d (totalAt s) h (omega arith) (omega arith)
+
+  -- so their conditions, of the arrays as they are now
+  pub re-sums : (A : ℕ) → Sums A (arraysOf vs) (totalsOf ws) → Sums A (arraysOf vs) (totalsOf vs)
+  re-sums A =
+      sums-ext A (arraysOf vs) (arraysOf vs) (totalsOf ws) (totalsOf vs) (λ d s h w l b. refl) (λ d i h w b. refl) re-totals
 
   -- the header
   pub re-header : (k : ℕ) → k < arrayWords → k ≢ 0 → k ≢ groupAt a → getD vs k 0 ≡ getD ws k 0

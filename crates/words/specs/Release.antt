@@ -6,7 +6,7 @@ use Prim.Native.Nat.{ℕ, _+_, _-_, _*_, _/_, _%_, _≤_, _<_}
 use native.Mathlib.Omega.{arith}
 use lib.ListN.{getD}
 use Rattle.logic.specs.Cases.{same, less}
-use Rattle.sizes.specs.Sizes.{slotWords, slotAt, slotEnd, cellCount, cellsAt, unusedAt}
+use Rattle.sizes.specs.Sizes.{slotWords, slotAt, slotEnd, cellCount, cellsAt, totalsAt}
 use Rattle.sizes.specs.Sizes.{arrayAt, wordAt, cellAt, perGroup}
 use Rattle.calm.specs.Calm.{Settled}
 use Rattle.calm.specs.Same.{settled-none}
@@ -21,11 +21,12 @@ use Rattle.tree.specs.Free.{used-some}
 use Rattle.tree.specs.HungBelow.{HungBelow, unhang-shape, unhang-filled}
 use Rattle.gather.specs.Views.{feedView, RightWords}
 use Rattle.gather.specs.Hung.{feed-hung-below}
-use Rattle.words.specs.Words.{feedsOf, arraysOf, arrayCount, wordsOf, slotsOf, bestsOf, blocksOf}
+use Rattle.totals.specs.Empty.{free-sums}
+use Rattle.words.specs.Words.{feedsOf, arraysOf, arrayCount, wordsOf, slotsOf, bestsOf, blocksOf, totalsOf}
 use Rattle.words.specs.TableBut.{TableBut}
 use Rattle.words.specs.Gained.{groupAt, Ends, Releases, Released}
 use Rattle.words.specs.Rehung.{re-word, re-header, re-tags, re-words, re-slots, re-bests, re-here, re-links}
-use Rattle.words.specs.Rehung.{re-settled-here, re-settled, Counted, counted-down}
+use Rattle.words.specs.Rehung.{re-settled-here, re-settled, re-sums, Counted, counted-down}
 
 -- a used array that is not the root and has nothing in it
 pub record Releasable (ws : List ℕ) (a : ℕ) : Type 0 where
@@ -104,7 +105,7 @@ module _ (L : ℕ) (ws : List ℕ) (a : ℕ) (ok : TableBut L a ws) (em : Releas
   slot-word k = omega arith
 
   -- every word of a slot or a cell of a is 0
-  word-none : (k : ℕ) → slotAt 1 ≤ k → k < unusedAt → getD ws (wordAt a k) 0 ≡ 0
+  word-none : (k : ℕ) → slotAt 1 ≤ k → k < totalsAt → getD ws (wordAt a k) 0 ≡ 0
   word-none k h w =
       less k cellsAt
       (λ l _. rw (slot-word k) at (no-word (k / slotWords) (omega arith) (omega arith) (k % slotWords + 1)
@@ -153,7 +154,7 @@ module _ (L : ℕ) (ws : List ℕ) (a : ℕ) (ok : TableBut L a ws) (em : Releas
       groups = λ g b n. sym (re-header ends re (g + 1) (omega arith) (λ e. omega arith) n);
     }
 
-    blank : (c : ℕ) → 1 ≤ c → c ≤ arrayCount ws → t₁ .tag c ≡ 0 → (k : ℕ) → slotAt 1 ≤ k → k < unusedAt
+    blank : (c : ℕ) → 1 ≤ c → c ≤ arrayCount ws → t₁ .tag c ≡ 0 → (k : ℕ) → slotAt 1 ≤ k → k < totalsAt
         → getD vs (wordAt c k) 0 ≡ 0
     blank c h w z k o b =
         same c a
@@ -194,6 +195,9 @@ module _ (L : ℕ) (ws : List ℕ) (a : ℕ) (ok : TableBut L a ws) (em : Releas
       words = rw (re .size) words;
       right = rw (re .size) right;
       settled = rw (re .size) settled;
+      sums =
+          rw (re .size) (re-sums ends re (arrayCount ws)
+          (free-sums (arrayCount ws) L t₁ u₁ (totalsOf ws) p i a released-hung-below (ok .sums)));
       header =
           counted-down L vs ws p i a (rw (re .size) released-hung-below) released-counted (rw (re .size) (ok .high))
           (ok .header);

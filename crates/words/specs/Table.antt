@@ -5,7 +5,7 @@ use mathlib.Core.List.{List}
 use Prim.Native.Nat.{ℕ, _+_, _*_}
 use lib.Dec.{eqb}
 use lib.ListN.{length, getD}
-use Rattle.sizes.specs.Sizes.{arrayWords, slotAt, lastSlot, bodyWords, arrayAt, groupCount, restAt, restWords}
+use Rattle.sizes.specs.Sizes.{arrayWords, slotAt, lastSlot, bodyWords, totalAt, arrayAt, groupCount, restAt, restWords}
 use Rattle.candidates.specs.Candidate.{Candidate}
 use Rattle.candidates.specs.Seen.{Seen, misfit, foreign, table, misfits}
 use Rattle.logic.specs.Every.{allB}
@@ -14,9 +14,10 @@ use Rattle.slots.specs.Zeros.{zeroAt}
 use Rattle.slots.specs.Slot.{rightSlotB}
 use Rattle.array.specs.Check.{rightB, emptyB}
 use Rattle.tree.specs.Arrays.{lev, usedIn, usedOf}
+use Rattle.totals.specs.Check.{sumsB}
 use Rattle.gather.specs.Gather.{gathered}
 use Rattle.gather.specs.Views.{wordHeld}
-use Rattle.words.specs.Words.{feedsOf, arraysOf, arrayCount, wordsOf, slotsOf, bestsOf, blocksOf}
+use Rattle.words.specs.Words.{feedsOf, arraysOf, arrayCount, wordsOf, slotsOf, bestsOf, blocksOf, totalsOf}
 use Rattle.tree.specs.Check.{linksB, parentLinksB}
 
 -- the slots of array a: each word is none, or has a hop and a preference in their ranges
@@ -29,12 +30,20 @@ pageB ws a =
     (slotsB ws a && rightB (lev (arraysOf ws) a) (slotsOf ws a) (bestsOf ws a))
     && settledB (slotsOf ws a) (arraysOf ws .link a) (blocksOf ws a)
 
--- array a: free, its slots and cells 0; or used, its page right, its links leading to arrays that name their cell, and, the root
--- aside, hung where its tag says and not empty
+-- its page and its totals
+abbrev pub contentB : List ℕ → ℕ → Bool
+contentB ws a = pageB ws a && sumsB (arraysOf ws) (totalsOf ws) a
+
+-- the slots, the cells and the totals of array a are 0
+abbrev pub blankB : List ℕ → ℕ → Bool
+blankB ws a = allB (zeroAt ws (arrayAt a + slotAt 1)) bodyWords && allB (zeroAt ws (arrayAt a + totalAt 1)) lastSlot
+
+-- array a: free, and blank; or used, its page and its totals right, its links leading to arrays that name their cell, and, the
+-- root aside, hung where its tag says and not empty
 unfoldable pub arrayB : ℕ → List ℕ → ℕ → Bool
 arrayB L ws a =
-    cond (eqb (getD ws (arrayAt a) 0) 0) (allB (zeroAt ws (arrayAt a + slotAt 1)) bodyWords)
-    (pageB ws a
+    cond (eqb (getD ws (arrayAt a) 0) 0) (blankB ws a)
+    (contentB ws a
     && (linksB (arrayCount ws) L (arraysOf ws) a
     && (eqb a 1 || (parentLinksB (arrayCount ws) (arraysOf ws) a && not (emptyB (slotsOf ws a) (arraysOf ws .link a))))))
 

@@ -3,14 +3,15 @@ use mathlib.Core.Path.{_≡_}
 use mathlib.Core.List.{List}
 use Prim.Native.Nat.{ℕ, _+_, _%_, _≤_, _<_}
 use lib.ListN.{length, getD}
-use Rattle.sizes.specs.Sizes.{arrayWords, slotAt, slotEnd, leastWords, mostWords, unusedAt, arrayAt, wordAt, groupCount, restAt}
+use Rattle.sizes.specs.Sizes.{arrayWords, slotAt, slotEnd, leastWords, mostWords, totalsAt, arrayAt, wordAt, groupCount, restAt}
 use Rattle.slots.specs.Slot.{RightSlot}
 use Rattle.array.specs.Right.{Right}
 use Rattle.tree.specs.Arrays.{lev, usedIn, usedOf}
 use Rattle.calm.specs.Calm.{Settled}
-use Rattle.words.specs.Words.{feedsOf, arraysOf, arrayCount, wordsOf, slotsOf, bestsOf, blocksOf}
+use Rattle.words.specs.Words.{feedsOf, arraysOf, arrayCount, wordsOf, slotsOf, bestsOf, blocksOf, totalsOf}
 use Rattle.tree.specs.Shape.{Shape, Filled}
 use Rattle.gather.specs.Views.{RightWords}
+use Rattle.totals.specs.Sums.{Sums}
 
 -- the header: how many are used, in all and in each group of 8
 pub record Header (ws : List ℕ) : Type 0 where
@@ -28,13 +29,14 @@ pub record TableBut (L e : ℕ) (ws : List ℕ) : Type 0 where
   pub high : length ws ≤ mostWords
   pub shape : Shape (arrayCount ws) L (arraysOf ws)
   pub filled : Filled (arrayCount ws) (arraysOf ws) e
-  pub blank : (a : ℕ) → 1 ≤ a → a ≤ arrayCount ws → getD ws (arrayAt a) 0 ≡ 0 → (k : ℕ) → slotAt 1 ≤ k → k < unusedAt
+  pub blank : (a : ℕ) → 1 ≤ a → a ≤ arrayCount ws → getD ws (arrayAt a) 0 ≡ 0 → (k : ℕ) → slotAt 1 ≤ k → k < totalsAt
       → getD ws (wordAt a k) 0 ≡ 0
   pub words : RightWords (arrayCount ws) (feedsOf ws)
   pub right : (a : ℕ) → 1 ≤ a → a ≤ arrayCount ws → 1 ≤ getD ws (arrayAt a) 0
       → Right (lev (arraysOf ws) a) (slotsOf ws a) (bestsOf ws a)
   pub settled : (a : ℕ) → 1 ≤ a → a ≤ arrayCount ws → 1 ≤ getD ws (arrayAt a) 0
       → Settled (slotsOf ws a) (arraysOf ws .link a) (blocksOf ws a)
+  pub sums : Sums (arrayCount ws) (arraysOf ws) (totalsOf ws)
   pub header : Header ws
   pub rest : (k : ℕ) → restAt ≤ k → k < arrayWords → getD ws k 0 ≡ 0
 

@@ -2,11 +2,11 @@
 --
 --     header │ array 1 │ array 2 │ .. │ array A            3,072 words each
 --     header: used in all │ used among 1 .. 8 │ used among 9 .. 16 │ .. │ 0 ..
---     array:  tag │ slots 1 .. 511, four words each │ cells 0 .. 255, each its best, and its link or its block │ not used
+--     array:  tag │ slots 1 .. 511, four words each │ cells 0 .. 255, each its best, and its link or its block │ totals │ unused
 use mathlib.Core.List.{List}
 use Prim.Native.Nat.{ℕ, _+_, _-_, _/_}
 use lib.ListN.{length, getD}
-use Rattle.sizes.specs.Sizes.{arrayWords, slotAt, arrayAt, wordAt, cellAt}
+use Rattle.sizes.specs.Sizes.{arrayWords, slotAt, totalAt, arrayAt, wordAt, cellAt}
 use Rattle.array.specs.Cell.{bestIn, linkIn, blockIn}
 use Rattle.tree.specs.Arrays.{Arrays}
 use Rattle.gather.specs.Views.{FeedArrays, wonView}
@@ -35,6 +35,10 @@ bestsOf ws a i = bestIn (getD ws (cellAt a i) 0)
 
 abbrev pub blocksOf : List ℕ → ℕ → ℕ → ℕ
 blocksOf ws a i = blockIn (getD ws (cellAt a i) 0)
+
+-- the totals of the slots 1 .. 511 of array a
+abbrev pub totalsOf : List ℕ → ℕ → ℕ → ℕ
+totalsOf ws a s = getD ws (wordAt a (totalAt s)) 0
 
 -- how many arrays the words hold besides the header
 abbrev pub arrayCount : List ℕ → ℕ

@@ -2,7 +2,7 @@
 
 use std::collections::BTreeMap;
 
-use super::{cells, tag_below, winners, word, Cell, End, CELLS, ROOT_TAG, SLOT, UNUSED};
+use super::{cells, fill_totals, tag_below, winners, word, Cell, End, CELLS, ROOT_TAG, SLOT, TOTALS};
 use crate::address::Address;
 use crate::candidates::{Candidate, CandidateList};
 use crate::list::{Prefix, RouteList};
@@ -21,11 +21,13 @@ pub fn lay(list: &CandidateList, arrays: usize, numbers: &[usize]) -> Vec<u32> {
         let page = ARRAY_WORDS * numbered.get(&(prefix.level(), prefix.head())).copied().unwrap_or(1);
         words[page + SLOT * slot(prefix) + feed as usize - 1] = word(preference, hop);
     }
-    let used = [1].into_iter().chain(numbered.values().copied());
-    for a in used {
+    // A total needs those of the arrays below.
+    let deepest_first = numbered.values().rev().copied().chain([1]);
+    for a in deepest_first {
         words[0] += 1;
         words[1 + (a - 1) / 8] += 1;
         fill_cells(&mut words[ARRAY_WORDS * a..ARRAY_WORDS * (a + 1)]);
+        fill_totals(&mut words, a);
     }
     words
 }
@@ -57,7 +59,7 @@ fn hang(words: &mut [u32], parent: usize, a: usize, level: u32, head: u32) {
 }
 
 /// The number of a prefix's slot in its array.
-fn slot(prefix: Prefix) -> usize {
+pub fn slot(prefix: Prefix) -> usize {
     let bits = prefix.length - 8 * prefix.level();
     let value = u64::from(prefix.address - prefix.head()) >> (32 - prefix.length);
     (1 << bits) + value as usize
@@ -65,8 +67,8 @@ fn slot(prefix: Prefix) -> usize {
 
 /// Bests and blocks, where the links stand already.
 fn fill_cells(page: &mut [u32]) {
-    let links: Vec<_> = page[CELLS..UNUSED].iter().map(|&word| Cell::of(word).link()).collect();
-    for (cell, word) in cells(&winners(page), &links).into_iter().zip(&mut page[CELLS..UNUSED]) {
+    let links: Vec<_> = page[CELLS..TOTALS].iter().map(|&word| Cell::of(word).link()).collect();
+    for (cell, word) in cells(&winners(page), &links).into_iter().zip(&mut page[CELLS..TOTALS]) {
         *word = cell.word();
     }
 }

@@ -1,24 +1,30 @@
-//! A reading of docs/LAYOUT.md: which words are a table and of which list, what the lookup's walk gives on any
-//! words, and words laid out for a list with freely chosen array numbers.
+//! A reading of docs/LAYOUT.md: which words are a table and of which list, what the walks to an address and to a total give on
+//! any words, and words laid out for a list with freely chosen array numbers.
 
 mod cell;
 mod lay;
 mod read;
 mod slot;
+mod totals;
 mod walk;
+mod within;
 
 pub use cell::{Cell, End, LINKS, MOST};
 pub use lay::lay;
 pub use read::{check, read};
 pub use slot::{winner, winners, word, HOPS, SLOT};
+pub use totals::fill_totals;
 pub use walk::{trace, walk, Found, Odd, Walked};
+pub use within::{trace_total, within, OddTotal};
 
 use crate::memory::{arrays_in, ARRAY_WORDS};
 
 /// The first word of the cells within an array; before it stand the tag, three words without a use, and the slots.
 pub const CELLS: usize = 2048;
-/// The first word after the cells: from there to the array's end no word has a use, whatever it holds.
-pub const UNUSED: usize = 2304;
+/// The first word after the cells. The total of slot s is word TOTALS + s; there is no slot 0, and this word has no use.
+pub const TOTALS: usize = 2304;
+/// The first word after the totals: from there to the array's end no word has a use, whatever it holds.
+pub const UNUSED: usize = 2816;
 /// The tag of the root, which is array 1.
 pub const ROOT_TAG: u32 = 1;
 /// The levels, one for each byte of an address.
@@ -64,6 +70,10 @@ impl<'a> Arrays<'a> {
         Cell::of(self.page(a)[CELLS + cell])
     }
 
+    pub fn total(&self, a: usize, slot: usize) -> u32 {
+        self.page(a)[TOTALS + slot]
+    }
+
     /// The number of the array that the link of a cell leads to, which the words need not hold.
     pub fn below(&self, a: usize, cell: usize) -> Option<u32> {
         self.cell(a, cell).link()
@@ -73,6 +83,11 @@ impl<'a> Arrays<'a> {
     pub fn held(&self, number: u32) -> Option<usize> {
         usize::try_from(number).ok().filter(|a| (1..=self.count).contains(a))
     }
+}
+
+/// The words of an array without a use.
+pub fn unused() -> impl Iterator<Item = usize> {
+    (1..SLOT).chain([TOTALS]).chain(UNUSED..ARRAY_WORDS)
 }
 
 /// The tag of an array below cell `cell` of array `parent`, whose own tag is `parent_tag`.

@@ -1,7 +1,8 @@
 //! Which words are a table, and the list that they stand for.
 
 use super::slot::{candidate, is_right};
-use super::{cells, tag_below, winners, Arrays, CELLS, LEVELS, ROOT_TAG, SLOT, UNUSED};
+use super::totals::totals_right;
+use super::{cells, tag_below, winners, Arrays, CELLS, LEVELS, ROOT_TAG, SLOT, TOTALS, UNUSED};
 use crate::candidates::{Candidate, CandidateList};
 use crate::list::Prefix;
 use crate::memory::{Counts, Memory, ARRAY_WORDS};
@@ -27,7 +28,7 @@ fn is_table(arrays: &Arrays) -> bool {
     header_right(arrays)
         && arrays.tag(1) == ROOT_TAG
         && all.clone().all(|a| free_is_zero(arrays, a) && tag_right(arrays, a) && links_right(arrays, a))
-        && all.clone().all(|a| arrays.tag(a) == 0 || (slots_right(arrays, a) && cells_right(arrays, a)))
+        && all.clone().all(|a| arrays.tag(a) == 0 || used_right(arrays, a))
 }
 
 /// The counts of used arrays, in all and by groups of eight, and zeros after them.
@@ -41,7 +42,12 @@ fn header_right(arrays: &Arrays) -> bool {
 }
 
 fn free_is_zero(arrays: &Arrays, a: usize) -> bool {
-    arrays.tag(a) != 0 || arrays.page(a)[SLOT..UNUSED].iter().all(|&word| word == 0)
+    let mut used = (SLOT..TOTALS).chain(TOTALS + 1..UNUSED).map(|at| arrays.page(a)[at]);
+    arrays.tag(a) != 0 || used.all(|word| word == 0)
+}
+
+fn used_right(arrays: &Arrays, a: usize) -> bool {
+    slots_right(arrays, a) && cells_right(arrays, a) && totals_right(arrays, a)
 }
 
 /// A used array but the root hangs where its tag says, and holds something.

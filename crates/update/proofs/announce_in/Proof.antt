@@ -4,7 +4,7 @@
 use mathlib.Core.Path.{sym, _∙_}
 use native.Mathlib.Omega.{arith}
 use borrow.Author.Needs.{needs}
-use Rattle.update.specs.Announce.{announce-same, announce-full, announce-seat, announce-done}
+use Rattle.update.specs.Announce.{announce-same, announce-full, announce-sits, announce-done}
 use Rattle.update.proofs.announce_in.Statement.{statement}
 use Rattle.update.proofs.announce_in.Tie as tie
 
@@ -42,15 +42,15 @@ returns-2 c =
     announce-full (f .find .ensures) (t .args .hop) (t .args .preference) (t .pre .1 .low) (t .pre .1 .high)
     (λ z. other .if1 .left (z ∙ sym (word .word-of .ensures))) (x .last .0) (x .result) (x .ensures) (c .if2 .taken)
 
-reslot-requires : tie.Need-reslot-requires
-reslot-requires c κs =
+reseat-requires : tie.Need-reseat-requires
+reseat-requires c κs =
     let e = c .before .before .before .before in
     let other = e .before .before .before .before in
     let f = other .before .before in
     let word = f .before .before in
     let t = word .before .before .before in
     let x = e .extend in (
-      announce-seat (f .find .ensures) (t .args .hop) (t .args .preference) (t .pre .1 .low) (t .pre .1 .high)
+      announce-sits (f .find .ensures) (t .args .hop) (t .args .preference) (t .pre .1 .low) (t .pre .1 .high)
           (λ z. other .if1 .left (z ∙ sym (word .word-of .ensures))) (x .last .0) (x .result) (x .ensures) (c .before .if2 .left),
       t .pre .1 .feed,
     )
@@ -68,7 +68,7 @@ returns-3 c =
     let word = f .before .before in
     let t = word .before .before .before in
     let x = e .extend in
-    let y = r .reslot in
+    let y = r .reseat in
     announce-done (f .find .ensures) (t .args .hop) (t .args .preference) (t .pre .1 .low) (t .pre .1 .high)
     (λ z. other .if1 .left (z ∙ sym (word .word-of .ensures))) (x .last .0) (x .result) (x .ensures) (some .if2 .left)
     (omega arith) (y .last .0) (y .result) (rw (word .word-of .ensures) at (y .ensures))
@@ -84,6 +84,6 @@ announce-in-spec =
     extend-requires
     same-length-2
     returns-2
-    reslot-requires
+    reseat-requires
     same-length-3
     returns-3)

@@ -1,7 +1,7 @@
 -- `update::withdraw_in` meets its contract. `find` tells whether the candidate is held; its word cleared, its array is the one that may be
 -- empty, and pruning makes a table again. Assumes nothing.
 use borrow.Author.Needs.{needs}
-use Rattle.update.specs.Withdraw.{withdraw-none, withdraw-seat, withdraw-loose, withdraw-done}
+use Rattle.update.specs.Withdraw.{withdraw-none, withdraw-sits, withdraw-loose, withdraw-done}
 use Rattle.update.proofs.withdraw_in.Statement.{statement}
 use Rattle.update.proofs.withdraw_in.Tie as tie
 
@@ -14,18 +14,18 @@ same-length c = search needs
 returns : tie.Need-returns
 returns c = withdraw-none (c .before .before .find .ensures) (c .if1 .taken)
 
-reslot-requires : tie.Need-reslot-requires
-reslot-requires c κs =
+reseat-requires : tie.Need-reseat-requires
+reseat-requires c κs =
     let some = c .before .before in
     let f = some .before .before in
-    (withdraw-seat (f .find .ensures) (some .if1 .left), f .before .before .before .before .pre .1 .1)
+    (withdraw-sits (f .find .ensures) (some .if1 .left), f .before .before .before .before .pre .1 .1)
 
 prune-requires : tie.Need-prune-requires
 prune-requires c κs =
     let r = c .before .before .before in
     let some = r .before .before .before in
     let f = some .before .before .find in
-    withdraw-loose (f .ensures) (some .if1 .left) (r .reslot .last .0) (r .reslot .result) (r .reslot .ensures)
+    withdraw-loose (f .ensures) (some .if1 .left) (r .reseat .last .0) (r .reseat .result) (r .reseat .ensures)
 
 hop-in-requires : tie.Need-hop-in-requires
 hop-in-requires c κs = search needs
@@ -40,7 +40,7 @@ returns-2 c =
     let some = r .before .before .before in
     let f = some .before .before .find in
     let h = c .hop-in in
-    withdraw-done (f .ensures) (some .if1 .left) (r .reslot .last .0) (r .reslot .result) (r .reslot .ensures) (p .prune .last .0) (h .result)
+    withdraw-done (f .ensures) (some .if1 .left) (r .reseat .last .0) (r .reseat .result) (r .reseat .ensures) (p .prune .last .0) (h .result)
     (p .prune .ensures) (h .ensures .0)
 
 pub withdraw-in-spec : {M : Type 1} → statement M
@@ -50,7 +50,7 @@ withdraw-in-spec =
     find-requires
     same-length
     returns
-    reslot-requires
+    reseat-requires
     prune-requires
     hop-in-requires
     same-length-2

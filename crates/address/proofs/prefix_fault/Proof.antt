@@ -1,4 +1,4 @@
--- `update::prefix_fault` meets its contract: the tests stand in document 01's order. Assumes nothing.
+-- `address::prefix_fault` meets its contract: the tests stand in document 01's order. Assumes nothing.
 use mathlib.Core.Path.{_≡_, sym, _∙_}
 use mathlib.Core.Bool.{true, false}
 use Prim.Native.Nat.{_*_}
@@ -8,8 +8,8 @@ use borrow.Author.Tests.{lt-ltb, le-ltb}
 use borrow.Author.Needs.{needs}
 use Rattle.routes.specs.Route.{stray}
 use Rattle.numbers.specs.Number.{number}
-use Rattle.update.proofs.prefix_fault.Statement.{statement}
-use Rattle.update.proofs.prefix_fault.Tie as tie
+use Rattle.address.proofs.prefix_fault.Statement.{statement}
+use Rattle.address.proofs.prefix_fault.Tie as tie
 
 cast-width : tie.Need-cast-width
 cast-width c = search needs

@@ -1,0 +1,56 @@
+-- `audit::sums::outer_ok` makes the test of the slot above a cell from the numbers that it reads. Assumes nothing.
+use native.Mathlib.Omega.{arith}
+use Rattle.sizes.specs.Sizes.{cellSlots}
+use Prim.Native.Nat.{_+_}
+use Rattle.words.specs.Words.{arraysOf, totalsOf}
+use Rattle.audit.proofs.Totals.{outer-is}
+use borrow.Author.Needs.{needs}
+use Rattle.audit.proofs.sums.outer_ok.Statement.{statement}
+use Rattle.audit.proofs.sums.outer_ok.Tie as tie
+
+add-held : tie.Need-add-held
+add-held c = search needs
+
+held-requires : tie.Need-held-requires
+held-requires c κs =
+    let s = c .before in
+    let p = s .pre in
+    (p .0, p .1, omega arith, p .2 (cellSlots + s .args .i) (omega arith) (omega arith))
+
+below-requires : tie.Need-below-requires
+below-requires c κs = search needs
+
+total-below-requires : tie.Need-total-below-requires
+total-below-requires c κs = search needs
+
+add-total : tie.Need-add-total
+add-total c = search needs
+
+total-requires : tie.Need-total-requires
+total-requires c κs = search needs
+
+add-result : tie.Need-add-result
+add-result c = search needs
+
+returns : tie.Need-returns
+returns c =
+    let below = c .before in
+    let link = below .before in
+    let own = link .before in
+    let a = own .before .before .args in
+    outer-is (arraysOf (a .words .now)) (totalsOf (a .words .now)) (a .a) (a .i) (c .total .result) (own .held .result)
+    (below .total-below .result) (link .below .result) (own .held .ensures .0) (link .below .ensures .0)
+    (below .total-below .ensures .0) (c .total .ensures .0)
+
+pub outer-ok-spec : {M : Type 1} → statement M
+outer-ok-spec =
+    tie.close
+    (tie.spec
+    add-held
+    held-requires
+    below-requires
+    total-below-requires
+    add-total
+    total-requires
+    add-result
+    returns)

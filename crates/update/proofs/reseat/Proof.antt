@@ -1,0 +1,33 @@
+-- `update::reseat` meets its contract: the slot is set in its page, then the totals on the path follow. Assumes nothing.
+use mathlib.Core.Path.{_≡_}
+use borrow.Author.Needs.{needs}
+use Rattle.update.specs.Reseat.{reseat-climbing, reseat-size, reseats}
+use Rattle.update.proofs.reseat.Statement.{statement}
+use Rattle.update.proofs.reseat.Tie as tie
+
+reslot-requires : tie.Need-reslot-requires
+reslot-requires c κs = search needs
+
+slot-of-requires : tie.Need-slot-of-requires
+slot-of-requires c κs = search needs
+
+retotal-requires : tie.Need-retotal-requires
+retotal-requires c κs =
+    let slot = c .before in
+    let r = slot .before .before .before in
+    let t = r .before .before .before in
+    (reseat-climbing (t .pre .0) (r .reslot .ensures), reseat-size (t .pre .0) (r .reslot .ensures), slot .slot-of .ensures .1)
+
+same-length : tie.Need-same-length
+same-length c = search needs
+
+returns : tie.Need-returns
+returns c =
+    let total = c .before .before in
+    let slot = total .before .before in
+    let r = slot .before .before .before in
+    let t = r .before .before .before in
+    reseats (t .pre .0) (r .reslot .ensures) (total .retotal .last .0) (rw (slot .slot-of .ensures .0) at (total .retotal .ensures))
+
+pub reseat-spec : {M : Type 1} → statement M
+reseat-spec = tie.close (tie.spec reslot-requires slot-of-requires retotal-requires same-length returns)

@@ -1,0 +1,33 @@
+-- `within::within` lends the four bytes of an IPv4 address; that the walk's answer is what the words are seen to give is a law.
+-- Assumes nothing.
+use mathlib.Core.Path.{_≡_, ap, _∙_}
+use native.Mathlib.Omega.{arith}
+use lib.ListN.{length}
+use Rattle.numbers.specs.Number.{number}
+use Rattle.address.specs.Four.{four-number}
+use Rattle.within.specs.Counted.{within-seen}
+use borrow.Author.Needs.{needs}
+use Rattle.within.proofs.within.Statement.{statement}
+use Rattle.within.proofs.within.Tie as tie
+
+four-of-requires : tie.Need-four-of-requires
+four-of-requires c κs = search needs
+
+slice-aggregate-within-of : tie.Need-slice-aggregate-within-of
+slice-aggregate-within-of c = search needs
+
+within-of-requires : tie.Need-within-of-requires
+within-of-requires c κs = search needs
+
+returns : tie.Need-returns
+returns c =
+    let f = c .before .before in
+    let a = f .before .before .args in
+    let e : length (f .four-of .result) ≡ 4 = search needs in
+    let v : number (f .four-of .result) ≡ a .address = ap number (f .four-of .ensures) ∙ four-number (a .address) (omega arith) in
+    let w = rw (e, v) at (c .within-of .ensures) in
+    (w ∙ within-seen 4 (a .words .now) (a .address) (a .length) (omega arith) (omega arith) (omega arith), w)
+
+pub within-spec : {M : Type 1} → statement M
+within-spec =
+    tie.close (tie.spec four-of-requires slice-aggregate-within-of within-of-requires returns)

@@ -1,0 +1,4 @@
+pub mod Walk
+pub mod Answer
+pub mod Counted
+pub mod Local
