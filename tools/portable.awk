@@ -1,7 +1,8 @@
-# Turns the kit's module into one for any processor: awk -f portable.awk FACE.ll MODULE.ll > PORTABLE.ll, all three as text.
+# Turns the kit's module into one for any processor: awk -v face=FACE.c -f portable.awk FACE.ll MODULE.ll >
+# PORTABLE.ll, all three as text.
 #
 # The module has each exported call twice: the proved function, with every slice and answer by pointer, and a face by x86-64's
-# calling convention. The faces go, since face.c has them; the proved functions get the names and the declarations that the face
+# calling convention. The faces go, since the face has them; the proved functions get the names and the declarations that the face
 # calls them by. What the face calls and the module lacks, or has with other types, ends this with one line and status 1, and so
 # does a call of the module that the face lacks: names inside the module are the kit's own matter and may change with the kit.
 
@@ -68,7 +69,7 @@ file == 1 { next }
 /^define .*@toggleash_/ {
     call = name_after("@toggleash_")
     if (!(call in faced))
-        fail("the module has the call toggleash_" call ", and tools/face.c does not")
+        fail("the module has the call toggleash_" call ", and " face " does not")
     dropping = 1
 }
 dropping {
@@ -76,10 +77,10 @@ dropping {
         dropping = 0
     next
 }
-/^define internal .*@"toggleash::(copies::)?toggleash_/ {
+/^define internal .*@"(toggleash::(copies::)?|resolver::)toggleash_/ {
     call = name_after("toggleash_")
     if (!(call in given) || types(given[call]) != types(parameters()) || plain(result[call]) != plain(returned()))
-        fail("the module has toggleash_" call " with other types than tools/face.c: " $0)
+        fail("the module has toggleash_" call " with other types than " face ": " $0)
     found[call]
     $0 = "define " result[call] " @proved_" call "(" named(given[call]) ")" substr($0, index($0, ")") + 1)
 }

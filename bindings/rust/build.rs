@@ -1,5 +1,5 @@
-//! Links libtoggleash.a: from TOGGLEASH_LIB_DIR where that is set, else from where `./build` writes it for the processor that this
-//! crate is compiled for. An archive that is missing, or is for another processor, is told in one line.
+//! Links libtoggleash.a and libtoggleash_resolve.a: from TOGGLEASH_LIB_DIR where that is set, else from where `./build` writes them
+//! for the processor that this crate is compiled for. An archive that is missing, or is for another processor, is told in one line.
 
 use std::env;
 use std::fs;
@@ -19,7 +19,13 @@ const TARGETS: [(&str, u16, bool, bool); 6] = [
 fn main() {
     println!("cargo:rerun-if-env-changed=TOGGLEASH_LIB_DIR");
     let target = target();
-    let archive = folder(&target).join("libtoggleash.a");
+    for library in ["toggleash_resolve", "toggleash"] {
+        link(&target, library);
+    }
+}
+
+fn link(target: &str, library: &str) {
+    let archive = folder(target).join(format!("lib{library}.a"));
     println!("cargo:rerun-if-changed={}", archive.display());
     let Ok(bytes) = fs::read(&archive) else {
         stop(&format!(
@@ -33,7 +39,7 @@ fn main() {
         None => stop(&format!("{} is no archive of ./build", archive.display())),
     }
     println!("cargo:rustc-link-search=native={}", archive.parent().expect("it has a folder").display());
-    println!("cargo:rustc-link-lib=static=toggleash");
+    println!("cargo:rustc-link-lib=static={library}");
 }
 
 fn stop(line: &str) -> ! {

@@ -113,7 +113,8 @@ fn every_cell(random: &mut Random, words: &[u32]) -> Vec<u32> {
     addresses
 }
 
-fn damage(random: &mut Random, words: &mut [u32]) {
+/// One change, of a kind that some call may or may not notice.
+pub fn damage(random: &mut Random, words: &mut [u32]) {
     match random.below(19) {
         0..=3 => one_word(random, words),
         4 => whole_pages(random, words),

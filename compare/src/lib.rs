@@ -11,6 +11,7 @@ pub mod lists;
 pub mod pair;
 pub mod programs;
 pub mod random;
+pub mod resolves;
 pub mod rooms;
 pub mod tally;
 pub mod unlisted;

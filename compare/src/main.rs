@@ -5,6 +5,7 @@ use std::process::ExitCode;
 
 use compare::pair::Same;
 use compare::random::Random;
+use compare::resolves::{self, Resolves};
 use compare::tally::Tally;
 use compare::{copies, damage, face, foreign, guard, programs, rooms, unlisted};
 
@@ -17,6 +18,8 @@ const FEEDS: usize = 1_000;
 /// Copies that a plain run builds from lists, and lists and copies that it damages.
 const COPIES: u64 = 600;
 const DAMAGED_COPIES: u64 = 24_000;
+/// Memories that a plain run resolves addresses in.
+const RESOLVED: u64 = 2_000;
 /// How much more a long run does.
 const LONG: u64 = 20;
 
@@ -62,6 +65,7 @@ fn compare_library(options: &Options) -> u64 {
     largest_rooms(options, &mut tally);
     all_copies(options, &mut tally);
     damaged_copies(options, &mut tally);
+    all_resolves(options, &mut tally);
     tally.answers();
     println!("compare, seed {}: {tally}", options.seed);
     tally.differences
@@ -164,6 +168,20 @@ fn damaged_copies(options: &Options, tally: &mut Tally) {
         _ if case % 3 == 1 => foreign::damaged(random, tally),
         _ => foreign::made_up(random, tally),
     });
+}
+
+/// Tables and other words with runs of hop entries.
+fn all_resolves(options: &Options, tally: &mut Tally) {
+    let mut seen = Resolves::default();
+    tally.case("resolves", 0, resolves::far_entries());
+    for case in 0..RESOLVED * options.times {
+        if tally.enough() {
+            return;
+        }
+        let result = resolves::memory(&mut begin(options, "resolves", case), case, &mut seen);
+        tally.case("resolves", case, result);
+    }
+    tally.differences += seen.told();
 }
 
 fn compare_programs(options: &Options, proved: &str, reference: &str) -> u64 {

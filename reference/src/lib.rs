@@ -13,6 +13,7 @@ pub mod list;
 pub mod memory;
 pub mod program;
 pub mod refusal;
+pub mod resolve;
 
 pub use address::Address;
 pub use candidates::{Candidate, CandidateList, FEEDS};

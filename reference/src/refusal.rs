@@ -22,6 +22,12 @@ pub enum Refusal {
     BufferShort = 9,
     /// The feed's number is not 1 to 4.
     FeedOutOfRange = 10,
+    /// No route matches, in resolving.
+    NoRoute = 20,
+    /// More than 256 entries, or none for a hop, or one out of range.
+    NoEntry = 21,
+    /// No interface after four lookups.
+    NoInterface = 22,
 }
 
 impl Refusal {

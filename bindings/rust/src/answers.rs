@@ -5,7 +5,8 @@ use core::fmt;
 
 /// Why a call refused. A refused call has changed nothing that was lent to it.
 ///
-/// Where several apply, the first in this order is given: 1, 3, 4, 5, 10, 2, 7, 8 or 9. There is no 6.
+/// Where several apply, the first in this order is given: 1, 3, 4, 5, 10, 2, 7, 8 or 9. There is no 6. Those from 20 on are
+/// told by [`resolve`](crate::resolve) alone.
 #[derive(Clone, Copy, Debug, PartialEq, Eq, Hash)]
 #[repr(u8)]
 pub enum Refusal {
@@ -36,10 +37,16 @@ pub enum Refusal {
     BufferShort = 9,
     /// 10: the feed is not 1 to 4.
     FeedOutOfRange = 10,
+    /// 20: no route matches the address, or a gateway.
+    NoRoute = 20,
+    /// 21: more than 256 entries; or a hop met has no entry, or one out of range.
+    NoEntry = 21,
+    /// 22: no interface after four lookups.
+    NoInterface = 22,
 }
 
 impl Refusal {
-    const ALL: [Refusal; 9] = [
+    const ALL: [Refusal; 12] = [
         Refusal::WordCount,
         Refusal::NotATable,
         Refusal::LengthOver32,
@@ -49,9 +56,12 @@ impl Refusal {
         Refusal::NoRoom,
         Refusal::BufferShort,
         Refusal::FeedOutOfRange,
+        Refusal::NoRoute,
+        Refusal::NoEntry,
+        Refusal::NoInterface,
     ];
 
-    /// The number, from 1 to 10, that replies and the calls of C give.
+    /// The number, from 1 to 10 or 20 to 22, that replies and the calls of C give.
     pub fn number(self) -> u8 {
         self as u8
     }
@@ -81,6 +91,9 @@ impl fmt::Display for Refusal {
             Refusal::NoRoom => "the table has no room for the prefix",
             Refusal::BufferShort => "the buffer is too short for the written list, or the words for the copy",
             Refusal::FeedOutOfRange => "the feed is not 1 to 4",
+            Refusal::NoRoute => "no route matches",
+            Refusal::NoEntry => "more than 256 entries, or a hop without an entry, or with one out of range",
+            Refusal::NoInterface => "no interface after four lookups",
         };
         write!(f, "refused {}: {reason}", self.number())
     }

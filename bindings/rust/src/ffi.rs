@@ -2,6 +2,8 @@
 
 #![allow(missing_docs)]
 
+pub use crate::resolve::Hop;
+
 #[repr(C)]
 #[derive(Clone, Copy, Debug, Default, PartialEq, Eq)]
 pub struct Counts {
@@ -77,9 +79,20 @@ pub struct Built {
     pub markers: u64,
 }
 
+#[repr(C)]
+#[derive(Clone, Copy, Debug, Default, PartialEq, Eq)]
+pub struct Route {
+    pub refusal: u32,
+    pub interface: u32,
+    pub has_gateway: u32,
+    pub gateway: u32,
+}
+
 /// Kept in each program, so that an archive of another version does not link.
 #[used]
 static VERSION: unsafe extern "C" fn() -> u32 = toggleash_version_4;
+#[used]
+static RESOLVE_VERSION: unsafe extern "C" fn() -> u32 = toggleash_resolve_version_4;
 
 extern "C" {
     pub fn toggleash_version_4() -> u32;
@@ -109,4 +122,10 @@ extern "C" {
     pub fn toggleash_copy_need(bytes: *const u8, bytes_len: usize) -> Needed;
     pub fn toggleash_copy_build(bytes: *const u8, bytes_len: usize, words: *mut u32, n: usize) -> Built;
     pub fn toggleash_copy_lookup(words: *const u32, n: usize, address: u32) -> Match;
+}
+
+// of libtoggleash_resolve.a; bindings/c/toggleash_resolve.h says what it takes and gives
+extern "C" {
+    pub fn toggleash_resolve_version_4() -> u32;
+    pub fn toggleash_resolve(words: *const u32, n: usize, entries: *const Hop, count: usize, address: u32) -> Route;
 }

@@ -26,8 +26,10 @@
 //! [`ListCopy`] those of a read-only copy of its winners for a line card that only looks up. [`Record`] and [`Reply`] are the records of a feed and the replies to it. The calls that take slices of words,
 //! here and in [`copy`], are the same ones without these types: any words can be handed to them.
 //!
-//! The archive libtoggleash.a is looked for where `./build` of the repository writes it, or in the folder that the
-//! environment variable `TOGGLEASH_LIB_DIR` names while this crate is built.
+//! [`resolve`] goes on from a hop to the interface that packets leave by.
+//!
+//! The archives libtoggleash.a and libtoggleash_resolve.a are looked for where `./build` of the repository writes them, or in
+//! the folder that the environment variable `TOGGLEASH_LIB_DIR` names while this crate is built.
 
 #![no_std]
 #![warn(missing_docs)]
@@ -40,6 +42,7 @@ pub mod copy;
 mod feed;
 pub mod ffi;
 mod prefix;
+pub mod resolve;
 mod table;
 
 pub use answers::{Counts, Lookup, Match, Ran, Refusal, Stop, Update};
@@ -47,6 +50,7 @@ pub use candidate::Candidate;
 pub use copy::ListCopy;
 pub use feed::{records, replies, Record, Records, Replies, Reply};
 pub use prefix::{Prefix, PrefixError};
+pub use resolve::{Hop, Route};
 pub use table::Table;
 
 /// The most arrays that a table can have.
@@ -73,7 +77,7 @@ pub const fn written_bytes(routes: usize) -> usize {
     10 * routes + 1
 }
 
-// SAFETY of all calls below and in `copy`: a slice's pointer is aligned and leads to as many elements as its length
+// SAFETY of all calls below, in `copy` and in `resolve`: a slice's pointer is aligned and leads to as many elements as its length
 // says, alone if the slice is mutable, and the calls stay inside that. An empty slice's pointer leads nowhere, but with
 // length 0 the calls follow no pointer.
 

@@ -3,8 +3,9 @@
 use core::fmt;
 use core::net::Ipv4Addr;
 
+use crate::resolve::resolve;
 use crate::{announce, check, clear, lookup, run, withdraw, within, write_out};
-use crate::{Candidate, Counts, Lookup, Prefix, Ran, Refusal, Update};
+use crate::{Candidate, Counts, Hop, Lookup, Prefix, Ran, Refusal, Route, Update};
 
 /// Words that are a table.
 ///
@@ -100,6 +101,15 @@ impl<W: AsRef<[u32]>> Table<W> {
     /// [`Refusal::NotATable`] only where something else has changed the words, see [`within`].
     pub fn within(&self, prefix: Prefix) -> Result<u32, Refusal> {
         within(self.words(), prefix.address(), prefix.length().into())
+    }
+
+    /// The interface that packets for an address leave by, and the last gateway used on the way to it.
+    ///
+    /// # Errors
+    /// In this order [`Refusal::NoEntry`] for more than 256 entries, then what is met first: see
+    /// [`resolve`](crate::resolve::resolve).
+    pub fn resolve(&self, entries: &[Hop], address: Ipv4Addr) -> Result<Route, Refusal> {
+        resolve(self.words(), entries, address)
     }
 
     /// Writes the candidates as a feed of announcements and an end, and gives the part of the buffer that it filled.

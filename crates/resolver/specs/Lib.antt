@@ -1,0 +1,10 @@
+pub mod Entry
+pub mod Resolve
+pub mod Worked
+pub mod Chain
+pub mod Steps
+pub mod Turns
+pub mod Stated
+pub mod Called
+pub mod Begun
+pub mod Plain
