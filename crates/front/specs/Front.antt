@@ -4,8 +4,8 @@
 --     update ──▶ is the candidate held back? ──yes──▶ kept, dropped, or refused with 7       the table stays
 --                          └──no──▶ the table's own answer; an accepted withdrawal is charged
 --     tick   ──▶ penalties halved ──▶ what is kept below 750 tried, in order ──▶ let go ──▶ places freed
-use mathlib.Core.Bool.{Bool, true, false, cond, not, _&&_, _||_}
-use mathlib.Core.List.{List, [], _∷_, _++_}
+use mathlib.Core.Bool.{Bool, false, cond, not, _&&_, _||_}
+use mathlib.Core.List.{List, [], _∷_}
 use Prim.Native.Nat.{ℕ, _+_, _/_, min}
 use lib.ListN.{length}
 use lib.Dec.{ltb, eqb}

@@ -2,8 +2,8 @@
 -- behind a cleared front takes the events. Assumes nothing.
 use mathlib.Core.Path.{_≡_, refl}
 use mathlib.Core.Bool.{false, cond}
-use mathlib.Core.List.{List, [], _∷_, _++_}
-use Prim.Native.Nat.{ℕ, _+_, _*_}
+use mathlib.Core.List.{List, [], _∷_}
+use Prim.Native.Nat.{ℕ, _+_}
 use lib.Count.{leadingZeros}
 use Rattle.routes.specs.Room.{needTo}
 use Rattle.routes.specs.Cells.{cells, shown}
@@ -188,7 +188,7 @@ worked =
       list = candidate ten 8 1 0 6 ∷ [];
       places = placed ten 8 1 (mark 375 false 0) ∷ [];
     }
-    -- a further one, number 0: the preference that was kept loses to that of another feed
+    -- further ones, number 0: the preference that was kept loses to that of another feed; 12,000 is the most, and five ticks
     ∷ record {
       number = 0;
       room = 3;
@@ -199,6 +199,22 @@ worked =
       refusals = 0;
       list = candidate ten 8 1 20 7 ∷ candidate ten 8 2 9 6 ∷ [];
       places = placed ten 8 1 (mark 500 false 0) ∷ [];
+    }
+    ∷ record {
+      number = 0;
+      room = 3;
+      sent =
+          flaps 8
+          (flaps 8 (flaps 8 (flap 8 (in1 ten 8 6 ∷ tick ∷ tick ∷ tick ∷ tick ∷ ask (ten + 1) ∷ tick ∷ ask (ten + 1) ∷ []))));
+      gives =
+          flapped 1
+          (flapped 0 (flapped 0 (done 5 0 ∷ done 5 0 ∷ done 6 0 ∷ done 0 0 ∷ done 0 0 ∷ done 0 0 ∷ done 0 0
+          ∷ none 0 ∷ done 0 0 ∷ found 6 8 8 ∷ [])));
+      back = 1 ∷ 1 ∷ 1 ∷ 1 ∷ 0 ∷ [];
+      accepted = 27;
+      refusals = 0;
+      list = candidate ten 8 1 0 6 ∷ [];
+      places = placed ten 8 1 (mark 375 false 0) ∷ [];
     }
     ∷ []
 
