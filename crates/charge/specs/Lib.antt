@@ -1,0 +1,4 @@
+pub mod Calls
+pub mod Room
+pub mod Search
+pub mod Steps
