@@ -1,3 +1,4 @@
 pub mod Place
 pub mod Front
+pub mod Seen
 pub mod Worked

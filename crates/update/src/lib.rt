@@ -32,7 +32,7 @@ fn feed_fault(feed: u32) -> u32
 }
 
 // The first fault of an announcement, 0 where it has none; no preference is a fault.
-fn announce_fault(address: &[u8], length: u32, hop: u32, feed: u32) -> u32
+pub fn announce_fault(address: &[u8], length: u32, hop: u32, feed: u32) -> u32
     requires { ⌜ size (now address) < levelBound ⌝ }
     ensures { λ r. ⌜ r ≡ faultOf (8 * size (now (address .entry)))
         (announced (number (now (address .entry))) length hop feed 0) ⌝ }
@@ -51,7 +51,7 @@ fn announce_fault(address: &[u8], length: u32, hop: u32, feed: u32) -> u32
 }
 
 // The same of a withdrawal.
-fn withdraw_fault(address: &[u8], length: u32, feed: u32) -> u32
+pub fn withdraw_fault(address: &[u8], length: u32, feed: u32) -> u32
     requires { ⌜ size (now address) < levelBound ⌝ }
     ensures { λ r. ⌜ r ≡ faultOf (8 * size (now (address .entry))) (withdrawn (number (now (address .entry))) length feed) ⌝ }
 {

@@ -1,0 +1,89 @@
+-- Kept where it is held back, passed to the table where not. Assumes nothing.
+use Rattle.damping.specs.Update.{keeps, announces}
+use Rattle.restraint.specs.Keeps.{announce-sound}
+use Rattle.words.specs.View.{seen-table}
+use Rattle.words.specs.Table.{listOf}
+use Rattle.words.specs.Words.{arrayCount}
+use Rattle.address.specs.Four.{four-number}
+use Prim.Native.Nat.{_%_}
+use borrow.Author.Tests.{eq-eqb}
+use native.Mathlib.Omega.{arith}
+use borrow.Author.Needs.{needs}
+use Rattle.damping.proofs.announce_in.Statement.{statement}
+use Rattle.damping.proofs.announce_in.Tie as tie
+
+find-requires : tie.Need-find-requires
+find-requires c κs = search needs
+
+keep-requires : tie.Need-keep-requires
+keep-requires c κs =
+    let t = c .before .before .before .before .before .before .before in
+    let a = t .args in
+    let s = c .before .before .before .find in
+    record {
+      words = t .pre .front;
+      sound = announce-sound 32 (a .address) (a .length) (a .hop) (a .feed) (a .preference) (t .pre .sound);
+      byte = omega arith;
+      found = s .ensures;
+      back = eq-eqb (s .result .mark % 2) 1 (c .before .if1 .taken);
+    }
+
+same-length : tie.Need-same-length
+same-length c = search needs
+
+returns : tie.Need-returns
+returns c =
+    let t = c .before .before .before .before .before .before .before .before .before .before in
+    let a = t .args in
+    let s = c .before .before .before .before .before .before .find in
+    let ws = a .words .now in
+    keeps (a .front .now) ws (t .pre .front) (arrayCount ws) (listOf 4 ws) (seen-table 4 ws (t .pre .table)) (a .address) (a .length)
+    (a .feed) (s .result .at) (s .result .mark) (s .result .kept) (s .ensures) (a .hop) (a .preference) (t .pre .sound)
+    (c .before .before .keep .last .0) (c .before .before .before .before .if1 .taken) (c .before .before .keep .ensures)
+
+four-of-requires : tie.Need-four-of-requires
+four-of-requires c κs = search needs
+
+slice-aggregate-announce-on : tie.Need-slice-aggregate-announce-on
+slice-aggregate-announce-on c = search needs
+
+announce-on-requires : tie.Need-announce-on-requires
+announce-on-requires c κs =
+    rw (c .before .before .four-of .ensures) (c .before .before .before .before .before .before .before .before .before .pre .table)
+
+same-length-2 : tie.Need-same-length-2
+same-length-2 c = search needs
+
+same-length-3 : tie.Need-same-length-3
+same-length-3 c = search needs
+
+returns-2 : tie.Need-returns-2
+returns-2 c =
+    let c2 = c .before .before in
+    let c5 = c2 .before .before .before in
+    let c6 = c5 .before in
+    let c8 = c6 .before .before in
+    let c12 = c8 .before .before .before .before in
+    let t = c12 in
+    let a = t .args in
+    let s = c8 .find in
+    let ws = a .words .now in
+    let on = c2 .announce-on in
+    announces (a .front .now) ws (t .pre .front) (arrayCount ws) (listOf 4 ws) (seen-table 4 ws (t .pre .table)) (a .address) (a .length)
+    (a .feed) (s .result .at) (s .result .mark) (s .result .kept) (s .ensures) (a .hop) (a .preference) (t .pre .sound)
+    (on .last .0) (on .result) (c6 .if1 .left) (rw (c5 .four-of .ensures, four-number (a .address) (omega arith)) at (on .ensures))
+
+pub announce-in-spec : {M : Type 1} → statement M
+announce-in-spec =
+    tie.close
+    (tie.spec
+    find-requires
+    keep-requires
+    same-length
+    returns
+    four-of-requires
+    slice-aggregate-announce-on
+    announce-on-requires
+    same-length-2
+    same-length-3
+    returns-2)

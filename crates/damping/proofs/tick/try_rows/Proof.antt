@@ -1,0 +1,68 @@
+-- The loop keeps that the rows before i are tried. Assumes nothing.
+use Rattle.damping.specs.Tick.{Trying, trying-row, trying-more, trying-long, trying-end}
+use mathlib.Core.Path.{sym, _∙_}
+use Prim.Native.Nat.{_-_, _≤_}
+use native.Mathlib.Omega.{arith}
+use Rattle.damping.proofs.tick.try_rows.Statement.{statement}
+use Rattle.damping.proofs.tick.try_rows.Tie as tie
+
+abbrev Inv-loop : tie.InvT-loop
+Inv-loop front₀ words₀ n i₀ front words i = (i ≤ n) × Trying front₀ words₀ front words i
+
+abbrev μ-loop : tie.MeasureT-loop
+μ-loop front₀ words₀ n i₀ front words i = n - i
+
+loop-holds : tie.Need-loop-holds Inv-loop μ-loop
+loop-holds c = (omega arith, c .before .before .pre .0)
+
+try-row-requires : tie.Need-try-row-requires Inv-loop μ-loop
+try-row-requires c κs =
+    let t = c .before .before .before .before .before .before in
+    let s = c .before .before .before .loop in
+    trying-row (t .args .front .now) (t .args .words .now) (s .front) (s .words) (s .i) (omega arith) (s .inv .1)
+
+add-i : tie.Need-add-i Inv-loop μ-loop
+add-i c = omega arith
+
+loop-less : tie.Need-loop-less Inv-loop μ-loop
+loop-less c = omega arith
+
+loop-again : tie.Need-loop-again Inv-loop μ-loop
+loop-again c =
+    let t = c .before .before .before .before .before .before .before .before .before .before .before in
+    let s = c .before .before .before .before .before .before .before .before .loop in
+    let r = c .before .before .before .before .try-row in (
+      omega arith,
+      trying-more (t .args .front .now) (t .args .words .now) (s .front) (s .words) (s .i) (omega arith) (s .inv .1)
+          (r .last .0) (r .last .1 .0) (r .ensures),
+    )
+
+same-length : tie.Need-same-length Inv-loop μ-loop
+same-length c = c .before .loop .inv .1 .tried .size ∙ sym (c .before .before .before .before .pre .0 .tried .size)
+
+same-length-2 : tie.Need-same-length-2 Inv-loop μ-loop
+same-length-2 c =
+    let t = c .before .before .before .before in
+    let s = c .before .loop in
+    trying-long (t .args .front .now) (t .args .words .now) (s .front) (s .words) (s .i) (t .pre .0 .isTable) (s .inv .1)
+
+returns : tie.Need-returns Inv-loop μ-loop
+returns c =
+    let t = c .before .before .before .before in
+    let s = c .before .loop in
+    trying-end (t .args .front .now) (t .args .words .now) (s .front) (s .words) (s .i) (t .args .n) (omega arith) (omega arith) (s .inv .1)
+
+pub try-rows-spec : {M : Type 1} → statement M
+try-rows-spec =
+    tie.close
+    (tie.spec
+    Inv-loop
+    μ-loop
+    loop-holds
+    try-row-requires
+    add-i
+    loop-less
+    loop-again
+    same-length
+    same-length-2
+    returns)

@@ -1,0 +1,78 @@
+-- By the number that stands before the work, or by the work's promise on a front and a table. Assumes nothing.
+use Rattle.damping.specs.Refuse.{refusalThrough, fault-sound, refused-by, passed-all}
+use Rattle.address.specs.Four.{four-number}
+use Rattle.candidates.specs.Answers.{withdraw as update}
+use mathlib.Core.Path.{sym, ap, _∙_}
+use Prim.Native.Nat.{_*_}
+use native.Mathlib.Omega.{arith}
+use borrow.Author.Needs.{needs}
+use Rattle.damping.proofs.withdraw.Statement.{statement}
+use Rattle.damping.proofs.withdraw.Tie as tie
+
+four-of-requires : tie.Need-four-of-requires
+four-of-requires c κs = search needs
+
+slice-aggregate-withdraw-fault : tie.Need-slice-aggregate-withdraw-fault
+slice-aggregate-withdraw-fault c = search needs
+
+withdraw-fault-requires : tie.Need-withdraw-fault-requires
+withdraw-fault-requires c κs = search needs
+
+refusal-requires : tie.Need-refusal-requires
+refusal-requires c κs = search needs
+
+same-length : tie.Need-same-length
+same-length c = search needs
+
+same-length-2 : tie.Need-same-length-2
+same-length-2 c = search needs
+
+returns : tie.Need-returns
+returns c =
+    let t = c .before .before .before .before .before .before .before .before .before in
+    let a = t .args in
+    let f = c .before .before .withdraw-fault in
+    let e = rw (c .before .before .before .before .before .before .four-of .ensures, four-number (a .address) (omega arith)) at (f .ensures) in
+    refused-by (a .front .now) (a .words .now) (update (a .address) (a .length) (a .feed)) (c .before .refusal .result)
+    (c .before .refusal .ensures ∙ ap (refusalThrough (a .front .now) (a .words .now)) e) (c .if1 .taken)
+
+withdraw-in-requires : tie.Need-withdraw-in-requires
+withdraw-in-requires c κs =
+    let c2 = c .before .before in
+    let c3 = c2 .before in
+    let c4 = c3 .before in
+    let c8 = c4 .before .before .before .before in
+    let c10 = c8 .before .before in
+    let c11 = c10 .before in
+    let t = c11 in
+    let a = t .args in
+    let f = c4 .withdraw-fault in
+    let e = rw (c8 .four-of .ensures, four-number (a .address) (omega arith)) at (f .ensures) in
+    let p = passed-all (a .front .now) (a .words .now) (f .result) (λ i. omega (arith, c10 .slice-known .given (4 * i)))
+    (sym (c3 .refusal .ensures) ∙ c2 .if1 .left) in
+    record { front = p .0; table = p .1; sound = fault-sound (update (a .address) (a .length) (a .feed)) (sym e ∙ p .2) }
+
+same-length-3 : tie.Need-same-length-3
+same-length-3 c = search needs
+
+same-length-4 : tie.Need-same-length-4
+same-length-4 c = search needs
+
+returns-2 : tie.Need-returns-2
+returns-2 c = search needs
+
+pub withdraw-spec : {M : Type 1} → statement M
+withdraw-spec =
+    tie.close
+    (tie.spec
+    four-of-requires
+    slice-aggregate-withdraw-fault
+    withdraw-fault-requires
+    refusal-requires
+    same-length
+    same-length-2
+    returns
+    withdraw-in-requires
+    same-length-3
+    same-length-4
+    returns-2)

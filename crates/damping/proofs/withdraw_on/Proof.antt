@@ -1,0 +1,60 @@
+-- A fault of its own is refused by the table; the rest is the work. Assumes nothing.
+use Rattle.damping.specs.Refuse.{fault-sound, faults-on}
+use Rattle.address.specs.Four.{four-number}
+use Rattle.candidates.specs.Answers.{withdraw}
+use mathlib.Core.Path.{sym, _∙_}
+use native.Mathlib.Omega.{arith}
+use borrow.Author.Needs.{needs}
+use Rattle.damping.proofs.withdraw_on.Statement.{statement}
+use Rattle.damping.proofs.withdraw_on.Tie as tie
+
+four-of-requires : tie.Need-four-of-requires
+four-of-requires c κs = search needs
+
+slice-aggregate-withdraw-fault : tie.Need-slice-aggregate-withdraw-fault
+slice-aggregate-withdraw-fault c = search needs
+
+withdraw-fault-requires : tie.Need-withdraw-fault-requires
+withdraw-fault-requires c κs = search needs
+
+returns : tie.Need-returns
+returns c =
+    let t = c .before .before .before .before .before .before in
+    let a = t .args in
+    let f = c .before .withdraw-fault in
+    let e = rw (c .before .before .before .four-of .ensures, four-number (a .address) (omega arith)) at (f .ensures) in
+    faults-on (a .front .now) (a .words .now) (withdraw (a .address) (a .length) (a .feed)) (f .result) (t .pre .0) (t .pre .1) e (c .if1 .taken)
+
+withdraw-in-requires : tie.Need-withdraw-in-requires
+withdraw-in-requires c κs =
+    let t = c .before .before .before .before .before .before .before .before in
+    let a = t .args in
+    let f = c .before .before .before .withdraw-fault in
+    let e = rw (c .before .before .before .before .before .four-of .ensures, four-number (a .address) (omega arith)) at (f .ensures) in
+    record {
+      front = t .pre .0;
+      table = t .pre .1;
+      sound = fault-sound (withdraw (a .address) (a .length) (a .feed)) (sym e ∙ c .before .before .if1 .left);
+    }
+
+same-length : tie.Need-same-length
+same-length c = search needs
+
+same-length-2 : tie.Need-same-length-2
+same-length-2 c = search needs
+
+returns-2 : tie.Need-returns-2
+returns-2 c = search needs
+
+pub withdraw-on-spec : {M : Type 1} → statement M
+withdraw-on-spec =
+    tie.close
+    (tie.spec
+    four-of-requires
+    slice-aggregate-withdraw-fault
+    withdraw-fault-requires
+    returns
+    withdraw-in-requires
+    same-length
+    same-length-2
+    returns-2)

@@ -1,0 +1,5 @@
+pub mod View
+pub mod Update
+pub mod Refuse
+pub mod Count
+pub mod Tick

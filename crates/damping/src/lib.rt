@@ -1,0 +1,166 @@
+// Updates through a front before a table: a candidate that is held back is kept and dropped in the front, any other goes to the
+// table, and an accepted withdrawal is charged.
+pub mod tick; // a tick of both
+
+use replies::Reply;
+ghost use mathlib.Core.Path.{_≡_};
+ghost use Rattle.routes.specs.Answers.{isDone};
+ghost use Rattle.candidates.specs.Answers.{announce as announced, withdraw as withdrawn};
+ghost use Rattle.words.specs.TableBut.{Table};
+ghost use Rattle.replies.specs.Said.{saidReply};
+ghost use Rattle.rows.specs.Row.{IsWords};
+ghost use Rattle.damping.specs.Update.{HasDamped, Damps};
+ghost use Rattle.damping.specs.Refuse.{refusalThrough};
+
+// ---- the work, on a front and a table
+
+fn announce_in(
+    front: &mut [u32],
+    words: &mut [u32],
+    address: u32,
+    length: u32,
+    hop: u32,
+    feed: u32,
+    preference: u8,
+) -> Reply
+    requires { ⌜ Damps (now front) (now words) (announced address length hop feed preference) ⌝ }
+    ensures { λ r. ⌜ HasDamped (now (front .entry)) (now (words .entry)) (now (front .exit)) (now (words .exit))
+        (announced address length hop feed preference) r ⌝ }
+{
+    let spot = charge::find(front, address, length, feed);
+    if spot.mark % 2 == 1 {
+        charge::keep(front, spot, address, length, hop, feed, preference as u32);
+        return Reply::Done(hop, 0);
+    }
+    let bytes = address::four_of(address);
+    update::announce_on(words, &bytes, length, hop, feed, preference)
+}
+
+fn is_done(r: Reply) -> bool
+    ensures { λ b. ⌜ b ≡ isDone (saidReply r) ⌝ }
+{
+    match r {
+        Reply::Done(_, _) => true,
+        Reply::Found(_, _, _) => false,
+        Reply::Nothing(_) => false,
+        Reply::Refused(_) => false,
+    }
+}
+
+fn withdraw_in(front: &mut [u32], words: &mut [u32], address: u32, length: u32, feed: u32) -> Reply
+    requires { ⌜ Damps (now front) (now words) (withdrawn address length feed) ⌝ }
+    ensures { λ r. ⌜ HasDamped (now (front .entry)) (now (words .entry)) (now (front .exit)) (now (words .exit))
+        (withdrawn address length feed) r ⌝ }
+{
+    let spot = charge::find(front, address, length, feed);
+    if spot.mark % 2 == 1 {
+        if spot.kept == 0 {
+            return Reply::Refused(7);
+        }
+        charge::charge(front, spot, address, length, feed);
+        return Reply::Done(spot.kept % 65536, 0);
+    }
+    let bytes = address::four_of(address);
+    let r = update::withdraw_on(words, &bytes, length, feed);
+    if is_done(r) {
+        charge::charge(front, spot, address, length, feed);
+    }
+    r
+}
+
+// ---- updates of a front and a table, by callers that know them to be such
+
+pub fn announce_on(
+    front: &mut [u32],
+    words: &mut [u32],
+    address: u32,
+    length: u32,
+    hop: u32,
+    feed: u32,
+    preference: u8,
+) -> Reply
+    requires { ⌜ IsWords (now front) × Table 4 (now words) ⌝ }
+    ensures { λ r. ⌜ HasDamped (now (front .entry)) (now (words .entry)) (now (front .exit)) (now (words .exit))
+        (announced address length hop feed preference) r ⌝ }
+{
+    let bytes = address::four_of(address);
+    let f = update::announce_fault(&bytes, length, hop, feed);
+    if f != 0 {
+        return Reply::Refused(f);
+    }
+    announce_in(front, words, address, length, hop, feed, preference)
+}
+
+pub fn withdraw_on(
+    front: &mut [u32],
+    words: &mut [u32],
+    address: u32,
+    length: u32,
+    feed: u32,
+) -> Reply
+    requires { ⌜ IsWords (now front) × Table 4 (now words) ⌝ }
+    ensures { λ r. ⌜ HasDamped (now (front .entry)) (now (words .entry)) (now (front .exit)) (now (words .exit))
+        (withdrawn address length feed) r ⌝ }
+{
+    let bytes = address::four_of(address);
+    let f = update::withdraw_fault(&bytes, length, feed);
+    if f != 0 {
+        return Reply::Refused(f);
+    }
+    withdraw_in(front, words, address, length, feed)
+}
+
+// ---- updates of any words
+
+// The first of 1, an update's own fault (0 for none) and 2 that applies, or 0: then there is no fault, and the words are a front
+// and a table.
+pub fn refusal(front: &[u32], words: &[u32], fault: u32) -> u32
+    ensures { λ r. ⌜ r ≡ refusalThrough (now (front .entry)) (now (words .entry)) fault ⌝ }
+{
+    let n = update::refusal(words, fault);
+    if n != 0 {
+        return n;
+    }
+    if !rows::is_front(front) {
+        return 2;
+    }
+    0
+}
+
+// A candidate announced: refused with the first of 1, 3, 4, 5, 10, 2 and 8 that applies, kept, or held afterwards.
+pub fn announce(
+    front: &mut [u32],
+    words: &mut [u32],
+    address: u32,
+    length: u32,
+    hop: u32,
+    feed: u32,
+    preference: u8,
+) -> Reply
+    ensures { λ r. ⌜ HasDamped (now (front .entry)) (now (words .entry)) (now (front .exit)) (now (words .exit))
+        (announced address length hop feed preference) r ⌝ }
+{
+    let bytes = address::four_of(address);
+    let n = refusal(
+        front,
+        words,
+        update::announce_fault(&bytes, length, hop, feed),
+    );
+    if n != 0 {
+        return Reply::Refused(n);
+    }
+    announce_in(front, words, address, length, hop, feed, preference)
+}
+
+// A candidate withdrawn: refused with the first of 1, 3, 4, 10, 2 and 7 that applies, or neither held nor kept any more.
+pub fn withdraw(front: &mut [u32], words: &mut [u32], address: u32, length: u32, feed: u32) -> Reply
+    ensures { λ r. ⌜ HasDamped (now (front .entry)) (now (words .entry)) (now (front .exit)) (now (words .exit))
+        (withdrawn address length feed) r ⌝ }
+{
+    let bytes = address::four_of(address);
+    let n = refusal(front, words, update::withdraw_fault(&bytes, length, feed));
+    if n != 0 {
+        return Reply::Refused(n);
+    }
+    withdraw_in(front, words, address, length, feed)
+}
