@@ -1,0 +1,10 @@
+pub mod Bits
+pub mod Prefix
+pub mod Mask
+pub mod Index
+pub mod Spread
+pub mod On
+pub mod Top
+pub mod Entry
+pub mod Sieve
+pub mod Worked
