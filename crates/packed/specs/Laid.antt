@@ -1,0 +1,128 @@
+-- When words are arrays laid out by masks: the arrays in use one after the other in the order of their numbers, each with its
+-- entries in the order of their indices. Assumes nothing.
+--
+--     array      1            2          3 (free)      4
+--     mask       255          00001100                 0
+--     entries    256          4                        1
+--     begins     1024         2048                     2064          needed: 2068 words
+use mathlib.Core.Path.{_≡_, refl, sym, _∙_}
+use mathlib.Core.Bool.{Bool, true, false, cond, not, _&&_, _||_, true≢false}
+use mathlib.Core.List.{List}
+use Prim.Native.Nat.{ℕ, zero, suc, _+_, _-_, _*_, _^_, _≤_, _<_}
+use native.Mathlib.Omega.{arith}
+use lib.ListN.{length, getD}
+use lib.Dec.{leb, eqb}
+use lib.Count.{ones}
+use borrow.Author.Tests.{eq-eqb, ne-eqb, le-leb, leb-true}
+use Rattle.logic.specs.Cases.{same}
+use Rattle.logic.specs.Bools.{and-to}
+use Rattle.sizes.specs.Sizes.{cellSlots}
+use Rattle.masks.specs.Mask.{Free, maskOf, chosen, full-free}
+use Rattle.masks.specs.Entry.{entryAt}
+use Rattle.tree.specs.Arrays.{Arrays}
+use Rattle.packed.specs.Byte.{coverOf, belowOf, Holds}
+use Rattle.packed.specs.Layout.{headerWords, entryWords, fullMask}
+
+-- ---- the prefixes of an array, by their slots: its routes, and its links as prefixes of 8 bits
+
+abbrev pub heldBy : (ℕ → ℕ) → (ℕ → ℕ) → ℕ → Bool
+heldBy f link s = leb 1 s && (not (eqb (f s) 0) || (leb cellSlots s && not (eqb (link (s - cellSlots)) 0)))
+
+abbrev pub heldOf : Arrays → ℕ → ℕ → Bool
+heldOf t a = heldBy (t .slot a) (t .link a)
+
+-- ---- masks and places
+
+-- the first array is not compressed
+unfoldable pub maskAt : Arrays → ℕ → ℕ
+maskAt t a = cond (eqb a 1) fullMask (maskOf (heldOf t a))
+
+-- the entries of array a, if it is used, and of the arrays 1 .. n
+abbrev pub entriesIn : Arrays → ℕ → ℕ
+entriesIn t a = cond (eqb (t .tag a) 0) 0 (2 ^ ones (maskAt t a))
+
+unfoldable pub entriesTo : Arrays → ℕ → ℕ
+entriesTo t zero = 0
+entriesTo t (suc n) = entriesTo t n + entriesIn t (suc n)
+
+abbrev pub placeOf : Arrays → ℕ → ℕ
+placeOf t a = headerWords + entryWords * entriesTo t (a - 1)
+
+-- the words that A arrays need
+abbrev pub neededFor : Arrays → ℕ → ℕ
+neededFor t A = headerWords + entryWords * entriesTo t A
+
+-- ---- the words
+
+-- of the array b below an entry, 0 for none
+abbrev pub placeBelow : Arrays → ℕ → ℕ
+placeBelow t b = cond (eqb b 0) 0 (placeOf t b)
+
+abbrev pub maskBelow : Arrays → ℕ → ℕ
+maskBelow t b = cond (eqb b 0) 0 (maskAt t b)
+
+-- the entry at word w is that of slot s of array a
+pub record IsEntry (t : Arrays) (ws : List ℕ) (w a s : ℕ) : Type 0 where
+  pub slot : getD ws w 0 ≡ s
+  pub best : getD ws (w + 1) 0 ≡ coverOf (t .slot a) s
+  pub place : getD ws (w + 2) 0 ≡ placeBelow t (belowOf (t .link a) s)
+  pub mask : getD ws (w + 3) 0 ≡ maskBelow t (belowOf (t .link a) s)
+
+-- the arrays 1 .. A are laid out
+pub record Laid (t : Arrays) (A : ℕ) (ws : List ℕ) : Type 0 where
+  pub room : neededFor t A ≤ length ws
+  pub entries : (a v : ℕ) → 1 ≤ a → a ≤ A → 1 ≤ t .tag a → v < 2 ^ ones (maskAt t a)
+      → IsEntry t ws (placeOf t a + entryWords * v) a (entryAt (heldOf t a) (maskAt t a) v)
+
+-- ---- its laws
+
+pub heldBy-holds : (f link : ℕ → ℕ) → Holds (heldBy f link) f link
+heldBy-holds f link = record {
+  from-one = λ s e. leb-true 1 s (and-to (leb 1 s) _ e .0);
+  hop = λ s h l e. same (f s) 0 (λ q _. q) (λ n d. absurd (true≢false (rw (le-leb 1 s h, d) at e)));
+  linked = λ i h e. same (link i) 0 (λ q _. q) (λ n d. absurd (true≢false (some i d e)));
+}
+  where
+    or-so : (b : Bool) → (b || true) ≡ true
+    or-so true = refl
+    or-so false = refl
+
+    some : (i : ℕ) → eqb (link i) 0 ≡ false → heldBy f link (cellSlots + i) ≡ false → true ≡ false
+    some i d e =
+        let k : cellSlots + i - cellSlots ≡ i = omega arith in
+        sym (or-so (not (eqb (f (cellSlots + i)) 0)))
+        ∙ (rw (le-leb 1 (cellSlots + i) (omega arith), le-leb cellSlots (cellSlots + i) (omega arith), k, d) at e)
+
+module _ (t : Arrays) where
+  pub mask-first : maskAt t 1 ≡ fullMask
+  unfolding maskAt
+  mask-first = refl
+
+  pub mask-fit : (a : ℕ) → maskAt t a < 256
+  unfolding maskAt
+  mask-fit a = same a 1 (λ q e. rw e (omega arith)) (λ n e. rw e (chosen (heldOf t a) .fit))
+
+  pub mask-free : (a : ℕ) → Free (heldOf t a) (maskAt t a)
+  unfolding maskAt
+  mask-free a = same a 1 (λ q e. rw e (full-free (heldOf t a))) (λ n e. rw e (chosen (heldOf t a) .free))
+
+  entries-more : (n k : ℕ) → entriesTo t n ≤ entriesTo t (n + k)
+  unfolding entriesTo
+  entries-more n zero = let e : n + 0 ≡ n = omega arith in rw e (omega arith)
+  entries-more n (suc k) = let e : n + suc k ≡ suc (n + k) = omega arith in rw e (omega (arith, entries-more n k))
+
+  pub entries-le : (n m : ℕ) → n ≤ m → entriesTo t n ≤ entriesTo t m
+  entries-le n m h = let e : n + (m - n) ≡ m = omega arith in rw e at (entries-more n (m - n))
+
+  -- a used array ends where the next begins
+  pub entries-end : (a : ℕ) → 1 ≤ a → 1 ≤ t .tag a → entriesTo t (a - 1) + 2 ^ ones (maskAt t a) ≡ entriesTo t a
+  unfolding entriesTo
+  entries-end zero h u = absurd (omega arith)
+  entries-end (suc n) h u =
+      let e : suc n - 1 ≡ n = omega arith in
+      rw (e, ne-eqb (t .tag (suc n)) 0 (λ z. omega arith))
+
+  -- it stands inside what is needed
+  pub inside : (A a v : ℕ) → 1 ≤ a → a ≤ A → 1 ≤ t .tag a → v < 2 ^ ones (maskAt t a)
+      → placeOf t a + entryWords * v + entryWords ≤ neededFor t A
+  inside A a v h l u b = omega (arith, entries-end a h u, entries-le a A l)
