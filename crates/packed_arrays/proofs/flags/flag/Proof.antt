@@ -1,0 +1,65 @@
+-- `packed_arrays::flags::flag`: by its four cases. Assumes nothing.
+use mathlib.Core.Path.{sym, _∙_}
+use Rattle.packed_arrays.proofs.Laws.{flag-hop, flag-short, flag-link, flag-none}
+use borrow.Author.Needs.{needs}
+use Rattle.packed_arrays.proofs.flags.flag.Statement.{statement}
+use Rattle.packed_arrays.proofs.flags.flag.Tie as tie
+
+hop-of-requires : tie.Need-hop-of-requires
+hop-of-requires c κs = search needs
+
+returns : tie.Need-returns
+returns c =
+    let s = c .before .before .before in
+    flag-hop (s .args .page .now) (s .args .s) (s .pre .1) (λ e. c .if1 .taken (c .before .hop-of .ensures .0 ∙ e))
+
+returns-2 : tie.Need-returns-2
+returns-2 c =
+    let s = c .before .before .before .before in
+    flag-short (s .args .page .now) (s .args .s) (s .pre .1) (sym (c .before .before .hop-of .ensures .0) ∙ c .before .if1 .left) (c .if2 .taken)
+
+add-has-link : tie.Need-add-has-link
+add-has-link c = search needs
+
+mul-has-link : tie.Need-mul-has-link
+mul-has-link c = search needs
+
+shared-slice-read-has-link : tie.Need-shared-slice-read-has-link
+shared-slice-read-has-link c = search needs
+
+has-link-requires : tie.Need-has-link-requires
+has-link-requires c κs = search needs
+
+returns-3 : tie.Need-returns-3
+returns-3 c =
+    let b3 = c .before .before .before in
+    let b4 = b3 .before in
+    let b5 = b4 .before in
+    let b7 = b5 .before .before in
+    let s = b7 in
+    flag-link (s .args .page .now) (s .args .s) (s .pre .1) (sym (b5 .hop-of .ensures .0) ∙ b4 .if1 .left) (b3 .if2 .left)
+    (c .before .has-link .result) (c .before .has-link .ensures) (c .if3 .taken)
+
+returns-4 : tie.Need-returns-4
+returns-4 c =
+    let b3 = c .before .before .before in
+    let b4 = b3 .before in
+    let b5 = b4 .before in
+    let b7 = b5 .before .before in
+    let s = b7 in
+    flag-none (s .args .page .now) (s .args .s) (s .pre .1) (sym (b5 .hop-of .ensures .0) ∙ b4 .if1 .left) (b3 .if2 .left)
+    (c .before .has-link .result) (c .before .has-link .ensures) (c .if3 .left)
+
+pub flag-spec : {M : Type 1} → statement M
+flag-spec =
+    tie.close
+    (tie.spec
+    hop-of-requires
+    returns
+    returns-2
+    add-has-link
+    mul-has-link
+    shared-slice-read-has-link
+    has-link-requires
+    returns-3
+    returns-4)

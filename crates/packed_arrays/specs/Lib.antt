@@ -1,0 +1,4 @@
+pub mod Flags
+pub mod Mapped
+pub mod Filled
+pub mod Laying
