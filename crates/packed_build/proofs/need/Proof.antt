@@ -1,0 +1,65 @@
+-- `packed_build::need` refuses, or counts the entries. Assumes nothing.
+use mathlib.Core.Path.{_≡_, refl, sym, _∙_}
+use native.Mathlib.Omega.{arith}
+use borrow.Author.Tests.{not-true, not-false}
+use Rattle.words.specs.View.{no-misfit-fits}
+use Rattle.packed_build.specs.Laying.{need-misfit, need-foreign, need-table, is-table}
+use borrow.Author.Needs.{needs}
+use Rattle.packed_build.proofs.need.Statement.{statement}
+use Rattle.packed_build.proofs.need.Tie as tie
+
+misfit-requires : tie.Need-misfit-requires
+misfit-requires c κs = search needs
+
+returns : tie.Need-returns
+returns c = need-misfit (c .before .before .before .args .table .now) (sym (c .before .misfit .ensures) ∙ c .if1 .taken)
+
+is-table-of-requires : tie.Need-is-table-of-requires
+is-table-of-requires c κs = sym (c .before .misfit .ensures) ∙ c .if1 .left
+
+returns-2 : tie.Need-returns-2
+returns-2 c =
+    let b2 = c .before .before in
+    let b3 = b2 .before in
+    let b5 = b3 .before .before in
+    let i = c .before .is-table-of in
+    need-foreign (b5 .args .table .now) (sym (b3 .misfit .ensures) ∙ b2 .if1 .left)
+    (sym (i .ensures) ∙ not-true (i .result) (c .if2 .taken))
+
+slice-aggregate-places : tie.Need-slice-aggregate-places
+slice-aggregate-places c = search needs
+
+places-requires : tie.Need-places-requires
+places-requires c κs = (no-misfit-fits _ (sym (c .before .before .before .before .misfit .ensures) ∙ c .before .before .before .if1 .left), refl)
+
+mul-t5 : tie.Need-mul-t5
+mul-t5 c = search needs
+
+add-t10 : tie.Need-add-t10
+add-t10 c = search needs
+
+returns-3 : tie.Need-returns-3
+returns-3 c =
+    let b3 = c .before .before .before in
+    let b4 = b3 .before in
+    let b5 = b4 .before in
+    let b6 = b5 .before in
+    let b8 = b6 .before .before in
+    let ts = b8 .args .table .now in
+    let i = b4 .is-table-of in
+    let o = is-table ts (sym (b6 .misfit .ensures) ∙ b5 .if1 .left) (sym (i .ensures) ∙ not-false (i .result) (b3 .if2 .left)) in
+    need-table ts o (c .before .places .result) (c .before .places .ensures .1 .0)
+
+pub need-spec : {M : Type 1} → statement M
+need-spec =
+    tie.close
+    (tie.spec
+    misfit-requires
+    returns
+    is-table-of-requires
+    returns-2
+    slice-aggregate-places
+    places-requires
+    mul-t5
+    add-t10
+    returns-3)

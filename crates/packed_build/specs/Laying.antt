@@ -1,0 +1,134 @@
+-- What is asked before all arrays are laid out, and what the returns of the calls come to. Assumes nothing.
+use mathlib.Core.Path.{_≡_, refl, sym, ap, _∙_}
+use mathlib.Core.Logic.{inl, inr}
+use mathlib.Core.Bool.{Bool, true, false}
+use mathlib.Core.List.{List}
+use Prim.Native.Nat.{ℕ, _+_, _-_, _*_, _^_, _≤_, _<_}
+use native.Mathlib.Omega.{arith}
+use lib.ListN.{length, getD}
+use lib.Count.{ones}
+use borrow.Author.Tests.{lt-ltb, le-ltb, ne-eqb}
+use Rattle.logic.specs.Reflects.{Reflects}
+use Rattle.routes.specs.Seen.{misfits, gives, refuses}
+use Rattle.array.specs.Frame.{pageOf}
+use Rattle.tree.specs.Arrays.{Arrays}
+use Rattle.words.specs.Words.{arraysOf, arrayCount}
+use Rattle.words.specs.Table.{tableB, seen, listOf}
+use Rattle.words.specs.TableBut.{Table}
+use Rattle.words.specs.CheckReflects.{table-reflects}
+use Rattle.words.specs.View.{no-misfit-fits, seen-misfit, seen-foreign, seen-table}
+use Rattle.words.specs.Stock.{table-need}
+use Rattle.packed.specs.Layout.{headerWords, entryWords}
+use Rattle.packed.specs.Laid.{entriesTo, entries-end, entries-le, maskAt, placeOf}
+use Rattle.packed_arrays.specs.Mapped.{Mapped, placeIn, maskIn, mapped-place, mapped-mask}
+use Rattle.packed_arrays.specs.Filled.{Filled}
+use Rattle.packed_arrays.specs.Laying.{LaidTo, laid-all, laid-none, laid-used, laid-free, entry-is}
+use Rattle.packed_build.specs.Answer.{needOf, needOn, buildOn, Leaves, LeavesOn}
+
+-- the table's arrays are to be laid out by a map that is right, and there are words enough
+pub record Lays (ts map ws : List ℕ) : Type 0 where
+  pub table : Table 4 ts
+  pub mapped : Mapped (arraysOf ts) map (arrayCount ts)
+  pub room : needOf ts ≤ length ws
+
+module _ (ts : List ℕ) where
+  -- ---- refused with 1
+
+  module _ (m : misfits (length ts) ≡ true) where
+    pub need-misfit : refuses 1 ≡ needOn (seen 4 ts) (needOf ts)
+    need-misfit = rw (seen-misfit 4 ts m)
+
+    pub build-misfit : (ws : List ℕ)
+        → (refuses 1 ≡ buildOn (seen 4 ts) (needOf ts) (length ws)) × LeavesOn (seen 4 ts) ts ws ws
+    build-misfit ws = rw (seen-misfit 4 ts m) (refl, refl)
+
+  module _ (m : misfits (length ts) ≡ false) where
+    -- ---- refused with 2
+
+    module _ (b : tableB 4 ts ≡ false) where
+      pub need-foreign : refuses 2 ≡ needOn (seen 4 ts) (needOf ts)
+      need-foreign = rw (seen-foreign 4 ts m b)
+
+      pub build-foreign : (ws : List ℕ)
+          → (refuses 2 ≡ buildOn (seen 4 ts) (needOf ts) (length ws)) × LeavesOn (seen 4 ts) ts ws ws
+      build-foreign ws = rw (seen-foreign 4 ts m b) (refl, refl)
+
+    -- ---- a table
+
+    pub is-table : tableB 4 ts ≡ true → Table 4 ts
+    is-table b = table-reflects 4 ts (omega arith) (omega arith) (no-misfit-fits (length ts) m) .to b
+
+  module _ (o : Table 4 ts) (n : ℕ) (e : n ≡ entriesTo (arraysOf ts) (arrayCount ts)) where
+    pub need-table : gives (1024 + 4 * n) ≡ needOn (seen 4 ts) (needOf ts)
+    need-table = rw (seen-table 4 ts o, e)
+
+    module _ (ws : List ℕ) where
+      pub build-short : length ws < 1024 + 4 * n
+          → (refuses 9 ≡ buildOn (seen 4 ts) (needOf ts) (length ws)) × LeavesOn (seen 4 ts) ts ws ws
+      build-short h =
+          let l : length ws < needOf ts = rw e at h in
+          rw (seen-table 4 ts o) (
+            rw (lt-ltb (length ws) (needOf ts) l),
+            record {
+              refused = λ _. refl;
+              laid = λ k. absurd (omega arith);
+              long = refl;
+              header = λ i k. refl;
+              past = λ i k. refl;
+            },
+          )
+
+      module _ (h : 1024 + 4 * n ≤ length ws) where
+        pub lays : (map : List ℕ) → Mapped (arraysOf ts) map (arrayCount ts) → Lays ts map ws
+        lays map p = record { table = o; mapped = p; room = rw e at h }
+
+        pub build-answer : gives (record { arrays = getD ts 0 0; words = 1024 + 4 * n })
+            ≡ buildOn (seen 4 ts) (needOf ts) (length ws)
+        build-answer =
+            let l : needOf ts ≤ length ws = rw e at h in
+            rw (seen-table 4 ts o, le-ltb (length ws) (needOf ts) l, table-need 4 ts o, e)
+
+        pub build-laid : (us : List ℕ) → LaidTo (arraysOf ts) ws us (arrayCount ts) → LeavesOn (seen 4 ts) ts ws us
+        build-laid us p =
+            let l : needOf ts ≤ length ws = rw e at h in
+            rw (seen-table 4 ts o) (record {
+              refused = λ k. absurd (omega arith);
+              laid = λ k. laid-all (arraysOf ts) (arrayCount ts) ws us k p;
+              long = p .size;
+              header = λ i k. p .rest i (inl k);
+              past = λ i k. p .rest i (inr k);
+            })
+
+-- ---- one array more
+
+module _ (ts map ws : List ℕ) (y : Lays ts map ws) (a : ℕ) (some : 1 ≤ a) (within : a ≤ arrayCount ts)
+    (used : 1 ≤ arraysOf ts .tag a) where
+  abbrev t : Arrays
+  t = arraysOf ts
+
+  map-place : placeIn map a ≡ placeOf t a
+  map-place =
+      mapped-place t map (arrayCount ts) (y .mapped) a within (λ _. used) ∙ rw (ne-eqb a 0 (λ z. omega arith))
+
+  map-mask : maskIn map a ≡ maskAt t a
+  map-mask =
+      mapped-mask t map (arrayCount ts) (y .mapped) a within (λ _. used) ∙ rw (ne-eqb a 0 (λ z. omega arith))
+
+  module _ (o m : ℕ) (p : o ≡ placeIn map a) (q : m ≡ maskIn map a) where
+    pub room-at : o + entryWords * 2 ^ ones m ≤ length ws
+    room-at =
+        let e : m ≡ maskAt t a = q ∙ map-mask in
+        rw (p, map-place, e) (omega (arith, entries-end t a some used, entries-le t a (arrayCount ts) within, y .room))
+
+    pub laid-more : (page us vs : List ℕ) → page ≡ pageOf ts a → Filled page map us vs o m (2 ^ ones m)
+        → LaidTo t ws us (a - 1) → LaidTo t ws vs (a + 1 - 1)
+    laid-more page us vs g f l =
+        let d : a + 1 - 1 ≡ a = omega arith in
+        let e : m ≡ maskAt t a = q ∙ map-mask in
+        let k : o ≡ placeOf t a = p ∙ map-place in
+        let f′ : Filled (pageOf ts a) map us vs (placeOf t a) (maskAt t a) (2 ^ ones (maskAt t a)) = rw (g, e, k) at f in
+        rw d (laid-used t ws us a some l vs used (f′ .size)
+        (entry-is 4 ts (y .table) a some within used map us vs (y .mapped) (placeOf t a) f′) (f′ .rest))
+
+pub laid-same : (t : Arrays) (ws us : List ℕ) (a : ℕ) → 1 ≤ a → t .tag a ≡ 0 → LaidTo t ws us (a - 1) → LaidTo t ws us (a + 1 - 1)
+laid-same t ws us a h z l = let d : a + 1 - 1 ≡ a = omega arith in rw d (laid-free t ws us a h l z)
