@@ -3,14 +3,22 @@
 --
 --     10.1.4.0/22, L = 4      level 2, depth 6, value 1: the first 6 bits of byte 4
 use mathlib.Core.Path.{_≡_}
+use mathlib.Core.List.{List}
 use mathlib.Core.Logic.{_⊎_, inl, inr, ⊎-elim}
 use mathlib.Core.Bool.{cond}
 use Prim.Native.Nat.{ℕ, _+_, _-_, _*_, _/_, _%_, _^_, _≤_, _<_}
 use native.Mathlib.Omega.{arith}
+use lib.ListN.{length}
 use Rattle.logic.specs.Cases.{same, less}
+use Rattle.sizes.specs.Sizes.{levelBound}
 use Rattle.numbers.specs.Front.{byteOf, value}
 use Rattle.routes.specs.Route.{tooLong, stray}
 use Rattle.routes.specs.Room.{level}
+
+-- lent bytes that are an address: some, and not more than a tag has levels for
+pub record IsAddress (bs : List ℕ) : Type 0 where
+  pub some : 1 ≤ length bs
+  pub levels : length bs < levelBound
 
 -- no bit after the length is set
 pub record IsPrefix (L a l : ℕ) : Type 0 where

@@ -10,7 +10,7 @@ use lib.Seq.{take-suc, length-take-le, getD-take, getD-append-add}
 use Rattle.logic.specs.Cases.{less}
 use Rattle.numbers.specs.Digits.{four}
 use Rattle.numbers.specs.Number.{number, AreBytes, number-append, number-lt, number-same}
-use Rattle.address.specs.Four.{four-number}
+use Rattle.numbers.specs.Four.{four-number}
 
 pub number-more : (bs : List ℕ) (k : ℕ) → k < length bs → number (take (suc k) bs) ≡ number (take k bs) * 256 + getD bs k 0
 unfolding number

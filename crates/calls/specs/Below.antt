@@ -11,6 +11,7 @@ use mathlib.Core.List.{List, _++_}
 use Prim.Native.Nat.{ℕ}
 use native.Mathlib.Omega.{arith}
 use lib.ListN.{length, drop}
+use Rattle.routes.specs.Family.{v4}
 use Rattle.routes.specs.Answers.{Reply, done, found, none, refused, isRefused}
 use Rattle.routes.specs.Seen.{Answer, gives, refuses, Counts}
 use Rattle.candidates.specs.Answers.{Update}
@@ -149,24 +150,24 @@ size-back (refuses n) = refl
 -- two calls stand below it: the count, and the fill
 pub write-below : (ws b c : List ℕ) (r : Written) → HasWritten ws b c r
     → Below (λ t. wrote (countAnswer t))
-    (λ t. (countAnswer t ≡ countOn (seen 4 ws) (length b)) × HasFilled (seen 4 ws) b (r .bytes) c) r
+    (λ t. (countAnswer t ≡ countOn v4 (seen 4 ws) (length b)) × HasFilled v4 (seen 4 ws) b (r .bytes) c) r
 write-below ws b c r p =
-    let e = size-back (countOn (seen 4 ws) (length b)) in
+    let e = size-back (countOn v4 (seen 4 ws) (length b)) in
     record {
-      answer = asSize (countOn (seen 4 ws) (length b));
+      answer = asSize (countOn v4 (seen 4 ws) (length b));
       told = p .answer ∙ ap wrote (sym e);
       promise = (
         e,
-        record { count = many; list = p .front ∙ ap (λ (n : ℕ). frontOn (seen 4 ws) (length b) ++ drop n b) (sym many) },
+        record { count = many; list = p .front ∙ ap (λ (n : ℕ). frontOn v4 (seen 4 ws) (length b) ++ drop n b) (sym many) },
       );
     }
   where
-    long : (a : Answer ℕ) → countOn (seen 4 ws) (length b) ≡ a → wrote a .bytes ≡ length (frontOn (seen 4 ws) (length b))
-    long (gives n) e = sym (front-length (seen 4 ws) (length b) n e)
-    long (refuses n) e = sym (ap length (front-none (seen 4 ws) (length b) n e))
+    long : (a : Answer ℕ) → countOn v4 (seen 4 ws) (length b) ≡ a → wrote a .bytes ≡ length (frontOn v4 (seen 4 ws) (length b))
+    long (gives n) e = sym (front-length v4 (seen 4 ws) (length b) n e)
+    long (refuses n) e = sym (ap length (front-none v4 (seen 4 ws) (length b) n e))
 
-    many : r .bytes ≡ length (frontOn (seen 4 ws) (length b))
-    many = ap (λ (x : Written). x .bytes) (p .answer) ∙ long (countOn (seen 4 ws) (length b)) refl
+    many : r .bytes ≡ length (frontOn v4 (seen 4 ws) (length b))
+    many = ap (λ (x : Written). x .bytes) (p .answer) ∙ long (countOn v4 (seen 4 ws) (length b)) refl
 
 -- ---- toggleash_run
 
@@ -179,17 +180,17 @@ ran-back (gives p) = refl
 ran-back (refuses n) = refl
 
 pub run-below : (ws bytes b vs c : List ℕ) (r : Fields) → HasRun ws bytes b vs c r
-    → Below (λ t. ran (feed.runAnswer t)) (feed.HasRun ws bytes b vs c) r
+    → Below (λ t. ran (feed.runAnswer t)) (feed.HasRun v4 ws bytes b vs c) r
 run-below ws bytes b vs c r p =
-    let e = ran-back (feed.reported (runOn (seen 4 ws) bytes b)) in
+    let e = ran-back (feed.reported (runOn v4 (seen 4 ws) bytes b)) in
     record {
-      answer = asRan (feed.reported (runOn (seen 4 ws) bytes b));
+      answer = asRan (feed.reported (runOn v4 (seen 4 ws) bytes b));
       told = p .answer ∙ ap ran (sym e);
       promise = record {
         answer = e;
         list = p .list;
         replies = p .replies;
-        kept = λ n q. p .kept n (unfit (runOn (seen 4 ws) bytes b) n q);
+        kept = λ n q. p .kept n (unfit (runOn v4 (seen 4 ws) bytes b) n q);
         series = p .series;
       };
     }

@@ -10,6 +10,7 @@ use mathlib.Core.List.{List, []}
 use Prim.Native.Nat.{ℕ, _+_, _*_, _≤_}
 use lib.ListN.{length}
 use borrow.Author.Tests.{le-ltb}
+use Rattle.routes.specs.Family.{v4}
 use Rattle.routes.specs.Room.{need}
 use Rattle.routes.specs.Answers.{Reply}
 use Rattle.routes.specs.Seen.{gives}
@@ -53,7 +54,8 @@ pub record Holds (A : ℕ) (cs : List Candidate) (ws : List ℕ) : Type 0 where
       → withinAnswer r ≡ asked 32 a l (gives (prefixesInside 32 cs a l))
   pub checks : (r : Checked) → checkAnswer r ≡ checkOn 32 (seen 4 ws)
       → checkAnswer r ≡ gives (record { routes = length cs; arrays = need 32 (winners cs) })
-  pub fronts : (b front : List ℕ) → 10 * length cs + 1 ≤ length b → front ≡ frontOn (seen 4 ws) (length b) → front ≡ written cs
+  pub fronts : (b front : List ℕ) → 10 * length cs + 1 ≤ length b → front ≡ frontOn v4 (seen 4 ws) (length b)
+      → front ≡ written v4 cs
 
 holds : (A : ℕ) (cs : List Candidate) (ws : List ℕ) → seen 4 ws ≡ table A cs → Holds A cs ws
 holds A cs ws e =
@@ -73,19 +75,19 @@ pub record Run (A : ℕ) (us : List Update) : Type 0 where
   pub cleared : seen 4 words ≡ table A []
   pub sent : List SentRecord
   pub meant : meanings sent ≡ records us
-  pub fits : AllFit sent
+  pub fits : AllFit v4 sent
   pub rest : List ℕ
   pub closes : Closes rest
   pub reply : List ℕ
   pub words′ : List ℕ
   pub reply′ : List ℕ
   pub report : Report
-  pub runs : HasRun words (bytes sent rest) reply words′ reply′ (Stopped report)
+  pub runs : HasRun v4 words (bytes v4 sent rest) reply words′ reply′ (Stopped report)
   pub enough : report .stop ≢ 4
 
 module _ {A : ℕ} {us : List Update} (c : Run A us) where
   abbrev outcome : Outcome
-  outcome = run A [] (bytes (c .sent) (c .rest)) (length (c .reply))
+  outcome = run v4 A [] (bytes v4 (c .sent) (c .rest)) (length (c .reply))
 
   -- the report is that of the run's definition
   pub reported : c .report ≡ reportOf outcome
@@ -114,8 +116,8 @@ module _ {A : ℕ} {us : List Update} (c : Run A us) where
 
 -- any run of them with five reply bytes for each record is one
 abbrev pub roomy : {A : ℕ} {us : List Update} (ss : List SentRecord) (ws rest b vs c : List ℕ) (r : Ran) → seen 4 ws ≡ table A []
-    → meanings ss ≡ records us → AllFit ss → Closes rest → 5 * length ss ≤ length b
-    → HasRun ws (bytes ss rest) b vs c r → Run A us
+    → meanings ss ≡ records us → AllFit v4 ss → Closes rest → 5 * length ss ≤ length b
+    → HasRun v4 ws (bytes v4 ss rest) b vs c r → Run A us
 roomy {A} ss ws rest b vs c r t m f e h p =
     record {
       words = ws;
@@ -128,9 +130,9 @@ roomy {A} ss ws rest b vs c r t m f e h p =
       reply = b;
       words′ = vs;
       reply′ = c;
-      report = reportOf (run A [] (bytes ss rest) (length b));
-      runs = rw (stopped r (reportOf (run A [] (bytes ss rest) (length b))) (rw t at (p .answer))) at p;
-      enough = enough A [] ss f rest e (length b) h;
+      report = reportOf (run v4 A [] (bytes v4 ss rest) (length b));
+      runs = rw (stopped r (reportOf (run v4 A [] (bytes v4 ss rest) (length b))) (rw t at (p .answer))) at p;
+      enough = enough v4 A [] ss f rest e (length b) h;
     }
 
 -- the three runs: each answer, the counts, and the words that the joint one leaves
@@ -166,7 +168,7 @@ pub record Sent (A : ℕ) (us : List Update) : Type 0 where
   pub cleared : seen 4 words ≡ table A []
   pub replies : List Reply
   pub words′ : List ℕ
-  pub calls : Series words (records us) replies words′
+  pub calls : Series 4 words (records us) replies words′
 
 pub record SentBoth {A : ℕ} {xs ys zs : List Update} (w : Weave xs ys zs)
     (j : Sent A zs) (f : Sent A xs) (s : Sent A ys) : Type 0 where
@@ -181,9 +183,9 @@ pub demand-3-sent : {A : ℕ} {xs ys zs : List Update} (w : Weave xs ys zs) → 
     → (j : Sent A zs) (f : Sent A xs) (s : Sent A ys) → SentBoth w j f s
 demand-3-sent {A} {xs} {ys} {zs} w m j f s =
     let i = demand-3-ipv4 A xs ys zs w m in
-    let p = all-answered A [] (j .cleared) (j .calls) in
-    let q = all-answered A [] (f .cleared) (f .calls) in
-    let r = all-answered A [] (s .cleared) (s .calls) in
+    let p = all-answered 4 A [] (j .cleared) (j .calls) in
+    let q = all-answered 4 A [] (f .cleared) (f .calls) in
+    let r = all-answered 4 A [] (s .cleared) (s .calls) in
     record {
       first = rw (p .answers, q .answers) (i .first-heard);
       second = rw (p .answers, r .answers) (i .second-heard);

@@ -11,6 +11,7 @@ use native.Mathlib.Omega.{arith}
 use lib.ListN.{length, getD, take, drop}
 use lib.Seq.{take-append-seam}
 use borrow.Author.Tests.{le-ltb}
+use Rattle.routes.specs.Family.{v4}
 use Rattle.routes.specs.Route.{Route}
 use Rattle.routes.specs.Match.{Match, none, found, longest}
 use Rattle.routes.specs.Answers as answers
@@ -86,7 +87,7 @@ record Out (ws bs : List ℕ) : Type 0 where
   arrays : ℕ
   list : List Candidate
   table : seen 4 ws ≡ table arrays list
-  bytes : bs ≡ written list
+  bytes : bs ≡ written v4 list
 
 out : (ws b c : List ℕ) (r : Written) → HasWritten ws b c r → r .refusal ≡ 0 → Out ws (take (r .bytes) c)
 out ws b c r w z = go (seen 4 ws) refl
@@ -94,9 +95,9 @@ out ws b c r w z = go (seen 4 ws) refl
     number : (n : ℕ) → r ≡ wrote (refuses n) → n ≡ 0
     number n e = sym (ap (λ (x : Written). x .refusal) e) ∙ z
 
-    whole : (cs : List Candidate) → r ≡ wrote (gives (10 * length cs + 1)) → c ≡ written cs ++ drop (length (written cs)) b
-        → take (r .bytes) c ≡ written cs
-    whole cs e f = rw (e, ← written-long cs, f) (take-append-seam (written cs) _)
+    whole : (cs : List Candidate) → r ≡ wrote (gives (10 * length cs + 1)) → c ≡ written v4 cs ++ drop (length (written v4 cs)) b
+        → take (r .bytes) c ≡ written v4 cs
+    whole cs e f = rw (e, ← written-long v4 cs, f) (take-append-seam (written v4 cs) _)
 
     go : (s : Seen) → seen 4 ws ≡ s → Out ws (take (r .bytes) c)
     go misfit e = absurd (let n : _≡_ {A = ℕ} 1 0 = number 1 (rw e at (w .answer)) in omega arith)

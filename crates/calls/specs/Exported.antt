@@ -97,7 +97,7 @@ clear-done {A} {words} c = let b = clear-below (c .lent) words 0 (c .clears) in 
 pub cleared : {A : ℕ} {words : List ℕ} → Cleared A words → seen 4 words ≡ table A []
 cleared {A} {words} c = cleared-done A (c .lent) words (c .size) (clear-done c)
 
-pub asked-below : {ws vs : List ℕ} {x : Record} {y : Reply} → Asked ws x y vs → rattle.Asked ws x y vs
+pub asked-below : {ws vs : List ℕ} {x : Record} {y : Reply} → Asked ws x y vs → rattle.Asked 4 ws x y vs
 asked-below {ws} {vs} (updated {u} r p) =
     let b = update-below ws vs u r p in
     let e : saidUpdate r ≡ saidReply (b .answer) =
@@ -108,6 +108,6 @@ asked-below {ws} (looked {a} r p) =
     let e : saidLookup r ≡ saidReply (b .answer) = ap saidLookup p ∙ lookup-read _ (lookup-looks ws a) ∙ sym (b .promise) in
     rw e (rattle.looked (b .answer) (b .promise))
 
-pub series-below : {ws vs : List ℕ} {xs : List Record} {ys : List Reply} → Series ws xs ys vs → rattle.Series ws xs ys vs
+pub series-below : {ws vs : List ℕ} {xs : List Record} {ys : List Reply} → Series ws xs ys vs → rattle.Series 4 ws xs ys vs
 series-below nothing = rattle.nothing
 series-below (more a s) = rattle.more (asked-below a) (series-below s)

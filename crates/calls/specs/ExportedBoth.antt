@@ -10,6 +10,7 @@ use mathlib.Core.List.{List, []}
 use Prim.Native.Nat.{ℕ, _+_, _*_, _≤_}
 use lib.ListN.{length, take}
 use borrow.Author.Tests.{le-ltb}
+use Rattle.routes.specs.Family.{v4}
 use Rattle.routes.specs.Room.{need}
 use Rattle.routes.specs.Answers.{Reply}
 use Rattle.candidates.specs.Candidate.{Candidate}
@@ -52,7 +53,8 @@ pub record Holds (A : ℕ) (cs : List Candidate) (ws : List ℕ) : Type 0 where
       → r ≡ totalled (asked 32 a l (gives (prefixesInside 32 cs a l)))
   pub checks : (r : Counted) → r ≡ counted (checkOn 32 (seen 4 ws))
       → r ≡ record { refusal = 0; routes = length cs; arrays = need 32 (winners cs) }
-  pub fronts : (b c : List ℕ) (r : Written) → 10 * length cs + 1 ≤ length b → HasWritten ws b c r → take (r .bytes) c ≡ written cs
+  pub fronts : (b c : List ℕ) (r : Written) → 10 * length cs + 1 ≤ length b → HasWritten ws b c r
+      → take (r .bytes) c ≡ written v4 cs
   pub writes : (b c : List ℕ) (r : Written) → 10 * length cs + 1 ≤ length b → HasWritten ws b c r
       → r ≡ record { refusal = 0; bytes = 10 * length cs + 1 }
 
@@ -76,14 +78,14 @@ pub record Run (A : ℕ) (us : List Update) : Type 0 where
   pub cleared : Cleared A words
   pub sent : List SentRecord
   pub meant : meanings sent ≡ records us
-  pub fits : AllFit sent
+  pub fits : AllFit v4 sent
   pub rest : List ℕ
   pub closes : Closes rest
   pub reply : List ℕ
   pub words′ : List ℕ
   pub reply′ : List ℕ
   pub ran : Fields
-  pub runs : HasRun words (bytes sent rest) reply words′ reply′ ran
+  pub runs : HasRun words (bytes v4 sent rest) reply words′ reply′ ran
   pub enough : ran .stop ≢ 4
 
 -- the replies, one for each update, read back from the reply bytes
@@ -92,12 +94,12 @@ replies {us = us} c = readBack us (c .reply′)
 
 module _ {A : ℕ} {us : List Update} (c : Run A us) where
   abbrev report : Report
-  report = reportOf (run A [] (bytes (c .sent) (c .rest)) (length (c .reply)))
+  report = reportOf (run v4 A [] (bytes v4 (c .sent) (c .rest)) (length (c .reply)))
 
   -- an answer of the run below, which is not refused either
   abbrev b : Below (λ t. ran (runAnswer t))
-      (Made (c .words) (bytes (c .sent) (c .rest)) (c .reply) (c .words′) (c .reply′)) (c .ran)
-  b = run-below (c .words) (bytes (c .sent) (c .rest)) (c .reply) (c .words′) (c .reply′) (c .ran) (c .runs)
+      (Made v4 (c .words) (bytes v4 (c .sent) (c .rest)) (c .reply) (c .words′) (c .reply′)) (c .ran)
+  b = run-below (c .words) (bytes v4 (c .sent) (c .rest)) (c .reply) (c .words′) (c .reply′) (c .ran) (c .runs)
 
   is-stopped : b .answer ≡ Stopped report
   is-stopped = stopped (b .answer) report (rw (cleared (c .cleared)) at (b .promise .answer))

@@ -5,6 +5,7 @@ use mathlib.Core.Logic.{_≢_}
 use mathlib.Core.List.{List}
 use Prim.Native.Nat.{ℕ}
 use lib.ListN.{length}
+use Rattle.routes.specs.Family.{v4}
 use Rattle.routes.specs.Answers.{Reply}
 use Rattle.candidates.specs.Candidate.{Candidate}
 use Rattle.candidates.specs.Answers.{Update, Record, update, plain, leaves}
@@ -80,27 +81,28 @@ calls-swapped-exported m p q =
 pub record RunOf (A : ℕ) (cs : List Candidate) (ss : List Sent) : Type 0 where
   pub words : List ℕ
   pub is : seen 4 words ≡ table A cs
-  pub fits : AllFit ss
+  pub fits : AllFit v4 ss
   pub rest : List ℕ
   pub closes : Closes rest
   pub reply : List ℕ
   pub words′ : List ℕ
   pub reply′ : List ℕ
   pub ran : Fields
-  pub runs : HasRun words (bytes ss rest) reply words′ reply′ ran
+  pub runs : HasRun words (bytes v4 ss rest) reply words′ reply′ ran
   pub enough : ran .stop ≢ 4
 
 module _ {A : ℕ} {cs : List Candidate} {ss : List Sent} (c : RunOf A cs ss) where
   abbrev pub report : Report
-  report = reportOf (run A cs (bytes ss (c .rest)) (length (c .reply)))
+  report = reportOf (run v4 A cs (bytes v4 ss (c .rest)) (length (c .reply)))
 
-  abbrev b : Below (λ t. ran (runAnswer t)) (Made (c .words) (bytes ss (c .rest)) (c .reply) (c .words′) (c .reply′)) (c .ran)
-  b = run-below (c .words) (bytes ss (c .rest)) (c .reply) (c .words′) (c .reply′) (c .ran) (c .runs)
+  abbrev b : Below (λ t. ran (runAnswer t))
+      (Made v4 (c .words) (bytes v4 ss (c .rest)) (c .reply) (c .words′) (c .reply′)) (c .ran)
+  b = run-below (c .words) (bytes v4 ss (c .rest)) (c .reply) (c .words′) (c .reply′) (c .ran) (c .runs)
 
   is-stopped : b .answer ≡ Stopped report
   is-stopped = stopped (b .answer) report (rw (c .is) at (b .promise .answer))
 
-  pub made : Made (c .words) (bytes ss (c .rest)) (c .reply) (c .words′) (c .reply′) (Stopped report)
+  pub made : Made v4 (c .words) (bytes v4 ss (c .rest)) (c .reply) (c .words′) (c .reply′) (Stopped report)
   made = rw is-stopped at (b .promise)
 
   pub told-ran : c .ran ≡ ran (runAnswer (Stopped report))

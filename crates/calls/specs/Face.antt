@@ -4,6 +4,7 @@ use mathlib.Core.Path.{_≡_, sym, _∙_}
 use mathlib.Core.List.{List}
 use Prim.Native.Nat.{ℕ}
 use lib.ListN.{length}
+use Rattle.routes.specs.Family.{v4}
 use Rattle.routes.specs.Route.{Route}
 use Rattle.routes.specs.Answers.{Reply, refused}
 use Rattle.routes.specs.Seen.{Answer, refuses}
@@ -78,7 +79,7 @@ pub write-out-agrees : (ws b c c′ : List ℕ) (r r′ : Written) → HasWritte
 write-out-agrees ws b c c′ r r′ p q = (p .answer ∙ sym (q .answer), p .front ∙ sym (q .front))
 
 pub run-agrees : (ws bytes b vs vs′ c c′ : List ℕ) (r r′ : Fields) → HasRun ws bytes b vs c r → HasRun ws bytes b vs′ c′ r′
-    → Agree (By (runOn (seen 4 ws) bytes b)) vs vs′ r r′ × (c ≡ c′)
+    → Agree (By (runOn v4 (seen 4 ws) bytes b)) vs vs′ r r′ × (c ≡ c′)
 run-agrees ws bytes b vs vs′ c c′ r r′ p q = (
   record {
     answer = p .answer ∙ sym (q .answer);

@@ -24,7 +24,7 @@ pub record Sent (A : ℕ) (cs : List Candidate) (us : List Update) : Type 0 wher
   pub table : seen 4 words ≡ table A cs
   pub replies : List Reply
   pub words′ : List ℕ
-  pub calls : Series words (records us) replies words′
+  pub calls : Series 4 words (records us) replies words′
 
 -- each update with its answer, cells excepted
 abbrev pub told : List Update → List Reply → List Told
@@ -53,8 +53,8 @@ pub moved-sent : {A : ℕ} {cs : List Candidate} {us vs : List Update} → Moves
     → Alike s t
 moved-sent {A} {cs} {us} {vs} m s t =
     let e = moved 32 (lit< tt) A cs us vs (is-table A cs (s .words) (s .table)) m in
-    let p = all-answered A cs (s .table) (s .calls) in
-    let q = all-answered A cs (t .table) (t .calls) in
+    let p = all-answered 4 A cs (s .table) (s .calls) in
+    let q = all-answered 4 A cs (t .table) (t .calls) in
     let x : seen 4 (s .words′) ≡ table A (ends 32 A cs us) = p .list ∙ ap (table A) (ends-is A cs us) in
     let y : seen 4 (t .words′) ≡ table A (ends 32 A cs us) =
     q .list ∙ ap (table A) (ends-is A cs vs ∙ sym (e .list)) in

@@ -8,6 +8,7 @@ use mathlib.Core.List.{List, [], _++_}
 use Prim.Native.Nat.{ℕ}
 use lib.Dec.{lit<}
 use lib.ListN.{length, drop}
+use Rattle.routes.specs.Family.{v4}
 use Rattle.routes.specs.Answers.{Reply}
 use Rattle.routes.specs.Bytes.{repliesBytes}
 use Rattle.candidates.specs.Candidate.{Candidate}
@@ -45,7 +46,7 @@ module _ {A : ℕ} {cs : List Candidate} {us : List Update} (p : Logged A cs us)
       let spare : List ℕ = drop (length (ranTo c .end .replies)) (c .reply) in
       let e = feed-replies (feedRun c) ∙ ap (λ (xs : List Record). repliesBytes (replies 32 A cs xs)) (p .meant) in
       ap (readBack us) (run-replies c ∙ ap (λ (bs : List ℕ). bs ++ spare) e)
-      ∙ rw (as-many us) at (answers-back A cs (records us) [] spare (is-table A cs (c .words) (c .is) .list .candidates))
+      ∙ rw (as-many us) at (answers-back v4 A cs (records us) [] spare (is-table A cs (c .words) (c .is) .list .candidates))
 
   left : seen 4 (p .ran .words′) ≡ table A (ends 32 A cs us)
   left =

@@ -9,6 +9,7 @@ use Prim.Native.Nat.{ℕ, _+_, _*_, _≤_}
 use lib.ListN.{length, take}
 use lib.Seq.{take-append-seam}
 use borrow.Author.Tests.{le-ltb}
+use Rattle.routes.specs.Family.{v4}
 use Rattle.routes.specs.Bytes.{repliesBytes}
 use Rattle.candidates.specs.Candidate.{Candidate}
 use Rattle.candidates.specs.Answers.{replies}
@@ -32,7 +33,7 @@ pub record Trip (A : ℕ) (cs : List Candidate) : Type 0 where
   pub buffer : List ℕ
   pub fits : 10 * length cs + 1 ≤ length buffer
   pub front : List ℕ
-  pub wrote : front ≡ frontOn (seen 4 words) (length buffer)
+  pub wrote : front ≡ frontOn v4 (seen 4 words) (length buffer)
   -- as many words, cleared
   pub lent : List ℕ
   pub same : length lent ≡ length words
@@ -45,7 +46,7 @@ pub record Trip (A : ℕ) (cs : List Candidate) : Type 0 where
   pub words′ : List ℕ
   pub reply′ : List ℕ
   pub ran : Ran
-  pub runs : HasRun cleared front reply words′ reply′ ran
+  pub runs : HasRun v4 cleared front reply words′ reply′ ran
 
 -- the same list, each of its records accepted, at an end
 pub record Again {A : ℕ} {cs : List Candidate} (t : Trip A cs) : Type 0 where
@@ -63,13 +64,13 @@ again {A} {cs} t =
     let h = held A cs (t .words) (t .table) in
     let e : seen 4 (t .cleared) ≡ table A [] =
     cleared-alike A cs (t .words) (t .lent) (t .cleared) (t .answer) (t .table) (t .same) (t .clears) in
-    let f : t .front ≡ written cs = t .wrote ∙ rw (t .table, le-ltb (length (t .buffer)) (10 * length cs + 1) (t .fits)) in
-    let o = round-trip A cs (length (t .reply)) (h .list) (h .room) (t .enough) in
+    let f : t .front ≡ written v4 cs = t .wrote ∙ rw (t .table, le-ltb (length (t .buffer)) (10 * length cs + 1) (t .fits)) in
+    let o = round-trip v4 A cs (length (t .reply)) (h .list) (h .room) (t .enough) in
     record {
       list = t .runs .list ∙ rw (e, f, o) (sym (t .table));
       answer = stopped (t .ran) _ (t .runs .answer ∙ rw (e, f, o));
     }
 
 -- the front is also what fill leaves at the start of the buffer
-pub filled-front : (s : Seen) (b : List ℕ) (n : ℕ) (c : List ℕ) → HasFilled s b n c → take n c ≡ frontOn s (length b)
-filled-front s b n c f = rw (f .list, f .count) (take-append-seam (frontOn s (length b)) _)
+pub filled-front : (s : Seen) (b : List ℕ) (n : ℕ) (c : List ℕ) → HasFilled v4 s b n c → take n c ≡ frontOn v4 s (length b)
+filled-front s b n c f = rw (f .list, f .count) (take-append-seam (frontOn v4 s (length b)) _)

@@ -30,10 +30,10 @@ pub record Played (c : Case) : Type 0 where
   pub clears : HasCleared 4 lent cleared Done
   pub ready : List ℕ
   pub earlier : List Reply
-  pub took : Series cleared (records (c .before)) earlier ready
+  pub took : Series 4 cleared (records (c .before)) earlier ready
   pub left : List ℕ
   pub told : Reply
-  pub asked : Asked ready (c .call) told left
+  pub asked : Asked 4 ready (c .call) told left
   pub counts : Checked
   pub checks : checkAnswer counts ≡ checkOn 32 (seen 4 left)
 
@@ -45,8 +45,8 @@ pub record AsSaid (c : Case) (p : Played c) : Type 0 where
 as-said : (c : Case) → got c ≡ c → (p : Played c) → AsSaid c p
 as-said c e p =
     let t = cleared-done (c .room) (p .lent) (p .cleared) (p .size) (p .clears) in
-    let b = all-answered (c .room) [] t (p .took) in
-    let a = answered (c .room) (listBefore c) (b .list) (p .asked) in
+    let b = all-answered 4 (c .room) [] t (p .took) in
+    let a = answered 4 (c .room) (listBefore c) (b .list) (p .asked) in
     record {
       answer = a .answer ∙ ap (λ (d : Case). d .gives) e;
       arrays =

@@ -8,6 +8,7 @@ use mathlib.Core.Path.{_≡_, sym, _∙_}
 use mathlib.Core.List.{List}
 use Prim.Native.Nat.{ℕ}
 use lib.ListN.{length}
+use Rattle.routes.specs.Family.{v4}
 use Rattle.routes.specs.Answers.{Reply}
 use Rattle.candidates.specs.Candidate.{Candidate}
 use Rattle.candidates.specs.Answers.{Update, Record}
@@ -80,31 +81,31 @@ work-agrees ws u vs vs′ r r′ p q =
 
 -- ---- count, fill, write_out
 
-pub count-agrees : (ws : List ℕ) (room : ℕ) (r r′ : Counted) → writing.countAnswer r ≡ countOn (seen 4 ws) room
-    → writing.countAnswer r′ ≡ countOn (seen 4 ws) room → r ≡ r′
-count-agrees ws room r r′ p q = writing.count-sharp (seen 4 ws) room r r′ p q
+pub count-agrees : (ws : List ℕ) (room : ℕ) (r r′ : Counted) → writing.countAnswer r ≡ countOn v4 (seen 4 ws) room
+    → writing.countAnswer r′ ≡ countOn v4 (seen 4 ws) room → r ≡ r′
+count-agrees ws room r r′ p q = writing.count-sharp v4 (seen 4 ws) room r r′ p q
 
-pub fill-agrees : (ws b : List ℕ) (n n′ : ℕ) (c c′ : List ℕ) → writing.HasFilled (seen 4 ws) b n c
-    → writing.HasFilled (seen 4 ws) b n′ c′ → (n ≡ n′) × (c ≡ c′)
-fill-agrees ws b n n′ c c′ p q = writing.fills-sharp (seen 4 ws) b n n′ c c′ p q
+pub fill-agrees : (ws b : List ℕ) (n n′ : ℕ) (c c′ : List ℕ) → writing.HasFilled v4 (seen 4 ws) b n c
+    → writing.HasFilled v4 (seen 4 ws) b n′ c′ → (n ≡ n′) × (c ≡ c′)
+fill-agrees ws b n n′ c c′ p q = writing.fills-sharp v4 (seen 4 ws) b n n′ c c′ p q
 
-pub write-out-agrees : (ws b front front′ : List ℕ) → front ≡ frontOn (seen 4 ws) (length b)
-    → front′ ≡ frontOn (seen 4 ws) (length b) → front ≡ front′
+pub write-out-agrees : (ws b front front′ : List ℕ) → front ≡ frontOn v4 (seen 4 ws) (length b)
+    → front′ ≡ frontOn v4 (seen 4 ws) (length b) → front ≡ front′
 write-out-agrees ws b front front′ p q = p ∙ sym q
 
 -- ---- run
 
-pub run-agrees : (ws bytes b vs c : List ℕ) (r : Ran) (vs′ c′ : List ℕ) (r′ : Ran) → HasRun ws bytes b vs c r
-    → HasRun ws bytes b vs′ c′ r′ → feed.Agree vs c r vs′ c′ r′
-run-agrees ws bytes b vs c r vs′ c′ r′ p q = feed.sharp ws bytes b vs c r vs′ c′ r′ p q
+pub run-agrees : (ws bytes b vs c : List ℕ) (r : Ran) (vs′ c′ : List ℕ) (r′ : Ran) → HasRun v4 ws bytes b vs c r
+    → HasRun v4 ws bytes b vs′ c′ r′ → feed.Agree v4 vs c r vs′ c′ r′
+run-agrees ws bytes b vs c r vs′ c′ r′ p q = feed.sharp v4 ws bytes b vs c r vs′ c′ r′ p q
 
 -- ---- the layout
 
 -- tables of one list answer any calls alike, and are left alike, however they are laid out
 pub layout-unseen : (A : ℕ) (cs : List Candidate) {ws ws′ vs vs′ : List ℕ} {xs : List Record} {ys ys′ : List Reply}
     → seen 4 ws ≡ table A cs → seen 4 ws′ ≡ table A cs
-    → Series ws xs ys vs → Series ws′ xs ys′ vs′ → (ys ≡ ys′) × (seen 4 vs ≡ seen 4 vs′)
+    → Series 4 ws xs ys vs → Series 4 ws′ xs ys′ vs′ → (ys ≡ ys′) × (seen 4 vs ≡ seen 4 vs′)
 layout-unseen A cs t t′ s s′ =
-    let p = all-answered A cs t s in
-    let q = all-answered A cs t′ s′ in
+    let p = all-answered 4 A cs t s in
+    let q = all-answered 4 A cs t′ s′ in
     (p .answers ∙ sym (q .answers), p .list ∙ sym (q .list))

@@ -22,7 +22,7 @@ use Rattle.calls.specs.Sharp.{layout-unseen}
 
 -- later calls tell two such runs of words not apart: the same records are answered alike, cells included
 pub record LaterAlike (ws vs : List ℕ) : Type 0 where
-  pub calls : {ws′ vs′ : List ℕ} {xs : List Record} {ys zs : List Reply} → Series ws xs ys ws′ → Series vs xs zs vs′
+  pub calls : {ws′ vs′ : List ℕ} {xs : List Record} {ys zs : List Reply} → Series 4 ws xs ys ws′ → Series 4 vs xs zs vs′
       → (ys ≡ zs) × (seen 4 ws′ ≡ seen 4 vs′)
 
 pub later-alike : (A : ℕ) (cs : List Candidate) (ws vs : List ℕ) → seen 4 ws ≡ table A cs → seen 4 vs ≡ table A cs
@@ -43,8 +43,8 @@ pub record InTurn (A : ℕ) (cs : List Candidate) (u v : Update) : Type 0 where
   pub words′ : List ℕ
   pub first : Reply
   pub second : Reply
-  pub calls-first : Asked words (update u) first between
-  pub calls-second : Asked between (update v) second words′
+  pub calls-first : Asked 4 words (update u) first between
+  pub calls-second : Asked 4 between (update v) second words′
 
 -- what the calls in one order and in the other come to
 pub record CallsSwapped {A : ℕ} {cs : List Candidate} {u v : Update} (p : InTurn A cs u v) (q : InTurn A cs v u) : Type 0 where
@@ -55,16 +55,16 @@ pub record CallsSwapped {A : ℕ} {cs : List Candidate} {u v : Update} (p : InTu
 
 module _ {A : ℕ} {cs : List Candidate} {u v : Update} (p : InTurn A cs u v) where
   first-is : p .first ≡ answer 32 A cs u
-  first-is = answered A cs (p .is) (p .calls-first) .answer
+  first-is = answered 4 A cs (p .is) (p .calls-first) .answer
 
   between-is : seen 4 (p .between) ≡ table A (after 32 A cs u)
-  between-is = answered A cs (p .is) (p .calls-first) .list
+  between-is = answered 4 A cs (p .is) (p .calls-first) .list
 
   second-is : p .second ≡ answer 32 A (after 32 A cs u) v
-  second-is = answered A (after 32 A cs u) between-is (p .calls-second) .answer
+  second-is = answered 4 A (after 32 A cs u) between-is (p .calls-second) .answer
 
   end-is : seen 4 (p .words′) ≡ table A (after 32 A (after 32 A cs u) v)
-  end-is = answered A (after 32 A cs u) between-is (p .calls-second) .list
+  end-is = answered 4 A (after 32 A cs u) between-is (p .calls-second) .list
 
 pub calls-swapped : {A : ℕ} {cs : List Candidate} {u v : Update} → Move 32 A cs u v → (p : InTurn A cs u v) (q : InTurn A cs v u)
     → CallsSwapped p q

@@ -10,6 +10,7 @@ use Prim.Native.Nat.{ℕ}
 use native.Mathlib.Omega.{arith}
 use lib.Dec.{lit<}
 use lib.ListN.{length, drop}
+use Rattle.routes.specs.Family.{v4}
 use Rattle.routes.specs.Answers.{Reply}
 use Rattle.routes.specs.Bytes.{replyBytes, repliesBytes}
 use Rattle.candidates.specs.Candidate.{Candidate}
@@ -62,23 +63,23 @@ neighbours xs x y zs = xs ++ (x ∷ y ∷ zs)
 
 -- a run of it on a table of A arrays that holds cs, with room enough for the replies
 pub record FeedRun (A : ℕ) (cs : List Candidate) (ss : List Sent) : Type 0 where
-  pub fits : AllFit ss
+  pub fits : AllFit v4 ss
   pub rest : List ℕ
   pub closes : Closes rest
   pub room : ℕ
-  pub enough : run A cs (bytes ss rest) room .stop ≢ 4
+  pub enough : run v4 A cs (bytes v4 ss rest) room .stop ≢ 4
 
 abbrev pub outcome : {A : ℕ} {cs : List Candidate} {ss : List Sent} → FeedRun A cs ss → Ran
-outcome {A} {cs} {ss} f = run A cs (bytes ss (f .rest)) (f .room)
+outcome {A} {cs} {ss} f = run v4 A cs (bytes v4 ss (f .rest)) (f .room)
 
 module _ {A : ℕ} {cs : List Candidate} {ss : List Sent} (f : FeedRun A cs ss) where
-  of-rest : (t : List ℕ) → (closed t (ended A (fresh cs) ss) .end .replies ≡ repliesBytes (replies 32 A cs (meanings ss)))
-      × (closed t (ended A (fresh cs) ss) .end .list ≡ leaves 32 A cs (meanings ss))
+  of-rest : (t : List ℕ) → (closed t (ended v4 A (fresh cs) ss) .end .replies ≡ repliesBytes (replies 32 A cs (meanings ss)))
+      × (closed t (ended v4 A (fresh cs) ss) .end .list ≡ leaves 32 A cs (meanings ss))
   of-rest [] = (refl, refl)
   of-rest (k ∷ t) = (refl, refl)
 
-  is : outcome f ≡ closed (f .rest) (ended A (fresh cs) ss)
-  is = run-enough A cs ss (f .fits) (f .rest) (f .closes) (f .room) (f .enough)
+  is : outcome f ≡ closed (f .rest) (ended v4 A (fresh cs) ss)
+  is = run-enough v4 A cs ss (f .fits) (f .rest) (f .closes) (f .room) (f .enough)
 
   pub feed-replies : outcome f .end .replies ≡ repliesBytes (replies 32 A cs (meanings ss))
   feed-replies = ap (λ (o : Ran). o .end .replies) is ∙ of-rest (f .rest) .0

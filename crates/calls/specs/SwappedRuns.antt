@@ -8,6 +8,7 @@ use mathlib.Core.Logic.{_≢_}
 use mathlib.Core.List.{List, _++_}
 use Prim.Native.Nat.{ℕ}
 use lib.ListN.{length, drop}
+use Rattle.routes.specs.Family.{v4}
 use Rattle.candidates.specs.Candidate.{Candidate}
 use Rattle.candidates.specs.Answers.{Update, update}
 use Rattle.candidates.specs.Answers as answers
@@ -28,18 +29,18 @@ use Rattle.calls.specs.SwappedFeeds.{neighbours, FeedRun, outcome, Feeds
 pub record RunOf (A : ℕ) (cs : List Candidate) (ss : List Sent) : Type 0 where
   pub words : List ℕ
   pub is : seen 4 words ≡ table A cs
-  pub fits : AllFit ss
+  pub fits : AllFit v4 ss
   pub rest : List ℕ
   pub closes : Closes rest
   pub reply : List ℕ
   pub words′ : List ℕ
   pub reply′ : List ℕ
   pub report : Report
-  pub runs : HasRun words (bytes ss rest) reply words′ reply′ (Stopped report)
+  pub runs : HasRun v4 words (bytes v4 ss rest) reply words′ reply′ (Stopped report)
   pub enough : report .stop ≢ 4
 
 module _ {A : ℕ} {cs : List Candidate} {ss : List Sent} (c : RunOf A cs ss) where
-  pub reported : c .report ≡ reportOf (run A cs (bytes ss (c .rest)) (length (c .reply)))
+  pub reported : c .report ≡ reportOf (run v4 A cs (bytes v4 ss (c .rest)) (length (c .reply)))
   reported = given-one (rw (c .is) at (c .runs .answer))
 
   -- the run of the definitions

@@ -10,6 +10,7 @@ use mathlib.Core.List.{List, [], _++_}
 use Prim.Native.Nat.{ℕ, _+_, _*_, _≤_}
 use lib.ListN.{length, drop}
 use borrow.Author.Tests.{le-ltb}
+use Rattle.routes.specs.Family.{v4}
 use Rattle.routes.specs.Answers.{Reply}
 use Rattle.routes.specs.Bytes.{repliesBytes}
 use Rattle.routes.specs.Seen.{gives}
@@ -25,14 +26,14 @@ use Rattle.weaves.specs.Fed.{read-said, Fed, answered, Together, demand-3-fed}
 
 -- what the run promises of the words ws, a feed and the reply bytes b, where it leaves vs and c and has the outcome o
 pub record Promise (ws feed b vs c : List ℕ) (o : Ran) : Type 0 where
-  pub answer : runOn (seen 4 ws) feed b ≡ gives o
-  pub list : seen 4 vs ≡ ranOn (seen 4 ws) feed b
-  pub replies : c ≡ repliedOn (seen 4 ws) feed b
+  pub answer : runOn v4 (seen 4 ws) feed b ≡ gives o
+  pub list : seen 4 vs ≡ ranOn v4 (seen 4 ws) feed b
+  pub replies : c ≡ repliedOn v4 (seen 4 ws) feed b
 
 -- of words that are a table, the outcome is the run's of their list
 pub promise : {A : ℕ} {cs : List Candidate} {ws feed b vs c : List ℕ} → seen 4 ws ≡ table A cs
-    → seen 4 vs ≡ ranOn (seen 4 ws) feed b → c ≡ repliedOn (seen 4 ws) feed b
-    → Promise ws feed b vs c (run A cs feed (length b))
+    → seen 4 vs ≡ ranOn v4 (seen 4 ws) feed b → c ≡ repliedOn v4 (seen 4 ws) feed b
+    → Promise ws feed b vs c (run v4 A cs feed (length b))
 promise t l r = record { answer = rw t; list = l; replies = r }
 
 -- a call with the bytes of records that mean us, on a cleared table of A arrays
@@ -46,27 +47,27 @@ pub record Call (A : ℕ) (us : List Update) : Type 0 where
   pub ran : Ran
   pub cleared : seen 4 words ≡ table A []
   pub meant : meanings sent ≡ records us
-  pub fits : AllFit sent
+  pub fits : AllFit v4 sent
   pub closes : Closes rest
-  pub runs : Promise words (bytes sent rest) reply words′ reply′ ran
+  pub runs : Promise words (bytes v4 sent rest) reply words′ reply′ ran
   pub enough : ran .stop ≢ 4
 
 -- ---- one call
 
 -- how it answers, the reply bytes, and the list that the words then stand for
 pub record Left {A : ℕ} {us : List Update} (c : Call A us) : Type 0 where
-  pub answer : Answered A us (c .sent) (c .rest) (c .ran)
+  pub answer : Answered v4 A us (c .sent) (c .rest) (c .ran)
   pub replies : c .reply′ ≡ repliesBytes (said 32 A us) ++ drop (length (repliesBytes (said 32 A us))) (c .reply)
   pub list : seen 4 (c .words′) ≡ table A (kept 32 A us)
 
 module _ {A : ℕ} {us : List Update} (c : Call A us) where
   abbrev o : Ran
-  o = run A [] (bytes (c .sent) (c .rest)) (length (c .reply))
+  o = run v4 A [] (bytes v4 (c .sent) (c .rest)) (length (c .reply))
 
   ran-is : o ≡ c .ran
   ran-is = given-one (rw (c .cleared) at (c .runs .answer))
 
-  abbrev fed : Fed A us
+  abbrev fed : Fed v4 A us
   fed = record {
     sent = c .sent;
     meant = c .meant;
@@ -92,7 +93,7 @@ module _ {A : ℕ} {us : List Update} (c : Call A us) where
   replied = readBack us (c .reply′)
 
   replied-said : replied ≡ said 32 A us
-  replied-said = ap (readBack us) (left .replies) ∙ read-said A us _
+  replied-said = ap (readBack us) (left .replies) ∙ read-said v4 A us _
 
 -- ---- three calls
 
@@ -113,10 +114,10 @@ pub record Called {A : ℕ} {xs ys zs : List Update} (w : Weave xs ys zs)
   pub list : seen 4 (j .words′) ≡ table A (keptBoth 32 A xs ys)
   pub lookups : (walked : Reply) (a : ℕ) → lookupOn 32 (seen 4 (j .words′)) walked a ≡ lookedUp 32 (keptBoth 32 A xs ys) a
   pub check : checkOn 32 (seen 4 (j .words′)) ≡ checkOn 32 (table A (keptBoth 32 A xs ys))
-  pub count : (room : ℕ) → countOn (seen 4 (j .words′)) room ≡ countOn (table A (keptBoth 32 A xs ys)) room
-  pub front : (room : ℕ) → frontOn (seen 4 (j .words′)) room ≡ frontOn (table A (keptBoth 32 A xs ys)) room
+  pub count : (room : ℕ) → countOn v4 (seen 4 (j .words′)) room ≡ countOn v4 (table A (keptBoth 32 A xs ys)) room
+  pub front : (room : ℕ) → frontOn v4 (seen 4 (j .words′)) room ≡ frontOn v4 (table A (keptBoth 32 A xs ys)) room
   pub out : (room : ℕ) → 10 * length (keptBoth 32 A xs ys) + 1 ≤ room
-      → frontOn (seen 4 (j .words′)) room ≡ written (keptBoth 32 A xs ys)
+      → frontOn v4 (seen 4 (j .words′)) room ≡ written v4 (keptBoth 32 A xs ys)
 
 pub demand-3-called : {A : ℕ} {xs ys zs : List Update} (w : Weave xs ys zs) → Meets 32 A xs ys
     → (j : Call A zs) (f : Call A xs) (s : Call A ys) → Called w j f s

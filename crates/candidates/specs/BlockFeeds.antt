@@ -5,6 +5,9 @@ use mathlib.Core.Path.{_≡_, refl}
 use mathlib.Core.List.{List, [], _∷_}
 use Prim.Native.Nat.{ℕ}
 use lib.Count.{leadingZeros}
+use Rattle.numbers.specs.Digits.{digits}
+use Rattle.numbers.specs.Number.{number}
+use Rattle.routes.specs.Family.{v4}
 use Rattle.routes.specs.Room.{needTo}
 use Rattle.routes.specs.Cells.{cells, shown}
 use Rattle.candidates.specs.Candidate.{Candidate}
@@ -138,6 +141,6 @@ worked =
     ∷ []
 
 -- each row is as the definitions give it, and none of the four is left out
-pub block-cases : (gots winnersOut worked ≡ worked) × (numbers worked ≡ 1 ∷ 3 ∷ 5 ∷ 7 ∷ [])
-unfolding answer cells shown needTo runs halts leadingZeros
+pub block-cases : (gots v4 winnersOut worked ≡ worked) × (numbers worked ≡ 1 ∷ 3 ∷ 5 ∷ 7 ∷ [])
+unfolding answer cells shown needTo runs halts leadingZeros number digits
 block-cases = (refl, refl)

@@ -3,7 +3,7 @@
 use mathlib.Core.List.{List, [], _∷_}
 use Prim.Native.Nat.{ℕ}
 use lib.ListN.{length}
-use Rattle.routes.specs.Family.{v4, width}
+use Rattle.routes.specs.Family.{Family, width}
 use Rattle.routes.specs.Room.{need}
 use Rattle.candidates.specs.Candidate.{Candidate}
 use Rattle.candidates.specs.Winners.{winners}
@@ -24,7 +24,7 @@ pub record Case : Type 0 where
   pub arrays : ℕ
   pub out : List ℕ
 
-module _ (writes : List Candidate → List ℕ) where
+module _ (F : Family) (writes : List Candidate → List ℕ) where
   -- the row with what the definitions give
   abbrev by : Case → Ran → Case
   by c r =
@@ -39,13 +39,13 @@ module _ (writes : List Candidate → List ℕ) where
         accepted = r .end .accepted;
         refused = r .end .refused;
         routes = length (r .end .list);
-        arrays = need (width v4) (winners (r .end .list));
+        arrays = need (width F) (winners (r .end .list));
         out = writes (r .end .list);
       }
 
   abbrev pub gots : List Case → List Case
   gots [] = []
-  gots (c ∷ cs) = by c (run (c .room) [] (c .sent) (c .free)) ∷ gots cs
+  gots (c ∷ cs) = by c (run F (c .room) [] (c .sent) (c .free)) ∷ gots cs
 
 abbrev pub numbers : List Case → List ℕ
 numbers [] = []

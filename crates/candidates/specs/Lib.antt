@@ -7,6 +7,7 @@ pub mod Runs
 pub mod Seen
 pub mod Cases
 pub mod Worked
+pub mod IPv6
 pub mod Views
 pub mod Small
 pub mod Sample

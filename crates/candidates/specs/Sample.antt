@@ -5,6 +5,8 @@ use mathlib.Core.Path.{_≡_, refl}
 use mathlib.Core.List.{List, [], _∷_}
 use Prim.Native.Nat.{ℕ}
 use lib.Count.{leadingZeros}
+use Rattle.numbers.specs.Number.{number}
+use Rattle.routes.specs.Family.{v4}
 use Rattle.routes.specs.Room.{need, needTo}
 use Rattle.routes.specs.Cells.{cells, shown}
 use Rattle.routes.specs.Small.{ip}
@@ -27,8 +29,8 @@ ran f =
       room = f .room;
       sent = f .sent;
       replies = f .replies;
-      gives = run (f .room) [] (f .sent) (f .replies);
-      arrays = need 32 (winners (run (f .room) [] (f .sent) (f .replies) .end .list));
+      gives = run v4 (f .room) [] (f .sent) (f .replies);
+      arrays = need 32 (winners (run v4 (f .room) [] (f .sent) (f .replies) .end .list));
     }
 
 abbrev rans : List Feed → List Feed
@@ -94,11 +96,11 @@ feeds =
     ∷ []
 
 pub feed-cases : rans feeds ≡ feeds
-unfolding answer cells shown needTo runs halts leadingZeros
+unfolding answer cells shown needTo runs halts leadingZeros number
 feed-cases = refl
 
 -- the records that the 52 bytes are, all taken; and of two, the one that there is reply room for
-pub sample-records : recordsOf 3 [] sample 4096
+pub sample-records : recordsOf v4 3 [] sample 4096
     ≡ update (announce (ip 10 0 0 0) 8 1 1 0)
     ∷ update (announce (ip 10 1 4 0) 22 2 1 0)
     ∷ update (announce (ip 10 1 0 0) 20 3 1 0)
@@ -108,9 +110,9 @@ pub sample-records : recordsOf 3 [] sample 4096
     ∷ update (withdraw (ip 10 1 4 0) 23 1)
     ∷ lookup (ip 11 0 0 1)
     ∷ []
-unfolding answer cells shown needTo recordsFrom halts
+unfolding answer cells shown needTo recordsFrom halts number
 sample-records = refl
 
-pub stopped-records : recordsOf 3 [] (3 ∷ 0 ∷ 0 ∷ 0 ∷ 0 ∷ 3 ∷ 0 ∷ 0 ∷ 0 ∷ 0 ∷ []) 5 ≡ lookup (ip 0 0 0 0) ∷ []
-unfolding recordsFrom halts
+pub stopped-records : recordsOf v4 3 [] (3 ∷ 0 ∷ 0 ∷ 0 ∷ 0 ∷ 3 ∷ 0 ∷ 0 ∷ 0 ∷ 0 ∷ []) 5 ≡ lookup (ip 0 0 0 0) ∷ []
+unfolding recordsFrom halts number
 stopped-records = refl

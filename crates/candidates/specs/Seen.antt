@@ -5,7 +5,7 @@ use mathlib.Core.List.{List, [], _++_}
 use Prim.Native.Nat.{ℕ, _+_, _*_}
 use lib.ListN.{length, drop}
 use lib.Dec.{ltb}
-use Rattle.routes.specs.Family.{v4, width}
+use Rattle.routes.specs.Family.{Family, levels, width}
 use Rattle.routes.specs.Room.{need}
 use Rattle.routes.specs.Answers.{Reply, refused}
 use Rattle.routes.specs.Seen.{Answer, gives, refuses, Counts}
@@ -57,43 +57,48 @@ checkOn W (table A cs) = gives (record { routes = length cs; arrays = need W (wi
 
 -- ---- writing out into a buffer of `room` bytes
 
+-- the bytes of n candidates and the end
+abbrev pub bytesFor : Family → ℕ → ℕ
+bytesFor F n = (levels F + 6) * n + 1
+
 -- the call beside it: the number of bytes
-abbrev pub countOn : Seen → ℕ → Answer ℕ
-countOn misfit room = refuses 1
-countOn foreign room = refuses 2
-countOn (table A cs) room = cond (ltb room (10 * length cs + 1)) (refuses 9) (gives (10 * length cs + 1))
+abbrev pub countOn : Family → Seen → ℕ → Answer ℕ
+countOn F misfit room = refuses 1
+countOn F foreign room = refuses 2
+countOn F (table A cs) room = cond (ltb room (bytesFor F (length cs))) (refuses 9) (gives (bytesFor F (length cs)))
 
 -- the front that is written, empty exactly where that one refuses
-abbrev pub frontOn : Seen → ℕ → List ℕ
-frontOn misfit room = []
-frontOn foreign room = []
-frontOn (table A cs) room = cond (ltb room (10 * length cs + 1)) [] (written cs)
+abbrev pub frontOn : Family → Seen → ℕ → List ℕ
+frontOn F misfit room = []
+frontOn F foreign room = []
+frontOn F (table A cs) room = cond (ltb room (bytesFor F (length cs))) [] (written F cs)
 
 -- ---- the run of a feed, on a lent reply of bytes b
 
-abbrev pub runOn : Seen → List ℕ → List ℕ → Answer Ran
-runOn misfit feed b = refuses 1
-runOn foreign feed b = refuses 2
-runOn (table A cs) feed b = gives (run A cs feed (length b))
+abbrev pub runOn : Family → Seen → List ℕ → List ℕ → Answer Ran
+runOn F misfit feed b = refuses 1
+runOn F foreign feed b = refuses 2
+runOn F (table A cs) feed b = gives (run F A cs feed (length b))
 
-abbrev pub ranOn : Seen → List ℕ → List ℕ → Seen
-ranOn misfit feed b = misfit
-ranOn foreign feed b = foreign
-ranOn (table A cs) feed b = table A (run A cs feed (length b) .end .list)
+abbrev pub ranOn : Family → Seen → List ℕ → List ℕ → Seen
+ranOn F misfit feed b = misfit
+ranOn F foreign feed b = foreign
+ranOn F (table A cs) feed b = table A (run F A cs feed (length b) .end .list)
 
 -- the replies at the front, the bytes past them untouched
-abbrev pub repliedOn : Seen → List ℕ → List ℕ → List ℕ
-repliedOn misfit feed b = b
-repliedOn foreign feed b = b
-repliedOn (table A cs) feed b = run A cs feed (length b) .end .replies ++ drop (length (run A cs feed (length b) .end .replies)) b
+abbrev pub repliedOn : Family → Seen → List ℕ → List ℕ → List ℕ
+repliedOn F misfit feed b = b
+repliedOn F foreign feed b = b
+repliedOn F (table A cs) feed b =
+    run F A cs feed (length b) .end .replies ++ drop (length (run F A cs feed (length b) .end .replies)) b
 
 -- the records that it takes, and the answers to them
-abbrev pub recordsOn : Seen → List ℕ → List ℕ → List Record
-recordsOn misfit feed b = []
-recordsOn foreign feed b = []
-recordsOn (table A cs) feed b = recordsOf A cs feed (length b)
+abbrev pub recordsOn : Family → Seen → List ℕ → List ℕ → List Record
+recordsOn F misfit feed b = []
+recordsOn F foreign feed b = []
+recordsOn F (table A cs) feed b = recordsOf F A cs feed (length b)
 
-abbrev pub answersOn : Seen → List ℕ → List ℕ → List Reply
-answersOn misfit feed b = []
-answersOn foreign feed b = []
-answersOn (table A cs) feed b = replies (width v4) A cs (recordsOf A cs feed (length b))
+abbrev pub answersOn : Family → Seen → List ℕ → List ℕ → List Reply
+answersOn F misfit feed b = []
+answersOn F foreign feed b = []
+answersOn F (table A cs) feed b = replies (width F) A cs (recordsOf F A cs feed (length b))

@@ -11,7 +11,7 @@ use Rattle.routes.specs.Small.{ip}
 use Rattle.candidates.specs.Candidate.{Candidate}
 use Rattle.candidates.specs.Winners.{winners}
 use Rattle.candidates.specs.Answers.{Update, announce, withdraw, Record, records, reply, next, leaves, answer}
-use Rattle.candidates.specs.Bytes.{kind1, kind2, kind3, means}
+use Rattle.candidates.specs.Bytes.{announces, withdraws, looks, means}
 
 -- a cleared table of `room` arrays took the updates `before`; the call is answered so, and the list then needs the arrays. The
 -- number is document 01's, 0 for a further case
@@ -56,13 +56,13 @@ numbers (c ∷ cs) = c .number ∷ numbers cs
 
 -- the call, by its kind
 abbrev put : ℕ → ℕ → ℕ → Record
-put a l h = means (kind1 a l h)
+put a l h = means (announces a l h)
 
 abbrev drop : ℕ → ℕ → Record
-drop a l = means (kind2 a l)
+drop a l = means (withdraws a l)
 
 abbrev ask : ℕ → Record
-ask a = means (kind3 a)
+ask a = means (looks a)
 
 -- the updates before it, alike
 abbrev add : ℕ → ℕ → ℕ → Update

@@ -4,6 +4,9 @@ use mathlib.Core.Path.{_≡_, refl}
 use mathlib.Core.Bool.{true}
 use mathlib.Core.List.{List, [], _∷_}
 use lib.Count.{leadingZeros}
+use Rattle.numbers.specs.Digits.{digits}
+use Rattle.numbers.specs.Number.{number}
+use Rattle.routes.specs.Family.{v4}
 use Rattle.routes.specs.Room.{needTo}
 use Rattle.routes.specs.Cells.{cells, shown}
 use Rattle.routes.specs.Answers.{Reply, done, found, none, refused}
@@ -97,23 +100,24 @@ pub lookups : (lookupOn 32 misfit (none 0) 0 ≡ refused 1)
 unfolding leadingZeros
 lookups = (refl, refl, refl, refl)
 
-pub counts : (countOn misfit 0 ≡ refuses 1)
-    × (countOn foreign 0 ≡ refuses 2)
-    × (countOn both 20 ≡ refuses 9)
-    × (countOn both 21 ≡ gives 21)
-    × (countOn (table 1 []) 0 ≡ refuses 9)
-    × (countOn (table 1 []) 1 ≡ gives 1)
+pub counts : (countOn v4 misfit 0 ≡ refuses 1)
+    × (countOn v4 foreign 0 ≡ refuses 2)
+    × (countOn v4 both 20 ≡ refuses 9)
+    × (countOn v4 both 21 ≡ gives 21)
+    × (countOn v4 (table 1 []) 0 ≡ refuses 9)
+    × (countOn v4 (table 1 []) 1 ≡ gives 1)
 counts = (refl, refl, refl, refl, refl, refl)
 
-pub fronts : (frontOn one 10 ≡ [])
-    × (frontOn one 11 ≡ 4 ∷ 10 ∷ 0 ∷ 0 ∷ 0 ∷ 8 ∷ 0 ∷ 7 ∷ 2 ∷ 9 ∷ 0 ∷ [])
-    × (frontOn (table 1 []) 5 ≡ 0 ∷ [])
-    × (frontOn foreign 100 ≡ [])
+pub fronts : (frontOn v4 one 10 ≡ [])
+    × (frontOn v4 one 11 ≡ 4 ∷ 10 ∷ 0 ∷ 0 ∷ 0 ∷ 8 ∷ 0 ∷ 7 ∷ 2 ∷ 9 ∷ 0 ∷ [])
+    × (frontOn v4 (table 1 []) 5 ≡ 0 ∷ [])
+    × (frontOn v4 foreign 100 ≡ [])
+unfolding digits
 fronts = (refl, refl, refl, refl)
 
 -- ---- a run that is refused, and one that leaves reply bytes over
 
-pub replieds : (repliedOn foreign (3 ∷ 0 ∷ 0 ∷ 0 ∷ 0 ∷ []) (9 ∷ 9 ∷ []) ≡ 9 ∷ 9 ∷ [])
-    × (repliedOn (table 1 []) (3 ∷ 0 ∷ 0 ∷ 0 ∷ 0 ∷ []) (9 ∷ 9 ∷ 9 ∷ 9 ∷ 9 ∷ []) ≡ 18 ∷ 0 ∷ 9 ∷ 9 ∷ 9 ∷ [])
-unfolding runs halts
+pub replieds : (repliedOn v4 foreign (3 ∷ 0 ∷ 0 ∷ 0 ∷ 0 ∷ []) (9 ∷ 9 ∷ []) ≡ 9 ∷ 9 ∷ [])
+    × (repliedOn v4 (table 1 []) (3 ∷ 0 ∷ 0 ∷ 0 ∷ 0 ∷ []) (9 ∷ 9 ∷ 9 ∷ 9 ∷ 9 ∷ []) ≡ 18 ∷ 0 ∷ 9 ∷ 9 ∷ 9 ∷ [])
+unfolding runs halts number
 replieds = (refl, refl)

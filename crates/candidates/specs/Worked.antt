@@ -5,13 +5,15 @@ use mathlib.Core.Bool.{cond}
 use mathlib.Core.List.{List, [], _∷_}
 use Prim.Native.Nat.{ℕ}
 use lib.Count.{leadingZeros}
+use Rattle.numbers.specs.Digits.{digits}
+use Rattle.numbers.specs.Number.{number}
+use Rattle.routes.specs.Family.{v4}
 use Rattle.routes.specs.Room.{needTo}
 use Rattle.routes.specs.Cells.{cells, shown}
-use Rattle.routes.specs.Answers.{done}
 use Rattle.routes.specs.Seen.{Answer, gives, refuses}
 use Rattle.routes.specs.Small.{ip}
 use Rattle.candidates.specs.Candidate.{Candidate, candidate}
-use Rattle.candidates.specs.Answers.{announce, withdraw, Record, update, answer, replies, leaves}
+use Rattle.candidates.specs.Answers.{answer}
 use Rattle.candidates.specs.Bytes.{written}
 use Rattle.candidates.specs.Runs.{run, runs, halts}
 use Rattle.candidates.specs.Cases.{Case, gots, numbers}
@@ -219,36 +221,14 @@ sizes =
 -- ---- each row is as the definitions give it, and none of the five feeds is left out
 
 pub record Holds : Type 0 where
-  pub feeds : gots written worked ≡ worked
+  pub feeds : gots v4 (written v4) worked ≡ worked
   pub all : numbers worked ≡ 1 ∷ 3 ∷ 5 ∷ 7 ∷ 9 ∷ []
   pub words : sized sizes ≡ sizes
   -- 7.9: 41 bytes, a buffer of 40 gets 9, and fed to a cleared table of 3 arrays they give the list again
-  pub short : countOn (table 3 left) 40 ≡ refuses 9
-  pub enough : countOn (table 3 left) 41 ≡ gives 41
-  pub again : run 3 [] (written left) 4096 .end .list ≡ left
+  pub short : countOn v4 (table 3 left) 40 ≡ refuses 9
+  pub enough : countOn v4 (table 3 left) 41 ≡ gives 41
+  pub again : run v4 3 [] (written v4 left) 4096 .end .list ≡ left
 
 pub candidate-cases : Holds
-unfolding answer cells shown needTo runs halts leadingZeros
+unfolding answer cells shown needTo runs halts leadingZeros number digits
 candidate-cases = record { feeds = refl; all = refl; words = refl; short = refl; enough = refl; again = refl }
-
--- ---- over the width: the updates of case 9.5, with 128 bits
-
--- 2001::, and 2000::
-abbrev deep : ℕ
-deep = 42540488161975842760550356425300246528
-
-abbrev wide : ℕ
-wide = 42535295865117307932921825928971026432
-
-abbrev asked : List Record
-asked =
-    update (announce deep 16 5 2 1)
-    ∷ update (announce deep 16 6 1 1)
-    ∷ update (announce wide 3 7 3 0)
-    ∷ update (withdraw deep 16 1)
-    ∷ []
-
-pub wider : (replies 128 3 [] asked ≡ done 5 1 ∷ done 6 1 ∷ done 7 32 ∷ done 6 1 ∷ [])
-    × (leaves 128 3 [] asked ≡ candidate wide 3 3 0 7 ∷ candidate deep 16 2 1 5 ∷ [])
-unfolding answer cells shown needTo
-wider = (refl, refl)

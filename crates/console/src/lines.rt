@@ -2,6 +2,7 @@
 ghost use Prim.Native.Nat.{_≤_, _<_};
 ghost use lib.ListN.{length};
 use crate::text;
+use families::Family;
 
 // Before a record of the feed, before its reply, and before its line.
 struct Place {
@@ -37,8 +38,9 @@ impl Place {
         let p = subject(&feed[at..], out, self.to);
         let q = answer(&replies[from..], out, p);
         let to = text::byte(out, q, b'\n');
+        let role = families::role_of(Family::V4, feed[at]);
         Place {
-            at: past(at, feed::size(feed[at]), feed.len()),
+            at: past(at, feed::size(Family::V4, role), feed.len()),
             from: past(from, reply_size(replies[from]), replies.len()),
             to: to,
         }

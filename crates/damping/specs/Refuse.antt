@@ -32,7 +32,7 @@ use Rattle.damping.specs.Update.{HasDamped, unsound-on}
 
 -- the first number before the work, 0 where there is none
 abbrev pub refusalThrough : List ℕ → List ℕ → ℕ → ℕ
-refusalThrough fs ws f = cond (eqb (refusalOf ws f) 0) (cond (frontB fs) 0 2) (refusalOf ws f)
+refusalThrough fs ws f = cond (eqb (refusalOf 4 ws f) 0) (cond (frontB fs) 0 2) (refusalOf 4 ws f)
 
 -- ---- what no fault says
 
@@ -58,13 +58,13 @@ faults-on fs ws u n w t e z =
 -- ---- on any words
 
 module _ (fs ws : List ℕ) (f : ℕ) where
-  pub refusal-first : (n : ℕ) → n ≡ refusalOf ws f → n ≢ 0 → n ≡ refusalThrough fs ws f
+  pub refusal-first : (n : ℕ) → n ≡ refusalOf 4 ws f → n ≢ 0 → n ≡ refusalThrough fs ws f
   refusal-first n e z = rw (← e, ne-eqb n 0 z)
 
-  pub refusal-alien : (n : ℕ) → n ≡ refusalOf ws f → n ≡ 0 → frontB fs ≡ false → 2 ≡ refusalThrough fs ws f
+  pub refusal-alien : (n : ℕ) → n ≡ refusalOf 4 ws f → n ≡ 0 → frontB fs ≡ false → 2 ≡ refusalThrough fs ws f
   refusal-alien n e z b = rw (sym e ∙ z, b)
 
-  pub refusal-passed : (n : ℕ) → n ≡ refusalOf ws f → n ≡ 0 → frontB fs ≡ true → 0 ≡ refusalThrough fs ws f
+  pub refusal-passed : (n : ℕ) → n ≡ refusalOf 4 ws f → n ≡ 0 → frontB fs ≡ true → 0 ≡ refusalThrough fs ws f
   refusal-passed n e z b = rw (sym e ∙ z, b)
 
 -- a test that reflects being a front is the flat one
@@ -98,23 +98,23 @@ module _ (fs ws : List ℕ) (u : Update) where
   pub refused-by : (n : ℕ) → n ≡ refusalThrough fs ws (faultOf 32 u) → n ≢ 0 → HasDamped fs ws fs ws u (Refused n)
   refused-by n e z =
       seen-cases 4 ws (omega arith) (omega arith)
-      (λ m s. (let q : n ≡ 1 = e ∙ sym (refusal-first fs ws (faultOf 32 u) 1 (refusal-size ws (faultOf 32 u) m)
+      (λ m s. (let q : n ≡ 1 = e ∙ sym (refusal-first fs ws (faultOf 32 u) 1 (refusal-size 4 ws (faultOf 32 u) m)
       (λ k. omega arith)) in
       refuses n (rw (s, q)) (rw s) (rw s)))
       (λ m b s. same (faultOf 32 u) 0
       (λ f _. (let q : n ≡ 2 =
-      e ∙ sym (refusal-first fs ws (faultOf 32 u) 2 (refusal-foreign ws (faultOf 32 u) m f b) (λ k. omega arith)) in
+      e ∙ sym (refusal-first fs ws (faultOf 32 u) 2 (refusal-foreign 4 ws (faultOf 32 u) m f b) (λ k. omega arith)) in
       refuses n (rw (s, q) (unfaulted f (refused 2))) (rw s) (rw s)))
       (λ f _. (let q : n ≡ faultOf 32 u =
-      e ∙ sym (refusal-first fs ws (faultOf 32 u) (faultOf 32 u) (refusal-fault ws (faultOf 32 u) m f) f) in
+      e ∙ sym (refusal-first fs ws (faultOf 32 u) (faultOf 32 u) (refusal-fault 4 ws (faultOf 32 u) m f) f) in
       refuses n (rw s (faulted n q z (refused 2))) (rw s) (rw s))))
       (λ m b t s. same (faultOf 32 u) 0
-      (λ f _. behind f (refusal-none ws (faultOf 32 u) m f b) s)
+      (λ f _. behind f (refusal-none 4 ws (faultOf 32 u) m f b) s)
       (λ f _. (let q : n ≡ faultOf 32 u =
-      e ∙ sym (refusal-first fs ws (faultOf 32 u) (faultOf 32 u) (refusal-fault ws (faultOf 32 u) m f) f) in
+      e ∙ sym (refusal-first fs ws (faultOf 32 u) (faultOf 32 u) (refusal-fault 4 ws (faultOf 32 u) m f) f) in
       front-either q s)))
     where
-      behind : faultOf 32 u ≡ 0 → 0 ≡ refusalOf ws (faultOf 32 u) → seen 4 ws ≡ table (arrayCount ws) (listOf 4 ws)
+      behind : faultOf 32 u ≡ 0 → 0 ≡ refusalOf 4 ws (faultOf 32 u) → seen 4 ws ≡ table (arrayCount ws) (listOf 4 ws)
           → HasDamped fs ws fs ws u (Refused n)
       behind f k s =
           bool (frontB fs)
@@ -138,8 +138,8 @@ module _ (fs ws : List ℕ) (u : Update) where
 pub passed-all : (fs ws : List ℕ) (f : ℕ) → ((i : ℕ) → rowAt fs i .a < 4294967296) → refusalThrough fs ws f ≡ 0
     → IsWords fs × Table 4 ws × (f ≡ 0)
 passed-all fs ws f small e =
-    same (refusalOf ws f) 0
+    same (refusalOf 4 ws f) 0
     (λ z d. bool (frontB fs)
-    (λ b. (words-to fs small b, passed ws f z .0, passed ws f z .1))
+    (λ b. (let q = passed 4 ws (omega arith) (omega arith) f z in (words-to fs small b, q .0, q .1)))
     (λ b. absurd (let k : _≡_ {A = ℕ} 2 0 = rw (d, b) at e in omega arith)))
     (λ z d. absurd (z (rw d at e)))

@@ -117,7 +117,7 @@ pub fn withdraw_on(
 pub fn refusal(front: &[u32], words: &[u32], fault: u32) -> u32
     ensures { λ r. ⌜ r ≡ refusalThrough (now (front .entry)) (now (words .entry)) fault ⌝ }
 {
-    let n = update::refusal(words, fault);
+    let n = update::refusal(words, 4, fault);
     if n != 0 {
         return n;
     }

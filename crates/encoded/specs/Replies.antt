@@ -6,14 +6,16 @@ use mathlib.Core.Option.{Option, none, some}
 use mathlib.Core.Bool.{true}
 use Prim.Native.Nat.{ℕ, suc, _+_, _*_, _≤_, _<_}
 use native.Mathlib.Omega.{arith}
-use lib.Dec.{eqb, lit<}
+use lib.Dec.{eqb}
 use lib.ListN.{length}
 use borrow.Author.Tests.{ltb-false}
+use Rattle.routes.specs.Family.{Family, width}
 use Rattle.routes.specs.Route.{route, All, tooLong, stray, badHop}
 use Rattle.routes.specs.Block.{block}
 use Rattle.routes.specs.Answers.{isDone, lacking}
 use Rattle.routes.specs.Bytes.{repliesBytes, ReplyFits, RepliesFit, repliesAt}
 use Rattle.logic.specs.Cases.{bool}
+use Rattle.laws.specs.Families.{width-low}
 use Rattle.laws.specs.Sorted.{all-insert, all-map}
 use Rattle.laws.specs.Cells.{cells-most}
 use Rattle.laws.specs.Block.{Short, short-block}
@@ -111,9 +113,11 @@ replies-many W A cs [] = refl
 replies-many W A cs (x ∷ xs) = ap suc (replies-many W A (next W A cs x) xs)
 
 -- the replies of a list to records, read back from where their bytes stand
-pub answers-back : (A : ℕ) (cs : List Candidate) (xs : List Record) (pre rest : List ℕ) → Every (IsCandidate 32) cs
-    → repliesAt (length xs) (pre ++ (repliesBytes (replies 32 A cs xs) ++ rest)) (length pre) ≡ replies 32 A cs xs
-answers-back A cs xs pre rest p =
-    let bs : List ℕ = pre ++ (repliesBytes (replies 32 A cs xs) ++ rest) in
-    ap (λ (n : ℕ). repliesAt n bs (length pre)) (sym (replies-many 32 A cs xs))
-    ∙ replies-back pre (replies 32 A cs xs) rest (replies-fit 32 (lit< tt) A cs xs (list-low 32 cs p))
+pub answers-back : (F : Family) (A : ℕ) (cs : List Candidate) (xs : List Record) (pre rest : List ℕ)
+    → Every (IsCandidate (width F)) cs
+    → repliesAt (length xs) (pre ++ (repliesBytes (replies (width F) A cs xs) ++ rest)) (length pre) ≡ replies (width F) A cs xs
+answers-back F A cs xs pre rest p =
+    let W = width F in
+    let bs : List ℕ = pre ++ (repliesBytes (replies W A cs xs) ++ rest) in
+    ap (λ (n : ℕ). repliesAt n bs (length pre)) (sym (replies-many W A cs xs))
+    ∙ replies-back pre (replies W A cs xs) rest (replies-fit W (width-low F) A cs xs (list-low W cs p))

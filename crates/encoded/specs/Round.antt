@@ -3,27 +3,30 @@ use mathlib.Core.Path.{_≡_, refl, sym, ap, _∙_}
 use mathlib.Core.Bool.{true, false, false≢true}
 use mathlib.Core.List.{List, [], _∷_, _++_, append-assoc, append-nil}
 use Prim.Native.Nat.{ℕ, suc, _+_, _-_, _*_, _/_, _≤_, _<_}
+use native.Mathlib.Nat.{mul-suc}
 use native.Mathlib.Omega.{arith}
 use lib.ListN.{length, length-append}
-use lib.Dec.{lit<}
 use borrow.Author.Tests.{le-ltb, ne-eqb}
+use Rattle.routes.specs.Family.{Family, v4, v6, levels, width, announcingFor, kindOf}
 use Rattle.routes.specs.Route.{route}
 use Rattle.routes.specs.Room.{need}
 use Rattle.routes.specs.Answers.{Reply, done, found, none, refused, isDone, isRefused, count}
 use Rattle.routes.specs.Bytes.{repliesBytes}
+use Rattle.laws.specs.Families.{width-low}
 use Rattle.laws.specs.Room.{heads-first, need-le}
 use Rattle.candidates.specs.Keyed.{Ordered, put, Every}
 use Rattle.candidates.specs.Candidate.{Candidate, key, IsCandidate, IsList}
 use Rattle.candidates.specs.Winners.{winners, prefixes}
 use Rattle.candidates.specs.Answers.{Update, announce, sound, answer, after, replies, leaves}
-use Rattle.candidates.specs.Bytes.{meanings, AllFit, announced, written, allBytes}
+use Rattle.candidates.specs.Bytes.{Sent, announcesFor, meanings, sentBytes, allBytes, AllFit, announced, written}
 use Rattle.candidates.specs.Runs.{run}
+use Rattle.candidates.specs.Seen.{bytesFor}
 use Rattle.rivals.specs.Maps.{every-map}
 use Rattle.rivals.specs.Append.{Inside, inside-le, inside-weaken, inside-append}
 use Rattle.rivals.specs.Won.{Good, is-good}
 use Rattle.rivals.specs.Need.{need-prefixes}
 use Rattle.rivals.specs.Updates.{faulty-sound, plain-done, answer-plain}
-use Rattle.encoded.specs.Encoded.{run-ended}
+use Rattle.encoded.specs.Encoded.{size-back, run-ended}
 
 -- ---- a last candidate added
 
@@ -108,57 +111,75 @@ module _ (W : ℕ) (w : W < 256) (A : ℕ) where
   loaded cs l h =
       load 0 [] cs (omega arith) (l .sorted) (l .candidates) (every-map (IsCandidate W) Good (is-good W w) cs (l .candidates)) h
 
--- ---- the bytes
-
-fit : (cs : List Candidate) → Every (IsCandidate 32) cs → AllFit (announced cs)
-fit [] p = tt
-fit (c ∷ cs) p =
-    let w = p .0 .route .wf in
-    ((w .inside, omega (arith, w .fits), omega (arith, p .0 .route .low), omega (arith, p .0 .high), p .0 .byte), fit cs (p .1))
-
-pub bytes-long : (cs : List Candidate) → length (allBytes (announced cs)) ≡ 10 * length cs
-bytes-long [] = refl
-bytes-long (c ∷ cs) = omega (arith, bytes-long cs)
-
 as-many : (cs : List Candidate) → length (announced cs) ≡ length cs
 as-many [] = refl
 as-many (c ∷ cs) = ap suc (as-many cs)
 
--- 10n + 1 bytes for n candidates
-pub written-long : (cs : List Candidate) → length (written cs) ≡ 10 * length cs + 1
-written-long cs = length-append (allBytes (announced cs)) (0 ∷ []) ∙ omega (arith, bytes-long cs)
+-- ---- the bytes
 
--- candidates written out and fed, with reply room enough, to a cleared table of the same room give that list again
-pub round-trip : (A : ℕ) (cs : List Candidate) (room : ℕ) → IsList 32 cs → need 32 (winners cs) ≤ A → 5 * length cs ≤ room
-    → run A [] (written cs) room ≡ record {
-      stop = 0;
-      end = record {
-        list = cs;
-        consumed = 10 * length cs + 1;
-        replies = repliesBytes (replies 32 A [] (meanings (announced cs)));
-        accepted = length cs;
-        refused = 0;
-      };
-    }
-round-trip A cs room l h g =
-    let q = loaded 32 (lit< tt) A cs l h in
-    run-ended A [] (announced cs) [] room (fit cs (l .candidates)) (rw (as-many cs) g)
-    ∙ (λ i. record {
-      stop = 0;
-      end = record {
-        list = q .list i;
-        consumed = c i;
-        replies = repliesBytes (replies 32 A [] (meanings (announced cs)));
-        accepted = a i;
-        refused = b i;
-      };
-    })
-  where
-    c : 0 + length (allBytes (announced cs)) + 1 ≡ 10 * length cs + 1
-    c = omega (arith, bytes-long cs)
+module _ (F : Family) where
+  fit : (cs : List Candidate) → Every (IsCandidate (width F)) cs → AllFit F (announced cs)
+  fit [] p = tt
+  fit (c ∷ cs) p =
+      let w = p .0 .route .wf in
+      let l : c .len < 256 = omega (arith, w .fits, width-low F) in (
+        record {
+          kind = announce-low F;
+          address = w .inside;
+          tail = (l, omega (arith, p .0 .route .low), omega (arith, p .0 .high), p .0 .byte);
+        },
+        fit cs (p .1),
+      )
+    where
+      announce-low : (F : Family) → kindOf F announcingFor < 256
+      announce-low v4 = omega arith
+      announce-low v6 = omega arith
 
-    a : 0 + count isDone (replies 32 A [] (meanings (announced cs))) ≡ length cs
-    a = omega (arith, loaded 32 (lit< tt) A cs l h .accepted)
+  pub bytes-long : (cs : List Candidate) → length (allBytes F (announced cs)) ≡ (levels F + 6) * length cs
+  bytes-long [] = omega arith
+  bytes-long (c ∷ cs) =
+      let x : Sent = announcesFor (c .addr) (c .len) (c .hop) (c .feed) (c .pref) in
+      length-append (sentBytes F x) (allBytes F (announced cs))
+      ∙ omega (arith, mul-suc (levels F + 6) (length cs), bytes-long cs, size-back F x)
 
-    b : 0 + count isRefused (replies 32 A [] (meanings (announced cs))) ≡ 0
-    b = omega (arith, loaded 32 (lit< tt) A cs l h .refused)
+  -- 10n + 1 bytes for n candidates of IPv4, 22n + 1 for those of IPv6
+  pub written-long : (cs : List Candidate) → length (written F cs) ≡ bytesFor F (length cs)
+  written-long cs = length-append (allBytes F (announced cs)) (0 ∷ []) ∙ omega (arith, bytes-long cs)
+
+  -- candidates written out and fed, with reply room enough, to a cleared table of the same room give that list again
+  pub round-trip : (A : ℕ) (cs : List Candidate) (room : ℕ) → IsList (width F) cs → need (width F) (winners cs) ≤ A
+      → 5 * length cs ≤ room
+      → run F A [] (written F cs) room ≡ record {
+        stop = 0;
+        end = record {
+          list = cs;
+          consumed = bytesFor F (length cs);
+          replies = repliesBytes (replies (width F) A [] (meanings (announced cs)));
+          accepted = length cs;
+          refused = 0;
+        };
+      }
+  round-trip A cs room l h g =
+      run-ended F A [] (announced cs) [] room (fit cs (l .candidates)) (rw (as-many cs) g)
+      ∙ (λ i. record {
+        stop = 0;
+        end = record {
+          list = q .list i;
+          consumed = c i;
+          replies = repliesBytes (replies (width F) A [] (meanings (announced cs)));
+          accepted = a i;
+          refused = b i;
+        };
+      })
+    where
+      q : Loaded (width F) (width-low F) A [] cs
+      q = loaded (width F) (width-low F) A cs l h
+
+      c : 0 + length (allBytes F (announced cs)) + 1 ≡ bytesFor F (length cs)
+      c = omega (arith, bytes-long cs)
+
+      a : 0 + count isDone (replies (width F) A [] (meanings (announced cs))) ≡ length cs
+      a = omega (arith, q .accepted)
+
+      b : 0 + count isRefused (replies (width F) A [] (meanings (announced cs))) ≡ 0
+      b = omega (arith, q .refused)

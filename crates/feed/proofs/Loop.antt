@@ -6,21 +6,24 @@ use mathlib.Core.Path.{_≡_, refl, sym, ap, subst, _∙_}
 use mathlib.Core.Logic.{_≢_}
 use mathlib.Core.Bool.{Bool, true, false, cond}
 use mathlib.Core.List.{List, _++_}
-use Prim.Native.Nat.{ℕ, suc, _+_, _-_, _≤_}
+use Prim.Native.Nat.{ℕ, suc, _+_, _-_, _≤_, _<_}
 use native.Mathlib.Nat.{add-zero}
 use native.Mathlib.Omega.{arith}
 use lib.ListN.{length, getD, take, drop, take-append-drop}
 use lib.Seq.{length-sets, length-take-le, drop-drop}
 use lib.Dec.{eqb}
 use Rattle.numbers.specs.Wrote.{Wrote}
+use Rattle.sizes.specs.Sizes.{levelBound}
+use Rattle.routes.specs.Family.{Family, levels, width}
 use Rattle.routes.specs.Answers.{Reply, isDone, isRefused}
 use Rattle.routes.specs.Bytes.{replyBytes}
 use Rattle.candidates.specs.Runs.{tally}
 use Rattle.routes.specs.Seen.{gives}
 use Rattle.laws.specs.Encoded.{reply-short}
+use Rattle.laws.specs.Families.{levels-some, levels-few}
 use Rattle.candidates.specs.Candidate.{Candidate}
 use Rattle.candidates.specs.Answers.{reply, replies}
-use Rattle.candidates.specs.Runs.{State, Ran as Outcome, size, ahead, finish, halts, taken, runs, fresh, run, recordsFrom}
+use Rattle.candidates.specs.Runs.{State, Ran as Outcome, size, roleAt, ahead, finish, halts, taken, runs, fresh, run, recordsFrom}
 use Rattle.candidates.specs.Seen.{Seen, misfit, foreign, table}
 use Rattle.encoded.specs.Turns.{Clear, size-pos, halts-clear, runs-on, runs-stop, runs-enough}
 use Rattle.encoded.specs.Taken.{records-stop, records-on}
@@ -30,7 +33,7 @@ use Rattle.update.specs.Update.{refusalOf}
 use Rattle.update.specs.Refuse.{refusal-size, refusal-foreign, refusal-none, passed}
 use Rattle.feed.specs.Runs.{reportOf, HasRun}
 use Rattle.feed.specs.Series.{Asked, Series, nothing, more, Answered, answered}
-use Rattle.feed.specs.Turns.{IsTable, roomIn, listIn, one, here, stateOf, Placed, Takes, Took}
+use Rattle.feed.specs.Turns.{IsTable, roomIn, listIn, one, nextAt, stateOf, Placed, Takes, Took}
 use Rattle.feed.specs.declared.Progress.{Progress}
 use Rattle.feed.specs.declared.Report.{Report}
 use Rattle.feed.specs.declared.Ran.the-variants.{Stopped, Refused}
@@ -47,23 +50,24 @@ one-le : (b : Bool) → one b ≤ 1
 one-le true = omega arith
 one-le false = omega arith
 
-module _ (p : Progress) (ws feed b : List ℕ) (t : Takes p ws feed b) (n : ℕ) (vs : List ℕ) (r : Reply) (q : ℕ) (c : List ℕ)
-    (x y : ℕ) (en : n ≡ size (getD feed (p .at) 0)) (asked : Asked ws (here feed (p .at)) r vs)
+module _ (F : Family) (p : Progress) (ws feed b : List ℕ) (t : Takes F p ws feed b) (n : ℕ) (vs : List ℕ) (r : Reply) (q : ℕ)
+    (c : List ℕ) (x y : ℕ) (en : n ≡ size F (roleAt F feed (p .at)))
+    (asked : Asked (levels F) ws (nextAt F p feed) r vs)
     (w : Wrote b (p .out) (replyBytes r) q c)
     (ex : x ≡ one (isDone r)) (ey : y ≡ one (isRefused r)) where
   abbrev A : ℕ
-  A = roomIn (seen 4 ws)
+  A = roomIn (seen (levels F) ws)
 
   abbrev cs : List Candidate
-  cs = listIn (seen 4 ws)
+  cs = listIn (seen (levels F) ws)
 
-  answer : Answered A cs (here feed (p .at)) r vs
-  answer = answered A cs (table-eq (seen 4 ws) (t .isTable)) asked
+  answer : Answered (levels F) A cs (nextAt F p feed) r vs
+  answer = answered (levels F) A cs (table-eq (seen (levels F) ws) (t .isTable)) asked
 
   fits : p .out + length (replyBytes r) ≤ length b
   fits = omega (arith, reply-short r, t .clear .free)
 
-  pub took : Took p ws feed b (record { at = p .at + n; out = q; accepted = p .accepted + x; refused = p .refused + y }) vs c
+  pub took : Took F p ws feed b (record { at = p .at + n; out = q; accepted = p .accepted + x; refused = p .refused + y }) vs c
   took =
       record {
         asked = rw said at asked;
@@ -79,26 +83,26 @@ module _ (p : Progress) (ws feed b : List ℕ) (t : Takes p ws feed b) (n : ℕ)
         placed = record {
           at = omega (arith, t .clear .body);
           out = omega (arith, fits, w .place, ap length (w .list) ∙ length-sets b (p .out) (replyBytes r));
-          accepted = omega (arith, t .placed .accepted, one-le (isDone r), size-pos (getD feed (p .at) 0));
-          refused = omega (arith, t .placed .refused, one-le (isRefused r), size-pos (getD feed (p .at) 0));
+          accepted = omega (arith, t .placed .accepted, one-le (isDone r), size-pos F (roleAt F feed (p .at)));
+          refused = omega (arith, t .placed .refused, one-le (isRefused r), size-pos F (roleAt F feed (p .at)));
         };
-        on = omega (arith, size-pos (getD feed (p .at) 0));
+        on = omega (arith, size-pos F (roleAt F feed (p .at)));
         past = omega (arith, w .place);
       }
     where
-      said : r ≡ reply 32 A cs (here feed (p .at))
+      said : r ≡ reply (width F) A cs (nextAt F p feed)
       said = answer .answer
 
-      reps : take q c ≡ take (p .out) b ++ replyBytes (reply 32 A cs (here feed (p .at)))
+      reps : take q c ≡ take (p .out) b ++ replyBytes (reply (width F) A cs (nextAt F p feed))
       reps = wrote-before b (p .out) (replyBytes r) q c fits w ∙ ap (λ z. take (p .out) b ++ replyBytes z) said
 
-      acc : p .accepted + x ≡ tally (isDone (reply 32 A cs (here feed (p .at)))) (p .accepted)
+      acc : p .accepted + x ≡ tally (isDone (reply (width F) A cs (nextAt F p feed))) (p .accepted)
       acc =
           ap (λ (m : ℕ). p .accepted + m) ex
           ∙ one-tally (isDone r) (p .accepted)
           ∙ ap (λ z. tally (isDone z) (p .accepted)) said
 
-      ref : p .refused + y ≡ tally (isRefused (reply 32 A cs (here feed (p .at)))) (p .refused)
+      ref : p .refused + y ≡ tally (isRefused (reply (width F) A cs (nextAt F p feed))) (p .refused)
       ref =
           ap (λ (m : ℕ). p .refused + m) ey
           ∙ one-tally (isRefused r) (p .refused)
@@ -106,39 +110,41 @@ module _ (p : Progress) (ws feed b : List ℕ) (t : Takes p ws feed b) (n : ℕ)
 
 -- ---- the loop
 
-abbrev pub whole : List ℕ → List ℕ → List ℕ → Outcome
-whole ws feed b = run (roomIn (seen 4 ws)) (listIn (seen 4 ws)) feed (length b)
+abbrev pub whole : Family → List ℕ → List ℕ → List ℕ → Outcome
+whole F ws feed b = run F (roomIn (seen (levels F) ws)) (listIn (seen (levels F) ws)) feed (length b)
 
 -- a call was made for each record that is left from the state s on: they began with the words ws and left us
-abbrev pub Ahead : ℕ → List ℕ → ℕ → State → List ℕ → List ℕ → Type 0
-Ahead A feed room s ws us =
-    Series ws (recordsFrom (length feed) A feed room s) (replies 32 A (s .list) (recordsFrom (length feed) A feed room s)) us
+abbrev pub Ahead : Family → ℕ → List ℕ → ℕ → State → List ℕ → List ℕ → Type 0
+Ahead F A feed room s ws us =
+    Series (levels F) ws (recordsFrom F (length feed) A feed room s)
+    (replies (width F) A (s .list) (recordsFrom F (length feed) A feed room s)) us
 
-ahead-more : (A : ℕ) (feed : List ℕ) (room : ℕ) (s : State) {ws vs us : List ℕ}
-    → halts feed room (s .consumed) (length (s .replies)) ≡ 5
-    → Asked ws (ahead feed s) (reply 32 A (s .list) (ahead feed s)) vs → Ahead A feed room (taken A feed s) vs us
-    → Ahead A feed room s ws us
-ahead-more A feed room s e a x = rw (records-on A feed room s e) (more a x)
+ahead-more : (F : Family) (A : ℕ) (feed : List ℕ) (room : ℕ) (s : State) {ws vs us : List ℕ}
+    → halts F feed room (s .consumed) (length (s .replies)) ≡ 5
+    → Asked (levels F) ws (ahead F feed s) (reply (width F) A (s .list) (ahead F feed s)) vs
+    → Ahead F A feed room (taken F A feed s) vs us → Ahead F A feed room s ws us
+ahead-more F A feed room s e a x = rw (records-on F A feed room s e) (more a x)
 
 -- a run from ws₀ and b₀ has come to p, with the words ws and the reply bytes b, and `stop` is what the next tests find
-pub record Going (ws₀ feed b₀ ws b : List ℕ) (p : Progress) (stop : ℕ) : Type 0 where
+pub record Going (F : Family) (ws₀ feed b₀ ws b : List ℕ) (p : Progress) (stop : ℕ) : Type 0 where
   pub placed : Placed p feed b
-  pub list : seen 4 ws ≡ table (roomIn (seen 4 ws₀)) (listIn (seen 4 ws))
-  pub left : runs (length feed) (roomIn (seen 4 ws₀)) feed (length b₀) (stateOf p ws b) ≡ whole ws₀ feed b₀
+  pub list : seen (levels F) ws ≡ table (roomIn (seen (levels F) ws₀)) (listIn (seen (levels F) ws))
+  pub left : runs F (length feed) (roomIn (seen (levels F) ws₀)) feed (length b₀) (stateOf (levels F) p ws b)
+      ≡ whole F ws₀ feed b₀
   pub rest : drop (p .out) b ≡ drop (p .out) b₀
   pub long : length b ≡ length b₀
   pub wide : length ws ≡ length ws₀
-  pub halted : stop ≡ halts feed (length b₀) (p .at) (p .out)
+  pub halted : stop ≡ halts F feed (length b₀) (p .at) (p .out)
   -- a series of calls for the records that are left makes one for all
-  pub series : (us : List ℕ) → Ahead (roomIn (seen 4 ws₀)) feed (length b₀) (stateOf p ws b) ws us
-      → Ahead (roomIn (seen 4 ws₀)) feed (length b₀) (fresh (listIn (seen 4 ws₀))) ws₀ us
+  pub series : (us : List ℕ) → Ahead F (roomIn (seen (levels F) ws₀)) feed (length b₀) (stateOf (levels F) p ws b) ws us
+      → Ahead F (roomIn (seen (levels F) ws₀)) feed (length b₀) (fresh (listIn (seen (levels F) ws₀))) ws₀ us
 
-pub start : (ws feed b : List ℕ) (stop : ℕ) → IsTable (seen 4 ws) → stop ≡ halts feed (length b) 0 0
-    → Going ws feed b ws b (record { at = 0; out = 0; accepted = 0; refused = 0 }) stop
-start ws feed b stop t e =
+pub start : (F : Family) (ws feed b : List ℕ) (stop : ℕ) → IsTable (seen (levels F) ws) → stop ≡ halts F feed (length b) 0 0
+    → Going F ws feed b ws b (record { at = 0; out = 0; accepted = 0; refused = 0 }) stop
+start F ws feed b stop t e =
     record {
       placed = record { at = omega arith; out = omega arith; accepted = omega arith; refused = omega arith };
-      list = table-eq (seen 4 ws) t;
+      list = table-eq (seen (levels F) ws) t;
       left = refl;
       rest = refl;
       long = refl;
@@ -156,61 +162,61 @@ told p stop consumed written =
     record { stop = stop; consumed = consumed; written = written; accepted = p .accepted; refused = p .refused }
 
 -- a run that ended as o, on a table of A arrays
-record Ended (o : Outcome) (A : ℕ) (b vs c : List ℕ) (r : Report) : Type 0 where
+record Ended (F : Family) (o : Outcome) (A : ℕ) (b vs c : List ℕ) (r : Report) : Type 0 where
   report : r ≡ reportOf o
-  list : seen 4 vs ≡ table A (o .end .list)
+  list : seen (levels F) vs ≡ table A (o .end .list)
   replies : c ≡ o .end .replies ++ drop (length (o .end .replies)) b
 
-module _ (ws₀ feed b₀ ws b : List ℕ) (p : Progress) (stop : ℕ) (g : Going ws₀ feed b₀ ws b p stop) where
+module _ (F : Family) (ws₀ feed b₀ ws b : List ℕ) (p : Progress) (stop : ℕ) (g : Going F ws₀ feed b₀ ws b p stop) where
   abbrev A₀ : ℕ
-  A₀ = roomIn (seen 4 ws₀)
+  A₀ = roomIn (seen (levels F) ws₀)
 
   abbrev state : State
-  state = stateOf p ws b
+  state = stateOf (levels F) p ws b
 
-  going-clear : stop ≡ 5 → Clear feed (length b) (p .at) (p .out)
-  going-clear e = rw (g .long) (halts-clear feed (length b₀) (p .at) (p .out) (sym (g .halted) ∙ e))
+  going-clear : stop ≡ 5 → Clear F feed (length b) (p .at) (p .out)
+  going-clear e = rw (g .long) (halts-clear F feed (length b₀) (p .at) (p .out) (sym (g .halted) ∙ e))
 
-  is-table : IsTable (seen 4 ws)
+  is-table : IsTable (seen (levels F) ws)
   is-table = rw (g .list) tt
 
-  pub going-takes : stop ≡ 5 → Takes p ws feed b
+  pub going-takes : stop ≡ 5 → Takes F p ws feed b
   going-takes e = record { isTable = is-table; placed = g .placed; clear = going-clear e }
 
-  same-room : roomIn (seen 4 ws) ≡ A₀
+  same-room : roomIn (seen (levels F) ws) ≡ A₀
   same-room = ap roomIn (g .list)
 
-  halted-at : halts feed (length b₀) (p .at) (length (take (p .out) b)) ≡ stop
-  halted-at = ap (halts feed (length b₀) (p .at)) (out-length p feed b (g .placed)) ∙ sym (g .halted)
+  halted-at : halts F feed (length b₀) (p .at) (length (take (p .out) b)) ≡ stop
+  halted-at = ap (halts F feed (length b₀) (p .at)) (out-length p feed b (g .placed)) ∙ sym (g .halted)
 
-  pub again : (q : Progress) (vs c : List ℕ) (next : ℕ) → stop ≡ 5 → Took p ws feed b q vs c
-      → length c ≡ length b → length vs ≡ length ws → next ≡ halts feed (length b₀) (q .at) (q .out)
-      → Going ws₀ feed b₀ vs c q next
+  pub again : (q : Progress) (vs c : List ℕ) (next : ℕ) → stop ≡ 5 → Took F p ws feed b q vs c
+      → length c ≡ length b → length vs ≡ length ws → next ≡ halts F feed (length b₀) (q .at) (q .out)
+      → Going F ws₀ feed b₀ vs c q next
   again q vs c next e t lc lv h =
       record {
         placed = t .placed;
-        list = t .list ∙ ap (λ (n : ℕ). table n (listIn (seen 4 vs))) same-room;
+        list = t .list ∙ ap (λ (n : ℕ). table n (listIn (seen (levels F) vs))) same-room;
         left =
-            ap (λ (s : State). runs (length feed) A₀ feed (length b₀) s) on
-            ∙ runs-enough (length feed) (length feed - 1) A₀ feed (length b₀) (taken A₀ feed state) (omega arith)
-            (omega (arith, size-pos (getD feed (p .at) 0)))
-            ∙ sym (runs-on (length feed - 1) A₀ feed (length b₀) state (halted-at ∙ e))
-            ∙ ap (λ (n : ℕ). runs n A₀ feed (length b₀) state) m
+            ap (λ (s : State). runs F (length feed) A₀ feed (length b₀) s) on
+            ∙ runs-enough F (length feed) (length feed - 1) A₀ feed (length b₀) (taken F A₀ feed state) (omega arith)
+            (omega (arith, size-pos F (roleAt F feed (p .at))))
+            ∙ sym (runs-on F (length feed - 1) A₀ feed (length b₀) state (halted-at ∙ e))
+            ∙ ap (λ (n : ℕ). runs F n A₀ feed (length b₀) state) m
             ∙ g .left;
         rest = t .rest ∙ dropped;
         long = lc ∙ g .long;
         wide = lv ∙ g .wide;
         halted = h;
         series = λ us x. g .series us
-            (ahead-more A₀ feed (length b₀) state (halted-at ∙ e) (rw same-room at (t .asked))
-            (subst (λ (s : State). Ahead A₀ feed (length b₀) s vs us) on x));
+            (ahead-more F A₀ feed (length b₀) state (halted-at ∙ e) (rw same-room at (t .asked))
+            (subst (λ (s : State). Ahead F A₀ feed (length b₀) s vs us) on x));
       }
     where
-      on : stateOf q vs c ≡ taken A₀ feed state
-      on = t .state ∙ ap (λ (n : ℕ). taken n feed state) same-room
+      on : stateOf (levels F) q vs c ≡ taken F A₀ feed state
+      on = t .state ∙ ap (λ (n : ℕ). taken F n feed state) same-room
 
       m : suc (length feed - 1) ≡ length feed
-      m = omega (arith, going-clear e .body, size-pos (getD feed (p .at) 0))
+      m = omega (arith, going-clear e .body, size-pos F (roleAt F feed (p .at)))
 
       dropped : drop (q .out) b ≡ drop (q .out) b₀
       dropped =
@@ -220,17 +226,17 @@ module _ (ws₀ feed b₀ ws b : List ℕ) (p : Progress) (stop : ℕ) (g : Goin
 
   -- ---- the end
 
-  ended : stop ≢ 5 → whole ws₀ feed b₀ ≡ record { stop = stop; end = cond (eqb stop 0) (finish state) state }
+  ended : stop ≢ 5 → whole F ws₀ feed b₀ ≡ record { stop = stop; end = cond (eqb stop 0) (finish state) state }
   ended n =
       sym (g .left)
-      ∙ runs-enough (length feed) (suc (length feed)) A₀ feed (length b₀) state (omega arith) (omega arith)
-      ∙ runs-stop (length feed) A₀ feed (length b₀) state stop halted-at n
+      ∙ runs-enough F (length feed) (suc (length feed)) A₀ feed (length b₀) state (omega arith) (omega arith)
+      ∙ runs-stop F (length feed) A₀ feed (length b₀) state stop halted-at n
 
   kept : b ≡ take (p .out) b ++ drop (length (take (p .out) b)) b₀
   kept = rw (out-length p feed b (g .placed), ← (g .rest)) (sym (take-append-drop (p .out) b))
 
   report : (z : Bool)
-      → Ended (record { stop = stop; end = cond z (finish state) state }) A₀ b₀ ws b (told p stop (p .at + one z) (p .out))
+      → Ended F (record { stop = stop; end = cond z (finish state) state }) A₀ b₀ ws b (told p stop (p .at + one z) (p .out))
   report true = record {
     report = λ i. told p stop (p .at + 1) (sym (out-length p feed b (g .placed)) i);
     list = g .list;
@@ -243,12 +249,12 @@ module _ (ws₀ feed b₀ ws b : List ℕ) (p : Progress) (stop : ℕ) (g : Goin
   }
 
   -- no record is left
-  all-asked : stop ≢ 5 → Ahead A₀ feed (length b₀) (fresh (listIn (seen 4 ws₀))) ws₀ ws
-  all-asked n = g .series ws (rw (records-stop A₀ feed (length b₀) state (length feed) (λ e. n (sym halted-at ∙ e))) nothing)
+  all-asked : stop ≢ 5 → Ahead F A₀ feed (length b₀) (fresh (listIn (seen (levels F) ws₀))) ws₀ ws
+  all-asked n = g .series ws (rw (records-stop F A₀ feed (length b₀) state (length feed) (λ e. n (sym halted-at ∙ e))) nothing)
 
-  runs-as : (s : Seen) → seen 4 ws₀ ≡ s → IsTable s → (r : Report)
-      → Ended (run (roomIn s) (listIn s) feed (length b₀)) (roomIn s) b₀ ws b r
-      → Ahead (roomIn s) feed (length b₀) (fresh (listIn s)) ws₀ ws → HasRun ws₀ feed b₀ ws b (Stopped r)
+  runs-as : (s : Seen) → seen (levels F) ws₀ ≡ s → IsTable s → (r : Report)
+      → Ended F (run F (roomIn s) (listIn s) feed (length b₀)) (roomIn s) b₀ ws b r
+      → Ahead F (roomIn s) feed (length b₀) (fresh (listIn s)) ws₀ ws → HasRun F ws₀ feed b₀ ws b (Stopped r)
   runs-as misfit e t r x a = absurd t
   runs-as foreign e t r x a = absurd t
   runs-as (table A cs) e t r x a =
@@ -260,21 +266,24 @@ module _ (ws₀ feed b₀ ws b : List ℕ) (p : Progress) (stop : ℕ) (g : Goin
         series = rw e a;
       }
 
-  pub stopped : IsTable (seen 4 ws₀) → (n : ℕ) → stop ≢ 5 → n ≡ one (eqb stop 0)
-      → HasRun ws₀ feed b₀ ws b (Stopped (told p stop (p .at + n) (p .out)))
-  stopped t n h e = runs-as (seen 4 ws₀) refl t _ (rw (e, ended h) (report (eqb stop 0))) (all-asked h)
+  pub stopped : IsTable (seen (levels F) ws₀) → (n : ℕ) → stop ≢ 5 → n ≡ one (eqb stop 0)
+      → HasRun F ws₀ feed b₀ ws b (Stopped (told p stop (p .at + n) (p .out)))
+  stopped t n h e = runs-as (seen (levels F) ws₀) refl t _ (rw (e, ended h) (report (eqb stop 0))) (all-asked h)
 
 -- ---- the test at the start
 
-module _ (ws : List ℕ) (n : ℕ) (first : n ≡ refusalOf ws 0) where
-  pub run-refused : (feed b : List ℕ) → n ≢ 0 → HasRun ws feed b ws b (Refused n)
-  run-refused feed b z =
-      seen-cases 4 ws (omega arith) (omega arith)
-      (λ m e. (let q : n ≡ 1 = first ∙ sym (refusal-size ws 0 m) in
-      record { answer = rw (e, q); list = rw e; replies = rw e; kept = λ _ _. refl; series = rw e nothing }))
-      (λ m t e. (let q : n ≡ 2 = first ∙ sym (refusal-foreign ws 0 m refl t) in
-      record { answer = rw (e, q); list = rw e; replies = rw e; kept = λ _ _. refl; series = rw e nothing }))
-      (λ m t _ _. absurd (z (first ∙ sym (refusal-none ws 0 m refl t))))
+module _ (F : Family) (ws : List ℕ) (n : ℕ) (first : n ≡ refusalOf (levels F) ws 0) where
+  abbrev few : levels F < levelBound
+  few = omega (arith, levels-few F)
 
-  pub run-started : n ≡ 0 → IsTable (seen 4 ws)
-  run-started z = rw (seen-table 4 ws (passed ws 0 (sym first ∙ z) .0)) tt
+  pub run-refused : (feed b : List ℕ) → n ≢ 0 → HasRun F ws feed b ws b (Refused n)
+  run-refused feed b z =
+      seen-cases (levels F) ws (levels-some F) few
+      (λ m e. (let q : n ≡ 1 = first ∙ sym (refusal-size (levels F) ws 0 m) in
+      record { answer = rw (e, q); list = rw e; replies = rw e; kept = λ _ _. refl; series = rw e nothing }))
+      (λ m t e. (let q : n ≡ 2 = first ∙ sym (refusal-foreign (levels F) ws 0 m refl t) in
+      record { answer = rw (e, q); list = rw e; replies = rw e; kept = λ _ _. refl; series = rw e nothing }))
+      (λ m t _ _. absurd (z (first ∙ sym (refusal-none (levels F) ws 0 m refl t))))
+
+  pub run-started : n ≡ 0 → IsTable (seen (levels F) ws)
+  run-started z = rw (seen-table (levels F) ws (passed (levels F) ws (levels-some F) few 0 (sym first ∙ z) .0)) tt

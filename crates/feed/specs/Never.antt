@@ -13,6 +13,7 @@ use lib.ListN.{length, getD, take, drop}
 use lib.Seq.{take-at}
 use Rattle.logic.specs.Cases.{bool}
 use Rattle.numbers.specs.Joined.{joined-append}
+use Rattle.routes.specs.Family.{Family, levels, width}
 use Rattle.routes.specs.Route.{tooLong, stray, badHop}
 use Rattle.routes.specs.Match.{Match, longest}
 use Rattle.routes.specs.Match as match
@@ -99,35 +100,36 @@ more bs y o p =
       others = others-append (p .replies) (y ∷ []) (p .others) (o, tt);
     }
 
-runs-replied : (n A : ℕ) (feed : List ℕ) (room : ℕ) (s : State) → Replied (s .replies)
-    → Replied (runs n A feed room s .end .replies)
+runs-replied : (F : Family) (n A : ℕ) (feed : List ℕ) (room : ℕ) (s : State) → Replied (s .replies)
+    → Replied (runs F n A feed room s .end .replies)
 unfolding runs
-runs-replied zero A feed room s p = p
-runs-replied (suc n) A feed room s p =
+runs-replied F zero A feed room s p = p
+runs-replied F (suc n) A feed room s p =
     bool (eqb h 5)
-    (λ e. rw e (runs-replied n A feed room (taken A feed s) (more (s .replies) y (reply-other 32 A (s .list) x) p)))
+    (λ e. rw e (runs-replied F n A feed room (taken F A feed s) (more (s .replies) y (reply-other (width F) A (s .list) x) p)))
     (λ e. rw e (bool (eqb h 0) (λ z. rw z p) (λ z. rw z p)))
   where
     h : ℕ
-    h = halts feed room (s .consumed) (length (s .replies))
+    h = halts F feed room (s .consumed) (length (s .replies))
 
     x : Record
-    x = ahead feed s
+    x = ahead F feed s
 
     y : Reply
-    y = reply 32 A (s .list) x
+    y = reply (width F) A (s .list) x
 
-pub run-replied : (A : ℕ) (cs : List Candidate) (feed : List ℕ) (room : ℕ) → Replied (run A cs feed room .end .replies)
-run-replied A cs feed room =
-    runs-replied (length feed) A feed room (fresh cs) (record { replies = []; bytes = refl; others = tt })
+pub run-replied : (F : Family) (A : ℕ) (cs : List Candidate) (feed : List ℕ) (room : ℕ)
+    → Replied (run F A cs feed room .end .replies)
+run-replied F A cs feed room =
+    runs-replied F (length feed) A feed room (fresh cs) (record { replies = []; bytes = refl; others = tt })
 
 -- ---- bytes read back as replies
 
 -- the bytes of the reply that stands first
-abbrev width : List ℕ → ℕ
-width bs = replySize (getD bs 0 0)
+abbrev span : List ℕ → ℕ
+span bs = replySize (getD bs 0 0)
 
-rest : (y : Reply) (bs : List ℕ) → drop (width (replyBytes y ++ bs)) (replyBytes y ++ bs) ≡ bs
+rest : (y : Reply) (bs : List ℕ) → drop (span (replyBytes y ++ bs)) (replyBytes y ++ bs) ≡ bs
 rest (done h c) bs = refl
 rest (found h l q) bs = refl
 rest (none q) bs = refl
@@ -162,7 +164,7 @@ others-read (y ∷ ys) [] o e = absurd (some y (repliesBytes ys) e)
 others-read (y ∷ ys) (z ∷ zs) o e = (
   begun z (repliesBytes zs) (rw e at (begins y (repliesBytes ys) (o .0))),
   others-read ys zs (o .1)
-      (sym (rest y (repliesBytes ys)) ∙ ap (λ (bs : List ℕ). drop (width bs) bs) e ∙ rest z (repliesBytes zs)),
+      (sym (rest y (repliesBytes ys)) ∙ ap (λ (bs : List ℕ). drop (span bs) bs) e ∙ rest z (repliesBytes zs)),
 )
 
 others-at : (xs : List Reply) (y : Reply) (ys : List Reply) → Others (xs ++ (y ∷ ys)) → Other y
@@ -176,21 +178,21 @@ no-second bs p xs ys e =
 
 -- ---- the bytes that a run writes
 
-written : (s : Seen) (feed b : List ℕ) (r : Ran) → runAnswer r ≡ reported (runOn s feed b)
-    → Replied (take (writtenBy r) (repliedOn s feed b))
-written s feed b (Refused n) e = record { replies = []; bytes = refl; others = tt }
-written misfit feed b (Stopped r) e = let z : _≡_ {A = ℕ} 0 1 = cc in absurd (omega arith)
-written foreign feed b (Stopped r) e = let z : _≡_ {A = ℕ} 0 1 = cc in absurd (omega arith)
-written (table A cs) feed b (Stopped r) e =
-    let xs = run A cs feed (length b) .end .replies in
+written : (F : Family) (s : Seen) (feed b : List ℕ) (r : Ran) → runAnswer r ≡ reported (runOn F s feed b)
+    → Replied (take (writtenBy r) (repliedOn F s feed b))
+written F s feed b (Refused n) e = record { replies = []; bytes = refl; others = tt }
+written F misfit feed b (Stopped r) e = let z : _≡_ {A = ℕ} 0 1 = cc in absurd (omega arith)
+written F foreign feed b (Stopped r) e = let z : _≡_ {A = ℕ} 0 1 = cc in absurd (omega arith)
+written F (table A cs) feed b (Stopped r) e =
+    let xs = run F A cs feed (length b) .end .replies in
     let n : r .written ≡ length xs = cc in
-    rw (n, take-at xs (drop (length xs) b) (length xs) refl) (run-replied A cs feed (length b))
+    rw (n, take-at xs (drop (length xs) b) (length xs) refl) (run-replied F A cs feed (length b))
 
 -- they are replies, each a list's answer
-pub replied : (ws feed b vs c : List ℕ) (r : Ran) → HasRun ws feed b vs c r → Replied (take (writtenBy r) c)
-replied ws feed b vs c r p = rw (p .replies) (written (seen 4 ws) feed b r (p .answer))
+pub replied : (F : Family) (ws feed b vs c : List ℕ) (r : Ran) → HasRun F ws feed b vs c r → Replied (take (writtenBy r) c)
+replied F ws feed b vs c r p = rw (p .replies) (written F (seen (levels F) ws) feed b r (p .answer))
 
 -- and in whatever way they are read, "refused 2" is none of them
-pub never : (ws feed b vs c : List ℕ) (r : Ran) → HasRun ws feed b vs c r → (xs ys : List Reply)
+pub never : (F : Family) (ws feed b vs c : List ℕ) (r : Ran) → HasRun F ws feed b vs c r → (xs ys : List Reply)
     → take (writtenBy r) c ≢ repliesBytes (xs ++ (refused 2 ∷ ys))
-never ws feed b vs c r p = no-second (take (writtenBy r) c) (replied ws feed b vs c r p)
+never F ws feed b vs c r p = no-second (take (writtenBy r) c) (replied F ws feed b vs c r p)

@@ -4,6 +4,7 @@ use mathlib.Core.Path.{_≡_}
 use mathlib.Core.List.{List}
 use Prim.Native.Nat.{ℕ}
 use lib.ListN.{length}
+use Rattle.routes.specs.Family.{Family, levels}
 use Rattle.routes.specs.Seen.{Answer, gives, refuses}
 use Rattle.candidates.specs.Runs.{Ran as Outcome}
 use Rattle.candidates.specs.Seen.{runOn, ranOn, repliedOn, recordsOn, answersOn}
@@ -33,11 +34,11 @@ abbrev pub reported : Answer Outcome → Answer Report
 reported (gives o) = gives (reportOf o)
 reported (refuses n) = refuses n
 
--- a run of feed on the words ws and the reply bytes b left vs and c, and answered r
-pub record HasRun (ws feed b vs c : List ℕ) (r : Ran) : Type 0 where
-  pub answer : runAnswer r ≡ reported (runOn (seen 4 ws) feed b)
-  pub list : seen 4 vs ≡ ranOn (seen 4 ws) feed b
-  pub replies : c ≡ repliedOn (seen 4 ws) feed b
+-- a run of a family's feed on the words ws and the reply bytes b left vs and c, and answered r
+pub record HasRun (F : Family) (ws feed b vs c : List ℕ) (r : Ran) : Type 0 where
+  pub answer : runAnswer r ≡ reported (runOn F (seen (levels F) ws) feed b)
+  pub list : seen (levels F) vs ≡ ranOn F (seen (levels F) ws) feed b
+  pub replies : c ≡ repliedOn F (seen (levels F) ws) feed b
   pub kept : (n : ℕ) → r ≡ Refused n → vs ≡ ws
   -- a call for each record taken: a lookup, and a record that is refused, leave every word
-  pub series : Series ws (recordsOn (seen 4 ws) feed b) (answersOn (seen 4 ws) feed b) vs
+  pub series : Series (levels F) ws (recordsOn F (seen (levels F) ws) feed b) (answersOn F (seen (levels F) ws) feed b) vs

@@ -6,7 +6,7 @@
 --     answers     y₁    y₂    y₃
 use mathlib.Core.Path.{_≡_, refl, ap₂}
 use mathlib.Core.List.{List, [], _∷_}
-use Prim.Native.Nat.{ℕ}
+use Prim.Native.Nat.{ℕ, _*_}
 use Rattle.routes.specs.Answers.{Reply}
 use Rattle.candidates.specs.Candidate.{Candidate}
 use Rattle.candidates.specs.Answers.{Update, Record, update, lookup, reply, next, replies, leaves}
@@ -17,36 +17,36 @@ use Rattle.replies.specs.declared.Reply as code
 use Rattle.update.specs.Update.{HasUpdated}
 use Rattle.lookup.specs.Walk.{walk}
 
--- the call of a record on the words ws was answered y and left vs, as its contract allows
-pub data Asked (ws : List ℕ) : Record → Reply → List ℕ → Type 0 where
-  updated : {u : Update} {vs : List ℕ} (r : code.Reply) → HasUpdated 4 ws vs u r → Asked ws (update u) (saidReply r) vs
-  looked : {a : ℕ} (r : code.Reply) → saidReply r ≡ lookupOn 32 (seen 4 ws) (walk 4 ws a) a
-      → Asked ws (lookup a) (saidReply r) ws
+-- the call of a record on the words ws, seen as a table of L levels, was answered y and left vs, as its contract allows
+pub data Asked (L : ℕ) (ws : List ℕ) : Record → Reply → List ℕ → Type 0 where
+  updated : {u : Update} {vs : List ℕ} (r : code.Reply) → HasUpdated L ws vs u r → Asked L ws (update u) (saidReply r) vs
+  looked : {a : ℕ} (r : code.Reply) → saidReply r ≡ lookupOn (8 * L) (seen L ws) (walk L ws a) a
+      → Asked L ws (lookup a) (saidReply r) ws
 
 -- and so were several, in order
-pub data Series : List ℕ → List Record → List Reply → List ℕ → Type 0 where
-  nothing : {ws : List ℕ} → Series ws [] [] ws
+pub data Series (L : ℕ) : List ℕ → List Record → List Reply → List ℕ → Type 0 where
+  nothing : {ws : List ℕ} → Series L ws [] [] ws
   more : {ws vs us : List ℕ} {x : Record} {xs : List Record} {y : Reply} {ys : List Reply}
-      → Asked ws x y vs → Series vs xs ys us → Series ws (x ∷ xs) (y ∷ ys) us
+      → Asked L ws x y vs → Series L vs xs ys us → Series L ws (x ∷ xs) (y ∷ ys) us
 
-module _ (A : ℕ) where
+module _ (L A : ℕ) where
   pub record Answered (cs : List Candidate) (x : Record) (y : Reply) (vs : List ℕ) : Type 0 where
-    pub answer : y ≡ reply 32 A cs x
-    pub list : seen 4 vs ≡ table A (next 32 A cs x)
+    pub answer : y ≡ reply (8 * L) A cs x
+    pub list : seen L vs ≡ table A (next (8 * L) A cs x)
 
-  pub answered : (cs : List Candidate) {ws vs : List ℕ} {x : Record} {y : Reply} → seen 4 ws ≡ table A cs → Asked ws x y vs
+  pub answered : (cs : List Candidate) {ws vs : List ℕ} {x : Record} {y : Reply} → seen L ws ≡ table A cs → Asked L ws x y vs
       → Answered cs x y vs
   answered cs t (updated r p) = record { answer = rw t at (p .answer); list = rw t at (p .list) }
   answered cs t (looked r p) = record { answer = rw t at p; list = t }
 
   pub record AllAnswered (cs : List Candidate) (xs : List Record) (ys : List Reply) (vs : List ℕ) : Type 0 where
-    pub answers : ys ≡ replies 32 A cs xs
-    pub list : seen 4 vs ≡ table A (leaves 32 A cs xs)
+    pub answers : ys ≡ replies (8 * L) A cs xs
+    pub list : seen L vs ≡ table A (leaves (8 * L) A cs xs)
 
-  pub all-answered : (cs : List Candidate) {ws vs : List ℕ} {xs : List Record} {ys : List Reply} → seen 4 ws ≡ table A cs
-      → Series ws xs ys vs → AllAnswered cs xs ys vs
+  pub all-answered : (cs : List Candidate) {ws vs : List ℕ} {xs : List Record} {ys : List Reply} → seen L ws ≡ table A cs
+      → Series L ws xs ys vs → AllAnswered cs xs ys vs
   all-answered cs t nothing = record { answers = refl; list = t }
   all-answered cs t (more {x = x} a s) =
       let h = answered cs t a in
-      let n = all-answered (next 32 A cs x) (h .list) s in
+      let n = all-answered (next (8 * L) A cs x) (h .list) s in
       record { answers = ap₂ _∷_ (h .answer) (n .answers); list = n .list }

@@ -1,15 +1,18 @@
 -- What the functions behind the run promise: the answer to one record, its reply, and how far the run has come then. Assumes
 -- nothing.
 use mathlib.Core.Path.{_≡_}
-use mathlib.Core.Bool.{Bool, cond}
+use mathlib.Core.Logic.{_≢_}
+use mathlib.Core.Bool.{Bool, false, cond}
 use mathlib.Core.List.{List, []}
 use Prim.Native.Nat.{ℕ, _+_, _≤_, _<_}
 use lib.ListN.{length, getD, take, drop}
-use Rattle.numbers.specs.Digits.{twoAt, fourAt}
+use Rattle.numbers.specs.Digits.{twoAt}
+use Rattle.numbers.specs.Number.{numberAt}
+use Rattle.routes.specs.Family.{Family, levels, width, Role, ending, isUnknown}
 use Rattle.candidates.specs.Candidate.{Candidate}
 use Rattle.candidates.specs.Answers.{Record, update, announce, withdraw, lookup, reply}
 use Rattle.candidates.specs.Bytes.{means}
-use Rattle.candidates.specs.Runs.{State, size, sentAt, taken}
+use Rattle.candidates.specs.Runs.{State, size, sentAt, roleAt, taken}
 use Rattle.candidates.specs.Seen.{Seen, misfit, foreign, table}
 use Rattle.encoded.specs.Turns.{Clear}
 use Rattle.words.specs.Table.{seen}
@@ -35,26 +38,35 @@ listIn (table A cs) = cs
 
 -- ---- a record
 
--- those that begin at i: an announcement from feed f with preference p, a withdrawal from feed f, a lookup
-abbrev pub announceAt : List ℕ → ℕ → ℕ → ℕ → Record
-announceAt feed i f p = update (announce (fourAt feed (i + 1)) (getD feed (i + 5) 0) (twoAt feed (i + 6)) f p)
+-- those that begin at i, with an address of L bytes: an announcement from feed f with preference p, a withdrawal from feed f, a
+-- lookup
+abbrev pub announceAt : ℕ → List ℕ → ℕ → ℕ → ℕ → Record
+announceAt L feed i f p =
+    update (announce (numberAt L feed (i + 1)) (getD feed (i + 1 + L) 0) (twoAt feed (i + 1 + L + 1)) f p)
 
-abbrev pub withdrawAt : List ℕ → ℕ → ℕ → Record
-withdrawAt feed i f = update (withdraw (fourAt feed (i + 1)) (getD feed (i + 5) 0) f)
+abbrev pub withdrawAt : ℕ → List ℕ → ℕ → ℕ → Record
+withdrawAt L feed i f = update (withdraw (numberAt L feed (i + 1)) (getD feed (i + 1 + L) 0) f)
 
-abbrev pub lookupAt : List ℕ → ℕ → Record
-lookupAt feed i = lookup (fourAt feed (i + 1))
+abbrev pub lookupAt : ℕ → List ℕ → ℕ → Record
+lookupAt L feed i = lookup (numberAt L feed (i + 1))
 
--- the record that begins at i
-abbrev pub here : List ℕ → ℕ → Record
-here feed i = means (sentAt feed i (getD feed i 0))
+-- what is asked for before one is answered: n bytes besides the address
+pub record Whole (L : ℕ) (ws feed : List ℕ) (i n : ℕ) : Type 0 where
+  pub some : 1 ≤ L
+  pub few : L ≤ 16
+  pub isTable : IsTable (seen L ws)
+  pub body : i + L + n ≤ length feed
 
--- what is asked for before the record at i is answered: a whole record that is no end
-pub record Asks (ws feed : List ℕ) (i : ℕ) : Type 0 where
-  pub isTable : IsTable (seen 4 ws)
-  pub kind : getD feed i 0 ≤ 5
-  pub more : 1 ≤ getD feed i 0
-  pub body : i + size (getD feed i 0) ≤ length feed
+-- the record of a role that begins at i
+abbrev pub here : Family → List ℕ → ℕ → Role → Record
+here F feed i r = means (sentAt F feed i r)
+
+-- what is asked for before it is answered: a whole record that is no end
+pub record Asks (F : Family) (r : Role) (ws feed : List ℕ) (i : ℕ) : Type 0 where
+  pub isTable : IsTable (seen (levels F) ws)
+  pub known : isUnknown r ≡ false
+  pub more : r ≢ ending
+  pub body : i + size F r ≤ length feed
 
 -- ---- a count
 
@@ -64,10 +76,10 @@ one b = cond b 1 0
 -- ---- how far a run has come
 
 -- the run's state, as its counters, the words and the reply bytes stand for it
-abbrev pub stateOf : Progress → List ℕ → List ℕ → State
-stateOf p ws b =
+abbrev pub stateOf : ℕ → Progress → List ℕ → List ℕ → State
+stateOf L p ws b =
     record {
-      list = listIn (seen 4 ws);
+      list = listIn (seen L ws);
       consumed = p .at;
       replies = take (p .out) b;
       accepted = p .accepted;
@@ -81,16 +93,21 @@ pub record Placed (p : Progress) (feed b : List ℕ) : Type 0 where
   pub refused : p .refused ≤ p .at
 
 -- no test stops the run before the next record
-pub record Takes (p : Progress) (ws feed b : List ℕ) : Type 0 where
-  pub isTable : IsTable (seen 4 ws)
+pub record Takes (F : Family) (p : Progress) (ws feed b : List ℕ) : Type 0 where
+  pub isTable : IsTable (seen (levels F) ws)
   pub placed : Placed p feed b
-  pub clear : Clear feed (length b) (p .at) (p .out)
+  pub clear : Clear F feed (length b) (p .at) (p .out)
+
+-- the record that is next, where a run has come to p
+abbrev pub nextAt : Family → Progress → List ℕ → Record
+nextAt F p feed = here F feed (p .at) (roleAt F feed (p .at))
 
 -- the record after p was answered: the run has come to q, the words are vs and the reply bytes c
-pub record Took (p : Progress) (ws feed b : List ℕ) (q : Progress) (vs c : List ℕ) : Type 0 where
-  pub asked : Asked ws (here feed (p .at)) (reply 32 (roomIn (seen 4 ws)) (listIn (seen 4 ws)) (here feed (p .at))) vs
-  pub state : stateOf q vs c ≡ taken (roomIn (seen 4 ws)) feed (stateOf p ws b)
-  pub list : seen 4 vs ≡ table (roomIn (seen 4 ws)) (listIn (seen 4 vs))
+pub record Took (F : Family) (p : Progress) (ws feed b : List ℕ) (q : Progress) (vs c : List ℕ) : Type 0 where
+  pub asked : Asked (levels F) ws (nextAt F p feed)
+      (reply (width F) (roomIn (seen (levels F) ws)) (listIn (seen (levels F) ws)) (nextAt F p feed)) vs
+  pub state : stateOf (levels F) q vs c ≡ taken F (roomIn (seen (levels F) ws)) feed (stateOf (levels F) p ws b)
+  pub list : seen (levels F) vs ≡ table (roomIn (seen (levels F) ws)) (listIn (seen (levels F) vs))
   pub rest : drop (q .out) c ≡ drop (q .out) b
   pub placed : Placed q feed c
   pub on : p .at < q .at

@@ -1,18 +1,22 @@
-// The run of a feed: records in order, one reply for each but end, until a test stops it.
+// The run of a feed of one family: records in order, one reply for each but end, until a test stops it.
+use families::Family;
+use families::Role;
 use replies::Reply;
 ghost use mathlib.Core.Path.{_≡_};
 ghost use Prim.Native.Nat.{_+_, _<_, _≤_};
 ghost use lib.ListN.{length};
 ghost use lib.Dec.{eqb};
 ghost use Rattle.numbers.specs.Wrote.{Wrote};
+ghost use Rattle.routes.specs.Family.{v4, levels};
 ghost use Rattle.routes.specs.Answers.{isDone, isRefused};
 ghost use Rattle.routes.specs.Bytes.{replyBytes};
 ghost use Rattle.candidates.specs.Runs.{size as sizeOf, halts};
 ghost use Rattle.words.specs.Table.{seen};
+ghost use Rattle.families.specs.Said.{saidFamily, saidRole};
 ghost use Rattle.replies.specs.Said.{saidReply};
 ghost use Rattle.feed.specs.Runs.{HasRun};
 ghost use Rattle.feed.specs.Series.{Asked};
-ghost use Rattle.feed.specs.Turns.{one, IsTable, announceAt, withdrawAt, lookupAt, Asks, here, Takes, Took};
+ghost use Rattle.feed.specs.Turns.{one, IsTable, announceAt, withdrawAt, lookupAt, Whole, Asks, here, Takes, Took};
 ghost use Rattle.feed.specs.declared.Ran.the-variants.{Stopped};
 
 // How far a run has come: feed bytes consumed, reply bytes written, accepted updates, refused records.
@@ -37,23 +41,31 @@ pub enum Ran {
     Refused(u32),
 }
 
-// Runs a feed on lent words and writes the replies to the front of lent bytes. Only here the words are checked: each record
-// leaves a table a table.
-pub fn run(words: &mut [u32], feed: &[u8], reply: &mut [u8]) -> Ran
-    ensures { λ r. ⌜ HasRun (now (words .entry)) (now (feed .entry)) (now (reply .entry))
+// Runs a family's feed on lent words and writes the replies to the front of lent bytes. Only here the words are checked: each
+// record leaves a table a table.
+pub fn run_of(words: &mut [u32], family: Family, feed: &[u8], reply: &mut [u8]) -> Ran
+    ensures { λ r. ⌜ HasRun (saidFamily family) (now (words .entry)) (now (feed .entry)) (now (reply .entry))
         (now (words .exit)) (now (reply .exit)) r ⌝ }
 {
-    let n = update::refusal(words, 0);
+    let n = update::refusal(words, families::levels(family) as u32, 0);
     if n != 0 {
         return Ran::Refused(n);
     }
-    Ran::Stopped(run_table(words, feed, reply))
+    Ran::Stopped(run_table(words, family, feed, reply))
+}
+
+// An IPv4 feed.
+pub fn run(words: &mut [u32], feed: &[u8], reply: &mut [u8]) -> Ran
+    ensures { λ r. ⌜ HasRun v4 (now (words .entry)) (now (feed .entry)) (now (reply .entry))
+        (now (words .exit)) (now (reply .exit)) r ⌝ }
+{
+    run_of(words, Family::V4, feed, reply)
 }
 
 // The run on words that are a table.
-fn run_table(words: &mut [u32], feed: &[u8], reply: &mut [u8]) -> Report
-    requires { ⌜ IsTable (seen 4 (now words)) ⌝ }
-    ensures { λ r. ⌜ HasRun (now (words .entry)) (now (feed .entry)) (now (reply .entry))
+fn run_table(words: &mut [u32], family: Family, feed: &[u8], reply: &mut [u8]) -> Report
+    requires { ⌜ IsTable (seen (levels (saidFamily family)) (now words)) ⌝ }
+    ensures { λ r. ⌜ HasRun (saidFamily family) (now (words .entry)) (now (feed .entry)) (now (reply .entry))
         (now (words .exit)) (now (reply .exit)) (Stopped r) ⌝ }
 {
     let room = reply.len();
@@ -63,10 +75,10 @@ fn run_table(words: &mut [u32], feed: &[u8], reply: &mut [u8]) -> Report
         accepted: 0,
         refused: 0,
     };
-    let mut stop = p.halt(feed, room);
+    let mut stop = p.halt(family, feed, room);
     while stop == 5 {
-        p = p.answer_next(words, feed, reply);
-        stop = p.halt(feed, room);
+        p = p.answer_next(words, family, feed, reply);
+        stop = p.halt(family, feed, room);
     }
     Report {
         stop: stop,
@@ -86,9 +98,9 @@ fn last(stop: u32) -> usize
 
 impl Progress {
     // The stop that the tests before a record find, or 5.
-    fn halt(self, feed: &[u8], room: usize) -> u32
+    fn halt(self, family: Family, feed: &[u8], room: usize) -> u32
         requires { ⌜ (self .at ≤ length (now feed)) × (self .out ≤ room) ⌝ }
-        ensures { λ r. ⌜ r ≡ halts (now (feed .entry)) room (self .at) (self .out) ⌝ }
+        ensures { λ r. ⌜ r ≡ halts (saidFamily family) (now (feed .entry)) room (self .at) (self .out) ⌝ }
     {
         let at = self.at;
         let out = self.out;
@@ -96,10 +108,11 @@ impl Progress {
             return 1;
         }
         let kind = feed[at];
-        if kind > 5 {
+        let role = families::role_of(family, kind);
+        if families::is_unknown(role) {
             return 2;
         }
-        let n = size(kind);
+        let n = size(family, role);
         if feed.len() - at < n {
             return 3;
         }
@@ -113,15 +126,22 @@ impl Progress {
     }
 
     // Answers the record that is next, and hands back how far the run has come then.
-    fn answer_next(self, words: &mut [u32], feed: &[u8], reply: &mut [u8]) -> Progress
-        requires { ⌜ Takes self (now words) (now feed) (now reply) ⌝ }
-        ensures { λ r. ⌜ Took self (now (words .entry)) (now (feed .entry)) (now (reply .entry))
+    fn answer_next(
+        self,
+        words: &mut [u32],
+        family: Family,
+        feed: &[u8],
+        reply: &mut [u8],
+    ) -> Progress
+        requires { ⌜ Takes (saidFamily family) self (now words) (now feed) (now reply) ⌝ }
+        ensures { λ r. ⌜ Took (saidFamily family) self (now (words .entry)) (now (feed .entry)) (now (reply .entry))
             r (now (words .exit)) (now (reply .exit)) ⌝ }
     {
         let at = self.at;
         let out = self.out;
-        let n = size(feed[at]);
-        let answer = ask(words, feed, at);
+        let role = families::role_of(family, feed[at]);
+        let n = size(family, role);
+        let answer = ask(words, family, role, feed, at);
         let next = put(reply, out, answer);
         let accepted = self.accepted + accepts(answer);
         let refused = self.refused + refuses(answer);
@@ -134,63 +154,68 @@ impl Progress {
     }
 }
 
-// The bytes of a record of a kind, the kind's own included.
-pub fn size(kind: u8) -> usize
-    ensures { λ r. ⌜ (r ≡ sizeOf kind) × (0 < r) ⌝ }
+// The bytes of a record of a role, the kind's own included.
+pub fn size(family: Family, role: Role) -> usize
+    ensures { λ r. ⌜ (r ≡ sizeOf (saidFamily family) (saidRole role)) × (0 < r) × (r ≤ 22) ⌝ }
 {
-    if kind == 1 {
-        return 8;
+    let levels = families::levels(family);
+    match role {
+        Role::Ending => 1,
+        Role::Announcing => levels + 4,
+        Role::Withdrawing => levels + 2,
+        Role::Looking => levels + 1,
+        Role::AnnouncingFor => levels + 6,
+        Role::WithdrawingFor => levels + 3,
+        Role::Unknown => 1,
     }
-    if kind == 2 {
-        return 6;
-    }
-    if kind == 3 {
-        return 5;
-    }
-    if kind == 4 {
-        return 10;
-    }
-    if kind == 5 {
-        return 7;
-    }
-    1
 }
 
-// Answers the record at `at`. Kinds 1 and 2 are those of feed 1, with preference 0.
-fn ask(words: &mut [u32], feed: &[u8], at: usize) -> Reply
-    requires { ⌜ Asks (now words) (now feed) at ⌝ }
-    ensures { λ r. ⌜ Asked (now (words .entry)) (here (now (feed .entry)) at) (saidReply r) (now (words .exit)) ⌝ }
+// Answers the record at `at`. One that names no feed is of feed 1, with preference 0.
+fn ask(words: &mut [u32], family: Family, role: Role, feed: &[u8], at: usize) -> Reply
+    requires { ⌜ Asks (saidFamily family) (saidRole role) (now words) (now feed) at ⌝ }
+    ensures { λ r. ⌜ Asked (levels (saidFamily family)) (now (words .entry))
+        (here (saidFamily family) (now (feed .entry)) at (saidRole role)) (saidReply r) (now (words .exit)) ⌝ }
 {
-    let kind = feed[at];
-    if kind == 1 {
-        return announce(words, feed, at, 1, 0);
+    let levels = families::levels(family);
+    let end = at + 1 + levels;
+    match role {
+        Role::Announcing => announce(words, levels, feed, at, 1, 0),
+        Role::Withdrawing => withdraw(words, levels, feed, at, 1),
+        Role::AnnouncingFor => {
+            let from = feed[end + 3];
+            let preference = feed[end + 4];
+            announce(words, levels, feed, at, from, preference)
+        }
+        Role::WithdrawingFor => {
+            let from = feed[end + 1];
+            withdraw(words, levels, feed, at, from)
+        }
+        Role::Looking => lookup(words, levels, feed, at),
+        // no record: the run stops before it
+        Role::Ending => Reply::Nothing(0),
+        Role::Unknown => Reply::Nothing(0),
     }
-    if kind == 2 {
-        return withdraw(words, feed, at, 1);
-    }
-    if kind == 3 {
-        return lookup(words, feed, at);
-    }
-    if kind == 4 {
-        let from = feed[at + 8];
-        let preference = feed[at + 9];
-        return announce(words, feed, at, from, preference);
-    }
-    let from = feed[at + 6];
-    withdraw(words, feed, at, from)
 }
 
 // Answers the announcement at `at`, from a feed and with a preference.
-fn announce(words: &mut [u32], feed: &[u8], at: usize, from: u8, preference: u8) -> Reply
-    requires { ⌜ IsTable (seen 4 (now words)) × (at + 8 ≤ length (now feed)) ⌝ }
-    ensures { λ r. ⌜ Asked (now (words .entry)) (announceAt (now (feed .entry)) at from preference)
+fn announce(
+    words: &mut [u32],
+    levels: usize,
+    feed: &[u8],
+    at: usize,
+    from: u8,
+    preference: u8,
+) -> Reply
+    requires { ⌜ Whole levels (now words) (now feed) at 4 ⌝ }
+    ensures { λ r. ⌜ Asked levels (now (words .entry)) (announceAt levels (now (feed .entry)) at from preference)
         (saidReply r) (now (words .exit)) ⌝ }
 {
-    let length = feed[at + 5] as u32;
-    let hop = numbers::two_at(feed, at + 6);
+    let end = at + 1 + levels;
+    let length = feed[end] as u32;
+    let hop = numbers::two_at(feed, end + 1);
     update::announce_on(
         words,
-        &feed[at + 1..at + 5],
+        &feed[at + 1..end],
         length,
         hop,
         from as u32,
@@ -199,20 +224,23 @@ fn announce(words: &mut [u32], feed: &[u8], at: usize, from: u8, preference: u8)
 }
 
 // Answers the withdrawal at `at`, from a feed.
-fn withdraw(words: &mut [u32], feed: &[u8], at: usize, from: u8) -> Reply
-    requires { ⌜ IsTable (seen 4 (now words)) × (at + 6 ≤ length (now feed)) ⌝ }
-    ensures { λ r. ⌜ Asked (now (words .entry)) (withdrawAt (now (feed .entry)) at from) (saidReply r) (now (words .exit)) ⌝ }
+fn withdraw(words: &mut [u32], levels: usize, feed: &[u8], at: usize, from: u8) -> Reply
+    requires { ⌜ Whole levels (now words) (now feed) at 2 ⌝ }
+    ensures { λ r. ⌜ Asked levels (now (words .entry)) (withdrawAt levels (now (feed .entry)) at from)
+        (saidReply r) (now (words .exit)) ⌝ }
 {
-    let length = feed[at + 5] as u32;
-    update::withdraw_on(words, &feed[at + 1..at + 5], length, from as u32)
+    let end = at + 1 + levels;
+    let length = feed[end] as u32;
+    update::withdraw_on(words, &feed[at + 1..end], length, from as u32)
 }
 
 // Answers the lookup at `at`.
-fn lookup(words: &[u32], feed: &[u8], at: usize) -> Reply
-    requires { ⌜ IsTable (seen 4 (now words)) × (at + 5 ≤ length (now feed)) ⌝ }
-    ensures { λ r. ⌜ Asked (now (words .entry)) (lookupAt (now (feed .entry)) at) (saidReply r) (now (words .entry)) ⌝ }
+fn lookup(words: &[u32], levels: usize, feed: &[u8], at: usize) -> Reply
+    requires { ⌜ Whole levels (now words) (now feed) at 1 ⌝ }
+    ensures { λ r. ⌜ Asked levels (now (words .entry)) (lookupAt levels (now (feed .entry)) at)
+        (saidReply r) (now (words .entry)) ⌝ }
 {
-    lookup::lookup_on(words, &feed[at + 1..at + 5])
+    lookup::lookup_on(words, &feed[at + 1..at + 1 + levels])
 }
 
 // 1 for an update that was done.

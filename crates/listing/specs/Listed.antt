@@ -9,24 +9,23 @@ use Prim.Native.Nat.{ℕ, zero, suc, _+_, _-_, _*_, _/_, _%_}
 use lib.ListN.{length, getD}
 use lib.Dec.{ltb, leb, eqb}
 use Rattle.sizes.specs.Sizes.{mostArrays}
-use Rattle.routes.specs.Family.{v4}
+use Rattle.routes.specs.Family.{v4, announcing, announcingFor, kindOf as kindIn}
 use Rattle.routes.specs.Route.{Route, route, tooLong, stray, badHop}
 use Rattle.routes.specs.Room.{need}
 use Rattle.numbers.specs.Digits.{twoAt, fourAt}
 use Rattle.logic.specs.Every.{allB}
 use Rattle.candidates.specs.Candidate.{Candidate, candidate, badFeed, key}
 use Rattle.candidates.specs.Winners.{winners}
-use Rattle.candidates.specs.Bytes.{announceFor}
 
 -- ---- the records
 
 -- the first byte says that they are of kind 4; otherwise they are to be of kind 1
 abbrev pub fours : List ℕ → Bool
-fours bs = eqb (getD bs 0 0) announceFor
+fours bs = eqb (getD bs 0 0) (kindIn v4 announcingFor)
 
 abbrev pub kindOf : Bool → ℕ
-kindOf true = announceFor
-kindOf false = v4 .announce
+kindOf true = kindIn v4 announcingFor
+kindOf false = kindIn v4 announcing
 
 -- the bytes of a record
 abbrev pub sizeOf : Bool → ℕ

@@ -11,10 +11,14 @@ use lib.Seq.{drop-cons}
 use lib.Dec.{ltb, leb, eqb}
 use borrow.Author.Tests.{lt-ltb, le-ltb, le-leb, leb-true, eq-eqb, ne-eqb, eqb-true}
 use Rattle.sizes.specs.Sizes.{mostArrays}
+use Rattle.routes.specs.Family.{v4}
 use Rattle.routes.specs.Route.{Route}
 use Rattle.routes.specs.Route as routes
 use Rattle.routes.specs.Room.{need}
-use Rattle.numbers.specs.Digits.{two, four, twoAt, fourAt}
+use Rattle.numbers.specs.Digits.{two, digits, twoAt, fourAt}
+use Rattle.numbers.specs.Number.{numberAt}
+use Rattle.numbers.specs.Back.{four-digits}
+use Rattle.numbers.specs.Four.{four-at}
 use Rattle.logic.specs.Cases.{bool}
 use Rattle.logic.specs.Bools.{and-to, or-true}
 use Rattle.logic.specs.Every.{allB}
@@ -23,9 +27,10 @@ use Rattle.laws.specs.Encoded.{byte}
 use Rattle.candidates.specs.Keyed.{Every}
 use Rattle.candidates.specs.Candidate.{Candidate, key, IsCandidate, IsList}
 use Rattle.candidates.specs.Winners.{winners}
-use Rattle.candidates.specs.Bytes.{Sent, kind1, kind4, sentBytes, allBytes, announced, written, plainly, writtenPlainly}
+use Rattle.candidates.specs.Bytes.{Sent, announces, announcesFor, sentBytes, allBytes, announced, written, plainly}
+use Rattle.candidates.specs.Bytes.{writtenPlainly}
 use Rattle.rivals.specs.Won.{winners-list}
-use Rattle.encoded.specs.Encoded.{sent-back}
+use Rattle.encoded.specs.Encoded.{sent-back, size-back}
 use Rattle.listing.specs.Listed.{fours, kindOf, sizeOf, begin, recordsIn, candidateOf, candidateAt, candidatesFrom}
 use Rattle.listing.specs.Listed.{candidatesIn, listOf, candidateB, recordB, wholeB, unlisted, listed, listedIn}
 use Rattle.listing.specs.Records.{Bytes, whole-list, two-low, record-is, record-next, records-end}
@@ -36,7 +41,7 @@ pub record Ranked (bs : List ℕ) (rs : List Route) : Type 0 where
   pub candidates : List Candidate
   pub list : IsList 32 candidates
   pub won : rs ≡ winners candidates
-  pub bytes : bs ≡ written candidates
+  pub bytes : bs ≡ written v4 candidates
 
 -- one whole list, written out by a table that has room for it
 pub record WrittenOut (bs : List ℕ) (rs : List Route) : Type 0 where
@@ -48,38 +53,38 @@ pub record WrittenOut (bs : List ℕ) (rs : List Route) : Type 0 where
 
 -- a candidate as a record
 abbrev sent : Bool → Candidate → Sent
-sent true c = kind4 (c .addr) (c .len) (c .hop) (c .feed) (c .pref)
-sent false c = kind1 (c .addr) (c .len) (c .hop)
+sent true c = announcesFor (c .addr) (c .len) (c .hop) (c .feed) (c .pref)
+sent false c = announces (c .addr) (c .len) (c .hop)
 
 abbrev sents : Bool → List Candidate → List Sent
 sents b [] = []
 sents b (c ∷ cs) = sent b c ∷ sents b cs
 
 abbrev writtenAs : Bool → List Candidate → List ℕ
-writtenAs b cs = allBytes (sents b cs) ++ (0 ∷ [])
+writtenAs b cs = allBytes v4 (sents b cs) ++ (0 ∷ [])
 
-as-fours : (cs : List Candidate) → writtenAs true cs ≡ written cs
-as-fours cs = ap (λ (xs : List Sent). allBytes xs ++ (0 ∷ [])) (go cs)
+as-fours : (cs : List Candidate) → writtenAs true cs ≡ written v4 cs
+as-fours cs = ap (λ (xs : List Sent). allBytes v4 xs ++ (0 ∷ [])) (go cs)
   where
     go : (cs : List Candidate) → sents true cs ≡ announced cs
     go [] = refl
     go (c ∷ cs) = ap (_∷_ (sent true c)) (go cs)
 
 as-ones : (cs : List Candidate) → writtenAs false cs ≡ writtenPlainly (routesOf cs)
-as-ones cs = ap (λ (xs : List Sent). allBytes xs ++ (0 ∷ [])) (go cs)
+as-ones cs = ap (λ (xs : List Sent). allBytes v4 xs ++ (0 ∷ [])) (go cs)
   where
     go : (cs : List Candidate) → sents false cs ≡ plainly (routesOf cs)
     go [] = refl
     go (c ∷ cs) = ap (_∷_ (sent false c)) (go cs)
 
-size-sent : (b : Bool) (c : Candidate) → length (sentBytes (sent b c)) ≡ sizeOf b
-size-sent true c = refl
-size-sent false c = refl
+size-sent : (b : Bool) (c : Candidate) → length (sentBytes v4 (sent b c)) ≡ sizeOf b
+size-sent true c = sym (size-back v4 (sent true c))
+size-sent false c = sym (size-back v4 (sent false c))
 
 -- ---- a list written out is read back
 
 abbrev feed : Bool → List ℕ → List Candidate → List ℕ → List ℕ
-feed b pre cs ys = pre ++ (allBytes (sents b cs) ++ ys)
+feed b pre cs ys = pre ++ (allBytes v4 (sents b cs) ++ ys)
 
 -- n candidates read as of a kind
 abbrev readAs : Bool → List ℕ → ℕ → ℕ → List Candidate
@@ -92,62 +97,82 @@ read-as bs zero i = refl
 read-as bs (suc n) i = ap (_∷_ (candidateAt bs i)) (read-as bs n (suc i))
 
 module _ (pre : List ℕ) (c : Candidate) (ys : List ℕ) (x : ℕ) (e : x ≡ length pre) (w : IsCandidate 32 c) where
-  candidate-back : (b : Bool) → OfKind b c → candidateOf b (pre ++ (sentBytes (sent b c) ++ ys)) x ≡ c
-  candidate-back true o =
-      let s = sent-back pre x e (sent true c) ys (
-        w .route .wf .inside,
-        omega (arith, w .route .wf .fits),
-        omega (arith, w .route .low),
-        omega (arith, w .high),
-        w .byte,
-      ) in
-      let F : List ℕ = pre ++ (sentBytes (sent true c) ++ ys) in
-      let p : fourAt F (x + 1) ≡ c .addr = cc in
-      let q : getD F (x + 5) 0 ≡ c .len = cc in
-      let r : twoAt F (x + 6) ≡ c .hop = cc in
-      let t : getD F (x + 8) 0 ≡ c .feed = cc in
-      let u : getD F (x + 9) 0 ≡ c .pref = cc in
-      λ i. record { addr = p i; len = q i; feed = t i; pref = u i; hop = r i }
-  candidate-back false o =
-      let s = sent-back pre x e (sent false c) ys
-      (w .route .wf .inside, omega (arith, w .route .wf .fits), omega (arith, w .route .low)) in
-      let F : List ℕ = pre ++ (sentBytes (sent false c) ++ ys) in
-      let p : fourAt F (x + 1) ≡ c .addr = cc in
-      let q : getD F (x + 5) 0 ≡ c .len = cc in
-      let r : twoAt F (x + 6) ≡ c .hop = cc in
-      λ i. record { addr = p i; len = q i; feed = sym (o .0) i; pref = sym (o .1) i; hop = r i }
+  abbrev G : Bool → List ℕ
+  G b = pre ++ (sentBytes v4 (sent b c) ++ ys)
 
-  kind-back : (b : Bool) → getD (pre ++ (sentBytes (sent b c) ++ ys)) x 0 ≡ kindOf b
-  kind-back true = byte pre (sentBytes (sent true c) ++ ys) x 0 (omega arith)
-  kind-back false = byte pre (sentBytes (sent false c) ++ ys) x 0 (omega arith)
+  address-back : (b : Bool) → numberAt 4 (G b) (x + 1) ≡ c .addr → fourAt (G b) (x + 1) ≡ c .addr
+  address-back b q =
+      let l : length (G b) ≡ length pre + (sizeOf b + length ys) =
+      length-append pre (sentBytes v4 (sent b c) ++ ys)
+      ∙ ap (λ (n : ℕ). length pre + n)
+      (length-append (sentBytes v4 (sent b c)) ys ∙ ap (λ (n : ℕ). n + length ys) (size-sent b c)) in
+      sym (four-at (G b) (x + 1) (omega (arith, size-five b))) ∙ q
+    where
+      size-five : (b : Bool) → 5 ≤ sizeOf b
+      size-five true = omega arith
+      size-five false = omega arith
+
+  candidate-back : (b : Bool) → OfKind b c → candidateOf b (pre ++ (sentBytes v4 (sent b c) ++ ys)) x ≡ c
+  candidate-back true o =
+      let j : x + 1 + 4 ≡ x + 5 = omega arith in
+      let k : x + 5 + 1 ≡ x + 6 = omega arith in
+      let m : x + 5 + 3 ≡ x + 8 = omega arith in
+      let n : x + 5 + 4 ≡ x + 9 = omega arith in
+      let s = rw (j, k, m, n) at (sent-back v4 pre x e (sent true c) ys (record {
+        kind = omega arith;
+        address = w .route .wf .inside;
+        tail = (omega (arith, w .route .wf .fits), omega (arith, w .route .low), omega (arith, w .high), w .byte);
+      })) in
+      let p : numberAt 4 (G true) (x + 1) ≡ c .addr = cc in
+      let q : getD (G true) (x + 5) 0 ≡ c .len = cc in
+      let r : twoAt (G true) (x + 6) ≡ c .hop = cc in
+      let t : getD (G true) (x + 8) 0 ≡ c .feed = cc in
+      let u : getD (G true) (x + 9) 0 ≡ c .pref = cc in
+      λ i. record { addr = address-back true p i; len = q i; feed = t i; pref = u i; hop = r i }
+  candidate-back false o =
+      let j : x + 1 + 4 ≡ x + 5 = omega arith in
+      let k : x + 5 + 1 ≡ x + 6 = omega arith in
+      let s = rw (j, k) at (sent-back v4 pre x e (sent false c) ys (record {
+        kind = omega arith;
+        address = w .route .wf .inside;
+        tail = (omega (arith, w .route .wf .fits), omega (arith, w .route .low));
+      })) in
+      let p : numberAt 4 (G false) (x + 1) ≡ c .addr = cc in
+      let q : getD (G false) (x + 5) 0 ≡ c .len = cc in
+      let r : twoAt (G false) (x + 6) ≡ c .hop = cc in
+      λ i. record { addr = address-back false p i; len = q i; feed = sym (o .0) i; pref = sym (o .1) i; hop = r i }
+
+  kind-back : (b : Bool) → getD (pre ++ (sentBytes v4 (sent b c) ++ ys)) x 0 ≡ kindOf b
+  kind-back true = byte pre (sentBytes v4 (sent true c) ++ ys) x 0 (omega arith)
+  kind-back false = byte pre (sentBytes v4 (sent false c) ++ ys) x 0 (omega arith)
 
 -- the bytes regrouped after a record
 regroup : (b : Bool) (pre : List ℕ) (c : Candidate) (cs : List Candidate) (ys : List ℕ)
-    → feed b pre (c ∷ cs) ys ≡ feed b (pre ++ sentBytes (sent b c)) cs ys
+    → feed b pre (c ∷ cs) ys ≡ feed b (pre ++ sentBytes v4 (sent b c)) cs ys
 regroup b pre c cs ys = simp append-assoc
 
 list-back : (b : Bool) (pre : List ℕ) (cs : List Candidate) (ys : List ℕ) (j : ℕ) → sizeOf b * j ≡ length pre
     → Every (IsCandidate 32) cs → Every (OfKind b) cs → readAs b (feed b pre cs ys) (length cs) j ≡ cs
 list-back b pre [] ys j e p o = refl
 list-back b pre (c ∷ cs) ys j e p o =
-    let a : feed b pre (c ∷ cs) ys ≡ pre ++ (sentBytes (sent b c) ++ (allBytes (sents b cs) ++ ys)) = simp append-assoc in
-    let l : sizeOf b * suc j ≡ length (pre ++ sentBytes (sent b c)) =
-    omega (arith, length-append pre (sentBytes (sent b c)), size-sent b c) in
-    ap₂ _∷_ (rw a (candidate-back pre c (allBytes (sents b cs) ++ ys) (sizeOf b * j) e (p .0) b (o .0)))
-    (rw (regroup b pre c cs ys) (list-back b (pre ++ sentBytes (sent b c)) cs ys (suc j) l (p .1) (o .1)))
+    let a : feed b pre (c ∷ cs) ys ≡ pre ++ (sentBytes v4 (sent b c) ++ (allBytes v4 (sents b cs) ++ ys)) = simp append-assoc in
+    let l : sizeOf b * suc j ≡ length (pre ++ sentBytes v4 (sent b c)) =
+    omega (arith, length-append pre (sentBytes v4 (sent b c)), size-sent b c) in
+    ap₂ _∷_ (rw a (candidate-back pre c (allBytes v4 (sents b cs) ++ ys) (sizeOf b * j) e (p .0) b (o .0)))
+    (rw (regroup b pre c cs ys) (list-back b (pre ++ sentBytes v4 (sent b c)) cs ys (suc j) l (p .1) (o .1)))
 
 kinds-back : (b : Bool) (pre : List ℕ) (cs : List Candidate) (ys : List ℕ) (j i : ℕ) → sizeOf b * j ≡ length pre
     → Every (IsCandidate 32) cs → i < length cs → getD (feed b pre cs ys) (sizeOf b * (j + i)) 0 ≡ kindOf b
 kinds-back b pre [] ys j i e p h = absurd (omega arith)
 kinds-back b pre (c ∷ cs) ys j zero e p h =
-    let a : feed b pre (c ∷ cs) ys ≡ pre ++ (sentBytes (sent b c) ++ (allBytes (sents b cs) ++ ys)) = simp append-assoc in
+    let a : feed b pre (c ∷ cs) ys ≡ pre ++ (sentBytes v4 (sent b c) ++ (allBytes v4 (sents b cs) ++ ys)) = simp append-assoc in
     let q : j + 0 ≡ j = omega arith in
-    rw (a, q) (kind-back pre c (allBytes (sents b cs) ++ ys) (sizeOf b * j) e (p .0) b)
+    rw (a, q) (kind-back pre c (allBytes v4 (sents b cs) ++ ys) (sizeOf b * j) e (p .0) b)
 kinds-back b pre (c ∷ cs) ys j (suc i) e p h =
-    let l : sizeOf b * suc j ≡ length (pre ++ sentBytes (sent b c)) =
-    omega (arith, length-append pre (sentBytes (sent b c)), size-sent b c) in
+    let l : sizeOf b * suc j ≡ length (pre ++ sentBytes v4 (sent b c)) =
+    omega (arith, length-append pre (sentBytes v4 (sent b c)), size-sent b c) in
     let q : j + suc i ≡ suc j + i = omega arith in
-    rw (regroup b pre c cs ys, q) (kinds-back b (pre ++ sentBytes (sent b c)) cs ys (suc j) i l (p .1) (omega arith))
+    rw (regroup b pre c cs ys, q) (kinds-back b (pre ++ sentBytes v4 (sent b c)) cs ys (suc j) i l (p .1) (omega arith))
 
 -- ---- what a list's records pass
 
@@ -180,17 +205,17 @@ record-passes bs n i l h k =
 
 -- ---- so a list written out is listed
 
-long-as : (b : Bool) (cs : List Candidate) → length (allBytes (sents b cs)) ≡ sizeOf b * length cs
+long-as : (b : Bool) (cs : List Candidate) → length (allBytes v4 (sents b cs)) ≡ sizeOf b * length cs
 long-as b [] = omega arith
 long-as b (c ∷ cs) =
-    length-append (sentBytes (sent b c)) (allBytes (sents b cs)) ∙ omega (arith, size-sent b c, long-as b cs)
+    length-append (sentBytes v4 (sent b c)) (allBytes v4 (sents b cs)) ∙ omega (arith, size-sent b c, long-as b cs)
 
 module _ (b : Bool) (cs : List Candidate) (l : IsList 32 cs) (o : Every (OfKind b) cs) (q : fours (writtenAs b cs) ≡ b) where
   abbrev W : List ℕ
   W = writtenAs b cs
 
   long : length W ≡ sizeOf b * length cs + 1
-  long = length-append (allBytes (sents b cs)) (0 ∷ []) ∙ omega (arith, long-as b cs)
+  long = length-append (allBytes v4 (sents b cs)) (0 ∷ []) ∙ omega (arith, long-as b cs)
 
   count : recordsIn W ≡ length cs
   unfolding recordsIn
@@ -211,7 +236,7 @@ module _ (b : Bool) (cs : List Candidate) (l : IsList 32 cs) (o : Every (OfKind 
   back = read-as W (recordsIn W) 0 ∙ rw (q, count) (list-back b [] cs (0 ∷ []) 0 (omega arith) (l .candidates) o)
 
   last-byte : getD W (begin W (recordsIn W)) 0 ≡ 0
-  last-byte = rw (q, count) (byte (allBytes (sents b cs)) (0 ∷ []) (sizeOf b * length cs) 0 (omega (arith, long-as b cs)))
+  last-byte = rw (q, count) (byte (allBytes v4 (sents b cs)) (0 ∷ []) (sizeOf b * length cs) 0 (omega (arith, long-as b cs)))
 
   whole-written : wholeB W ≡ true
   unfolding wholeB
@@ -230,7 +255,7 @@ module _ (b : Bool) (cs : List Candidate) (l : IsList 32 cs) (o : Every (OfKind 
 
 -- candidates written out are listed as their winners. Where there is none, the bytes are those of no route
 pub written-listed : (cs : List Candidate) → IsList 32 cs → need 32 (winners cs) ≤ mostArrays
-    → listedIn (written cs) ≡ listed (winners cs)
+    → listedIn (written v4 cs) ≡ listed (winners cs)
 written-listed [] l h = listed-as false [] l tt refl h
 written-listed (c ∷ cs) l h = ap listedIn (sym (as-fours (c ∷ cs))) ∙ listed-as true (c ∷ cs) l (all (c ∷ cs)) refl h
   where
@@ -289,13 +314,13 @@ module _ (bs : List ℕ) (b : Bytes bs) where
       let q : (getD bs x 0 * 256 + getD bs (x + 1) 0) % 256 ≡ getD bs (x + 1) 0 = omega (arith, b x, b (x + 1)) in
       λ i. p i ∷ q i ∷ []
 
-  quad : (x : ℕ) → four (fourAt bs x) ≡ getD bs x 0 ∷ getD bs (x + 1) 0 ∷ getD bs (x + 2) 0 ∷ getD bs (x + 2 + 1) 0 ∷ []
+  quad : (x : ℕ) → digits 4 (fourAt bs x) ≡ getD bs x 0 ∷ getD bs (x + 1) 0 ∷ getD bs (x + 2) 0 ∷ getD bs (x + 2 + 1) 0 ∷ []
   quad x =
       let p : (twoAt bs x * 65536 + twoAt bs (x + 2)) / 65536 ≡ twoAt bs x =
       high (twoAt bs x) (twoAt bs (x + 2)) (two-low bs b (x + 2)) in
       let q : (twoAt bs x * 65536 + twoAt bs (x + 2)) % 65536 ≡ twoAt bs (x + 2) =
       low (twoAt bs x) (twoAt bs (x + 2)) (two-low bs b (x + 2)) in
-      ap₂ (λ (u v : ℕ). two u ++ two v) p q ∙ ap₂ (λ (u v : List ℕ). u ++ v) (pair x) (pair (x + 2))
+      four-digits (fourAt bs x) ∙ ap₂ (λ (u v : ℕ). two u ++ two v) p q ∙ ap₂ (λ (u v : List ℕ). u ++ v) (pair x) (pair (x + 2))
     where
       high : (u v : ℕ) → v < 65536 → (u * 65536 + v) / 65536 ≡ u
       high u v h = omega arith
@@ -316,7 +341,7 @@ module _ (bs : List ℕ) (b : Bytes bs) where
   one-byte x = omega (arith, b x)
 
   record-bytes : (f : Bool) (x : ℕ) → getD bs x 0 ≡ kindOf f → (ys : List ℕ)
-      → sentBytes (sent f (candidateOf f bs x)) ++ ys ≡ eight x (cond f (getD bs (x + 8) 0 ∷ getD bs (x + 9) 0 ∷ ys) ys)
+      → sentBytes v4 (sent f (candidateOf f bs x)) ++ ys ≡ eight x (cond f (getD bs (x + 8) 0 ∷ getD bs (x + 9) 0 ∷ ys) ys)
   record-bytes true x k ys = λ j.
       (sym k j ∷ (quad (x + 1) j ++ ((one-byte (x + 5) j ∷ []) ++ (pair (x + 6) j
       ++ ((one-byte (x + 8) j ∷ []) ++ (one-byte (x + 9) j ∷ [])))))) ++ ys
@@ -337,7 +362,7 @@ module _ (bs : List ℕ) (b : Bytes bs) where
 
   -- the bytes from a record on, after its own
   after-record : (f : Bool) (x : ℕ) → x + sizeOf f ≤ length bs → getD bs x 0 ≡ kindOf f
-      → drop x bs ≡ sentBytes (sent f (candidateOf f bs x)) ++ drop (x + sizeOf f) bs
+      → drop x bs ≡ sentBytes v4 (sent f (candidateOf f bs x)) ++ drop (x + sizeOf f) bs
   after-record true x h k =
       cut-eight x (omega arith)
       ∙ ap (eight x)
@@ -348,7 +373,7 @@ module _ (bs : List ℕ) (b : Bytes bs) where
 
   rest : (f : Bool) (n i : ℕ) → sizeOf f * (i + n) + 1 ≡ length bs
       → ((j : ℕ) → i ≤ j → j < i + n → getD bs (sizeOf f * j) 0 ≡ kindOf f) → getD bs (sizeOf f * (i + n)) 0 ≡ 0
-      → drop (sizeOf f * i) bs ≡ allBytes (sents f (readAs f bs n i)) ++ (0 ∷ [])
+      → drop (sizeOf f * i) bs ≡ allBytes v4 (sents f (readAs f bs n i)) ++ (0 ∷ [])
   rest f zero i e k z =
       let q : i + 0 ≡ i = omega arith in
       let d : sizeOf f * i + 1 ≡ length bs = rw q at e in
@@ -366,9 +391,9 @@ module _ (bs : List ℕ) (b : Bytes bs) where
       let t : sizeOf f * (suc i + n) + 1 ≡ length bs = rw q at e in
       let c = candidateOf f bs (sizeOf f * i) in
       (rw s at (after-record f (sizeOf f * i) (omega arith) (k i (omega arith) (omega arith))))
-      ∙ ap (λ (u : List ℕ). sentBytes (sent f c) ++ u)
+      ∙ ap (λ (u : List ℕ). sentBytes v4 (sent f c) ++ u)
       (rest f n (suc i) t (λ j u v. k j (omega arith) (omega arith)) (rw q at z))
-      ∙ sym (append-assoc (sentBytes (sent f c)) (allBytes (sents f (readAs f bs n (suc i)))) (0 ∷ []))
+      ∙ sym (append-assoc (sentBytes v4 (sent f c)) (allBytes v4 (sents f (readAs f bs n (suc i)))) (0 ∷ []))
 
   whole-bytes : wholeB bs ≡ true → bs ≡ writtenAs (fours bs) (candidatesIn bs)
   unfolding wholeB

@@ -130,10 +130,12 @@ pub fn lookup_on(words: &[u32], address: &[u8]) -> Reply
     told(descend(words, address))
 }
 
-// Where the walk of an IPv4 address ends, which lends its four bytes.
-pub fn walk_of(words: &[u32], address: u32) -> End
-    ensures { λ r. ⌜ ended r ≡ lookupOn 32 (seen 4 (now (words .entry))) (walk 4 (now (words .entry)) address) address ⌝ }
-    ensures any_words { λ r. ⌜ ended r ≡ walked 4 (now (words .entry)) address ⌝ }
+// Where the walk of an address ends, in any words.
+pub fn walk_along(words: &[u32], address: &[u8]) -> End
+    requires { ⌜ (1 ≤ size (now address)) × (size (now address) ≤ 16) ⌝ }
+    ensures { λ r. ⌜ ended r ≡ lookedUp (size (now (address .entry))) (now (words .entry)) (number (now (address .entry))) ⌝ }
+    ensures any_words { λ r. ⌜ ended r ≡ walked (size (now (address .entry))) (now (words .entry))
+        (number (now (address .entry))) ⌝ }
 {
     if words::size::misfit(words.len()) {
         return End {
@@ -141,8 +143,16 @@ pub fn walk_of(words: &[u32], address: u32) -> End
             block: MISFIT,
         };
     }
+    descend(words, address)
+}
+
+// The same of an IPv4 address, which lends its four bytes.
+pub fn walk_of(words: &[u32], address: u32) -> End
+    ensures { λ r. ⌜ ended r ≡ lookupOn 32 (seen 4 (now (words .entry))) (walk 4 (now (words .entry)) address) address ⌝ }
+    ensures any_words { λ r. ⌜ ended r ≡ walked 4 (now (words .entry)) address ⌝ }
+{
     let bytes = address::four_of(address);
-    descend(words, &bytes[..])
+    walk_along(words, &bytes[..])
 }
 
 // The longest match of an IPv4 address, and its block.

@@ -2,6 +2,8 @@ pub mod Powers
 pub mod Digits
 pub mod Front
 pub mod Number
+pub mod Back
+pub mod Four
 pub mod Agree
 pub mod AgreeBytes
 pub mod Wrote

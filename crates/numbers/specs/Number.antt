@@ -20,8 +20,12 @@ unfoldable pub number : List ℕ → ℕ
 number [] = 0
 number (b ∷ bs) = b * 2 ^ (8 * length bs) + number bs
 
+-- that of the n bytes from a place on
+abbrev pub numberAt : ℕ → List ℕ → ℕ → ℕ
+numberAt n bs i = number (take n (drop i bs))
+
 -- 256 more
-pow-byte : (n : ℕ) → 256 * 2 ^ (8 * n) ≡ 2 ^ (8 * suc n)
+pub pow-byte : (n : ℕ) → 256 * 2 ^ (8 * n) ≡ 2 ^ (8 * suc n)
 pow-byte n = let e : 8 + 8 * n ≡ 8 * suc n = omega arith in sym (pow-add 2 8 (8 * n)) ∙ ap (λ (k : ℕ). 2 ^ k) e
 
 pub number-lt : (bs : List ℕ) → AreBytes bs → number bs < 2 ^ (8 * length bs)

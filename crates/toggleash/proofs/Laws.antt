@@ -8,6 +8,7 @@ use native.Mathlib.Nat.{zero-mul, one-mul}
 use native.Mathlib.Omega.{arith}
 use lib.Dec.{eqb}
 use lib.ListN.{length, drop}
+use Rattle.routes.specs.Family.{v4}
 use Rattle.routes.specs.Answers.{refused, isRefused}
 use Rattle.routes.specs.Seen.{Answer, gives, refuses}
 use Rattle.candidates.specs.Answers.{Update}
@@ -88,21 +89,21 @@ made ws vs u r x m e =
 
 -- ---- writing out
 
-module _ (ws b c : List ℕ) (n : ℕ) (f : HasFilled (seen 4 ws) b n c) where
-  front : c ≡ frontOn (seen 4 ws) (length b) ++ drop (length (frontOn (seen 4 ws) (length b))) b
-  front = f .list ∙ ap (λ (k : ℕ). frontOn (seen 4 ws) (length b) ++ drop k b) (f .count)
+module _ (ws b c : List ℕ) (n : ℕ) (f : HasFilled v4 (seen 4 ws) b n c) where
+  front : c ≡ frontOn v4 (seen 4 ws) (length b) ++ drop (length (frontOn v4 (seen 4 ws) (length b))) b
+  front = f .list ∙ ap (λ (k : ℕ). frontOn v4 (seen 4 ws) (length b) ++ drop k b) (f .count)
 
   pub written-some : n ≢ 0 → HasWritten ws b c (record { refusal = 0; bytes = n })
-  written-some h = record { answer = go (countOn (seen 4 ws) (length b)) refl; front = front }
+  written-some h = record { answer = go (countOn v4 (seen 4 ws) (length b)) refl; front = front }
     where
-      go : (a : Answer ℕ) → countOn (seen 4 ws) (length b) ≡ a
-          → record { refusal = 0; bytes = n } ≡ wrote (countOn (seen 4 ws) (length b))
-      go (gives m) e = let q : n ≡ m = f .count ∙ front-length (seen 4 ws) (length b) m e in rw (e, q)
-      go (refuses m) e = absurd (h (f .count ∙ ap length (front-none (seen 4 ws) (length b) m e)))
+      go : (a : Answer ℕ) → countOn v4 (seen 4 ws) (length b) ≡ a
+          → record { refusal = 0; bytes = n } ≡ wrote (countOn v4 (seen 4 ws) (length b))
+      go (gives m) e = let q : n ≡ m = f .count ∙ front-length v4 (seen 4 ws) (length b) m e in rw (e, q)
+      go (refuses m) e = absurd (h (f .count ∙ ap length (front-none v4 (seen 4 ws) (length b) m e)))
 
-  pub written-told : (r : Counted) (k : ℕ) (x : Written) → k ≡ length b → countAnswer r ≡ countOn (seen 4 ws) k
+  pub written-told : (r : Counted) (k : ℕ) (x : Written) → k ≡ length b → countAnswer r ≡ countOn v4 (seen 4 ws) k
       → x ≡ wrote (countAnswer r) → HasWritten ws b c x
-  written-told r k x e t w = record { answer = w ∙ ap wrote (t ∙ ap (countOn (seen 4 ws)) e); front = front }
+  written-told r k x e t w = record { answer = w ∙ ap wrote (t ∙ ap (countOn v4 (seen 4 ws)) e); front = front }
 
 -- ---- the run
 
@@ -110,7 +111,7 @@ told-refused : (r : Outcome) (n : ℕ) → runAnswer r ≡ refuses n → r ≡ U
 told-refused (Stopped x) n e = absurd (given-refused e)
 told-refused (Unfit m) n e = ap Unfit (refused-one e)
 
-pub ran-so : (ws feed b vs c : List ℕ) (r : Outcome) (x : Fields) → Run ws feed b vs c r → x ≡ ran (runAnswer r)
+pub ran-so : (ws feed b vs c : List ℕ) (r : Outcome) (x : Fields) → Run v4 ws feed b vs c r → x ≡ ran (runAnswer r)
     → HasRun ws feed b vs c x
 ran-so ws feed b vs c r x p e =
     record {

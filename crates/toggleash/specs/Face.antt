@@ -3,6 +3,7 @@ use mathlib.Core.Path.{_≡_}
 use mathlib.Core.List.{List, _++_}
 use Prim.Native.Nat.{ℕ, _≤_}
 use lib.ListN.{length, drop}
+use Rattle.routes.specs.Family.{v4}
 use Rattle.routes.specs.Answers.{Reply, done, found, none, refused}
 use Rattle.routes.specs.Seen.{Answer, gives, refuses, Counts}
 use Rattle.candidates.specs.Answers.{Update}
@@ -80,13 +81,13 @@ pub record HasUpdated (ws vs : List ℕ) (u : Update) (r : Updated) : Type 0 whe
   pub frame : (c : ℕ) → 1 ≤ c → ¬ Touches 4 u ws vs c → Alike ws vs c
 
 pub record HasWritten (ws b c : List ℕ) (r : Written) : Type 0 where
-  pub answer : r ≡ wrote (countOn (seen 4 ws) (length b))
-  pub front : c ≡ frontOn (seen 4 ws) (length b) ++ drop (length (frontOn (seen 4 ws) (length b))) b
+  pub answer : r ≡ wrote (countOn v4 (seen 4 ws) (length b))
+  pub front : c ≡ frontOn v4 (seen 4 ws) (length b) ++ drop (length (frontOn v4 (seen 4 ws) (length b))) b
 
 pub record HasRun (ws feed b vs c : List ℕ) (r : Fields) : Type 0 where
-  pub answer : r ≡ ran (reported (runOn (seen 4 ws) feed b))
-  pub list : seen 4 vs ≡ ranOn (seen 4 ws) feed b
-  pub replies : c ≡ repliedOn (seen 4 ws) feed b
-  pub kept : (n : ℕ) → runOn (seen 4 ws) feed b ≡ refuses n → vs ≡ ws
+  pub answer : r ≡ ran (reported (runOn v4 (seen 4 ws) feed b))
+  pub list : seen 4 vs ≡ ranOn v4 (seen 4 ws) feed b
+  pub replies : c ≡ repliedOn v4 (seen 4 ws) feed b
+  pub kept : (n : ℕ) → runOn v4 (seen 4 ws) feed b ≡ refuses n → vs ≡ ws
   -- a call for each record taken: a lookup, and a record that is refused, leave every word
-  pub series : Series ws (recordsOn (seen 4 ws) feed b) (answersOn (seen 4 ws) feed b) vs
+  pub series : Series 4 ws (recordsOn v4 (seen 4 ws) feed b) (answersOn v4 (seen 4 ws) feed b) vs

@@ -60,45 +60,47 @@ module _ (L : ℕ) (ws : List ℕ) (u : Update) where
   refuses-foreign : misfits (length ws) ≡ false → faultOf (8 * L) u ≡ 0 → tableB L ws ≡ false → HasUpdated L ws ws u (Refused 2)
   refuses-foreign e f b = refuses L ws u 2 (rw (seen-foreign L ws e b) (faulty-by (8 * L) u (refused 2) ∙ rw f))
 
--- ---- the first of them
+-- ---- the first of them, for tables of L levels
 
-module _ (ws : List ℕ) (f : ℕ) where
-  pub refusal-size : misfits (length ws) ≡ true → 1 ≡ refusalOf ws f
+module _ (L : ℕ) (ws : List ℕ) (f : ℕ) where
+  pub refusal-size : misfits (length ws) ≡ true → 1 ≡ refusalOf L ws f
   refusal-size m = rw m
 
   module _ (m : misfits (length ws) ≡ false) where
-    pub refusal-fault : f ≢ 0 → f ≡ refusalOf ws f
+    pub refusal-fault : f ≢ 0 → f ≡ refusalOf L ws f
     refusal-fault z = rw (m, ne-eqb f 0 z)
 
-    pub refusal-foreign : f ≡ 0 → tableB 4 ws ≡ false → 2 ≡ refusalOf ws f
+    pub refusal-foreign : f ≡ 0 → tableB L ws ≡ false → 2 ≡ refusalOf L ws f
     refusal-foreign z b = rw (m, eq-eqb f 0 z, b)
 
-    pub refusal-none : f ≡ 0 → tableB 4 ws ≡ true → 0 ≡ refusalOf ws f
+    pub refusal-none : f ≡ 0 → tableB L ws ≡ true → 0 ≡ refusalOf L ws f
     refusal-none z b = rw (m, eq-eqb f 0 z, b)
 
-pub refused-by : (ws : List ℕ) (u : Update) (n : ℕ) → n ≡ refusalOf ws (faultOf 32 u) → n ≢ 0 → HasUpdated 4 ws ws u (Refused n)
-refused-by ws u n e z =
-    bool (misfits (length ws))
-    (λ m. rw (e ∙ sym (refusal-size ws (faultOf 32 u) m)) (refuses-size 4 ws u m))
-    (λ m. same (faultOf 32 u) 0
-    (λ f _. bool (tableB 4 ws)
-    (λ b. absurd (z (e ∙ sym (refusal-none ws (faultOf 32 u) m f b))))
-    (λ b. rw (e ∙ sym (refusal-foreign ws (faultOf 32 u) m f b)) (refuses-foreign 4 ws u m f b)))
-    (λ f _. refuses-fault 4 ws u (omega arith) (omega arith) n m (e ∙ sym (refusal-fault ws (faultOf 32 u) m f)) z))
+module _ (L : ℕ) (ws : List ℕ) (some : 1 ≤ L) (levels : L < levelBound) where
+  pub refused-by : (u : Update) (n : ℕ) → n ≡ refusalOf L ws (faultOf (8 * L) u) → n ≢ 0 → HasUpdated L ws ws u (Refused n)
+  refused-by u n e z =
+      let W = 8 * L in
+      bool (misfits (length ws))
+      (λ m. rw (e ∙ sym (refusal-size L ws (faultOf W u) m)) (refuses-size L ws u m))
+      (λ m. same (faultOf W u) 0
+      (λ f _. bool (tableB L ws)
+      (λ b. absurd (z (e ∙ sym (refusal-none L ws (faultOf W u) m f b))))
+      (λ b. rw (e ∙ sym (refusal-foreign L ws (faultOf W u) m f b)) (refuses-foreign L ws u m f b)))
+      (λ f _. refuses-fault L ws u some levels n m (e ∙ sym (refusal-fault L ws (faultOf W u) m f)) z))
 
--- ---- the work
+  -- ---- the work
 
-is-table : (ws : List ℕ) → misfits (length ws) ≡ false → tableB 4 ws ≡ true → Table 4 ws
-is-table ws e b = table-reflects 4 ws (omega arith) (omega arith) (no-misfit-fits (length ws) e) .to b
+  is-table : misfits (length ws) ≡ false → tableB L ws ≡ true → Table L ws
+  is-table e b = table-reflects L ws some levels (no-misfit-fits (length ws) e) .to b
 
--- no number before the work, and what that says
-pub passed : (ws : List ℕ) (f : ℕ) → refusalOf ws f ≡ 0 → Table 4 ws × (f ≡ 0)
-passed ws f e =
-    bool (misfits (length ws))
-    (λ m. absurd (omega (arith, refusal-size ws f m)))
-    (λ m. same f 0
-    (λ z _. bool (tableB 4 ws) (λ b. (is-table ws m b, z)) (λ b. absurd (omega (arith, refusal-foreign ws f m z b))))
-    (λ z _. absurd (omega (arith, refusal-fault ws f m z))))
+  -- no number before the work, and what that says
+  pub passed : (f : ℕ) → refusalOf L ws f ≡ 0 → Table L ws × (f ≡ 0)
+  passed f e =
+      bool (misfits (length ws))
+      (λ m. absurd (omega (arith, refusal-size L ws f m)))
+      (λ m. same f 0
+      (λ z _. bool (tableB L ws) (λ b. (is-table m b, z)) (λ b. absurd (omega (arith, refusal-foreign L ws f m z b))))
+      (λ z _. absurd (omega (arith, refusal-fault L ws f m z))))
 
 pub applied : (L : ℕ) (ws vs : List ℕ) (u : Update) (r : code.Reply) → Table L ws → faultOf (8 * L) u ≡ 0 → HasApplied L ws vs u r
     → HasUpdated L ws vs u r

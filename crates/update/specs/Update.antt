@@ -66,6 +66,6 @@ faultOf W (announce a l h f p) = cond (tooLong W l) 3 (cond (stray W a l) 4 (con
 faultOf W (withdraw a l f) = cond (tooLong W l) 3 (cond (stray W a l) 4 (cond (badFeed f) 10 0))
 
 -- the first number before the work, 0 where there is none: 1 for the size, the update's own fault f, 2 for words that are no
--- table
-abbrev pub refusalOf : List ℕ → ℕ → ℕ
-refusalOf ws f = cond (misfits (length ws)) 1 (cond (eqb f 0) (cond (tableB 4 ws) 0 2) f)
+-- table of L levels
+abbrev pub refusalOf : ℕ → List ℕ → ℕ → ℕ
+refusalOf L ws f = cond (misfits (length ws)) 1 (cond (eqb f 0) (cond (tableB L ws) 0 2) f)

@@ -11,7 +11,7 @@ ghost use Rattle.sizes.specs.Sizes.{levelBound};
 ghost use Rattle.candidates.specs.Answers.{announce as announced, withdraw as withdrawn};
 ghost use Rattle.slots.specs.Word.{IsFeed};
 ghost use Rattle.words.specs.TableBut.{Table};
-ghost use Rattle.address.specs.Address.{IsPrefix};
+ghost use Rattle.address.specs.Address.{IsAddress, IsPrefix};
 ghost use Rattle.numbers.specs.Number.{number};
 ghost use Rattle.update.specs.Fault.{feedFault, SoundRoute};
 ghost use Rattle.update.specs.Seat.{Seat, Seated};
@@ -180,9 +180,10 @@ pub fn withdraw_on(words: &mut [u32], address: &[u8], length: u32, feed: u32) ->
 
 // ---- updates of any words
 
-// The first of 1, an update's own fault (0 for none) and 2 that applies, or 0: then there is no fault and the words are a table.
-pub fn refusal(words: &[u32], fault: u32) -> u32
-    ensures { λ r. ⌜ r ≡ refusalOf (now (words .entry)) fault ⌝ }
+// The first of 1, an update's own fault (0 for none) and 2 that applies, or 0: then there is no fault and the words are a table
+// of so many levels.
+pub fn refusal(words: &[u32], levels: u32, fault: u32) -> u32
+    ensures { λ r. ⌜ r ≡ refusalOf levels (now (words .entry)) fault ⌝ }
 {
     if words::size::misfit(words.len()) {
         return 1;
@@ -190,13 +191,34 @@ pub fn refusal(words: &[u32], fault: u32) -> u32
     if fault != 0 {
         return fault;
     }
-    if !audit::table::is_table(words) {
+    if !audit::table::is_table_of(words, levels) {
         return 2;
     }
     0
 }
 
 // A candidate announced: refused with the first of 1, 3, 4, 5, 10, 2 and 8 that applies, or held afterwards.
+pub fn announce_of(
+    words: &mut [u32],
+    address: &[u8],
+    length: u32,
+    hop: u32,
+    feed: u32,
+    preference: u8,
+) -> Reply
+    requires { ⌜ IsAddress (now address) ⌝ }
+    ensures { λ r. ⌜ HasUpdated (size (now (address .entry))) (now (words .entry)) (now (words .exit))
+        (announced (number (now (address .entry))) length hop feed preference) r ⌝ }
+{
+    let fault = announce_fault(address, length, hop, feed);
+    let n = refusal(words, address.len() as u32, fault);
+    if n != 0 {
+        return Reply::Refused(n);
+    }
+    announce_in(words, address, length, hop, feed, preference)
+}
+
+// The same of an IPv4 address.
 pub fn announce(
     words: &mut [u32],
     address: u32,
@@ -208,21 +230,27 @@ pub fn announce(
     ensures { λ r. ⌜ HasUpdated 4 (now (words .entry)) (now (words .exit)) (announced address length hop feed preference) r ⌝ }
 {
     let bytes = address::four_of(address);
-    let n = refusal(words, announce_fault(&bytes, length, hop, feed));
-    if n != 0 {
-        return Reply::Refused(n);
-    }
-    announce_in(words, &bytes, length, hop, feed, preference)
+    announce_of(words, &bytes, length, hop, feed, preference)
 }
 
 // A candidate withdrawn: refused with the first of 1, 3, 4, 10, 2 and 7 that applies, or held no more.
+pub fn withdraw_of(words: &mut [u32], address: &[u8], length: u32, feed: u32) -> Reply
+    requires { ⌜ IsAddress (now address) ⌝ }
+    ensures { λ r. ⌜ HasUpdated (size (now (address .entry))) (now (words .entry)) (now (words .exit))
+        (withdrawn (number (now (address .entry))) length feed) r ⌝ }
+{
+    let fault = withdraw_fault(address, length, feed);
+    let n = refusal(words, address.len() as u32, fault);
+    if n != 0 {
+        return Reply::Refused(n);
+    }
+    withdraw_in(words, address, length, feed)
+}
+
+// The same of an IPv4 address.
 pub fn withdraw(words: &mut [u32], address: u32, length: u32, feed: u32) -> Reply
     ensures { λ r. ⌜ HasUpdated 4 (now (words .entry)) (now (words .exit)) (withdrawn address length feed) r ⌝ }
 {
     let bytes = address::four_of(address);
-    let n = refusal(words, withdraw_fault(&bytes, length, feed));
-    if n != 0 {
-        return Reply::Refused(n);
-    }
-    withdraw_in(words, &bytes, length, feed)
+    withdraw_of(words, &bytes, length, feed)
 }

@@ -7,10 +7,13 @@ use mathlib.Core.Path.{_≡_, refl}
 use mathlib.Core.Logic.{_≢_}
 use mathlib.Core.Bool.{true, false≢true}
 use mathlib.Core.List.{List, [], _∷_}
-use Prim.Native.Nat.{ℕ}
+use Prim.Native.Nat.{ℕ, _^_, _<_}
 use native.Mathlib.Omega.{arith}
 use lib.Count.{leadingZeros}
 use lib.Dec.{lit<, lit≤}
+use Rattle.numbers.specs.Digits.{digits}
+use Rattle.numbers.specs.Number.{number}
+use Rattle.routes.specs.Family.{v4}
 use Rattle.routes.specs.Room.{needTo}
 use Rattle.routes.specs.Cells.{cells, shown}
 use Rattle.routes.specs.Answers.{done, found, refused}
@@ -18,7 +21,7 @@ use Rattle.routes.specs.Small.{ip}
 use Rattle.candidates.specs.Keyed.{Every}
 use Rattle.candidates.specs.Candidate.{candidate}
 use Rattle.candidates.specs.Answers.{Update, announce, withdraw, sound, target, answer, lookedUp}
-use Rattle.candidates.specs.Bytes.{Sent, kind2, kind4, kind5, AllFit}
+use Rattle.candidates.specs.Bytes.{Sent, withdraws, announcesFor, withdrawsFor, TailFits, Fits, AllFit}
 use Rattle.candidates.specs.Runs.{runs, halts}
 use Rattle.weaves.specs.Feeds.{Weave, nothing, left, right, Apart, said, kept, keptBoth, Meets, Independent}
 use Rattle.weaves.specs.Joined.{demand-3-ipv4}
@@ -124,63 +127,75 @@ looked = refl
 -- an end and a byte past it
 
 abbrev sent-xs : List Sent
-sent-xs = kind4 ten 9 5 1 10 ∷ kind4 ten 9 5 9 0 ∷ kind4 7 40 1 2 0 ∷ kind2 ten 9 ∷ []
+sent-xs = announcesFor ten 9 5 1 10 ∷ announcesFor ten 9 5 9 0 ∷ announcesFor 7 40 1 2 0 ∷ withdraws ten 9 ∷ []
 
 abbrev sent-ys : List Sent
-sent-ys = kind4 ten 9 6 2 5 ∷ kind4 ten 9 6 9 0 ∷ kind4 ten 8 7 4 0 ∷ kind5 ten 9 3 ∷ []
+sent-ys = announcesFor ten 9 6 2 5 ∷ announcesFor ten 9 6 9 0 ∷ announcesFor ten 8 7 4 0 ∷ withdrawsFor ten 9 3 ∷ []
 
 abbrev sent-zs : List Sent
 sent-zs =
-    kind4 ten 9 5 1 10
-    ∷ kind4 ten 9 6 2 5
-    ∷ kind4 ten 9 5 9 0
-    ∷ kind4 7 40 1 2 0
-    ∷ kind4 ten 9 6 9 0
-    ∷ kind4 ten 8 7 4 0
-    ∷ kind5 ten 9 1
-    ∷ kind5 ten 9 3
+    announcesFor ten 9 5 1 10
+    ∷ announcesFor ten 9 6 2 5
+    ∷ announcesFor ten 9 5 9 0
+    ∷ announcesFor 7 40 1 2 0
+    ∷ announcesFor ten 9 6 9 0
+    ∷ announcesFor ten 8 7 4 0
+    ∷ withdrawsFor ten 9 1
+    ∷ withdrawsFor ten 9 3
     ∷ []
 
 -- the numbers of each record fit their bytes: those of each feed, and so those of both
-abbrev fit-xs : AllFit sent-xs
-fit-xs = (
-  (lit< tt, lit< tt, lit< tt, lit< tt, lit< tt),
-  ((lit< tt, lit< tt, lit< tt, lit< tt, lit< tt), ((lit< tt, lit< tt, lit< tt, lit< tt, lit< tt), ((lit< tt, lit< tt), tt))),
-)
+abbrev fit-for : {a l h f p : ℕ} → a < 2 ^ 32 → TailFits (announcesFor a l h f p) → Fits v4 (announcesFor a l h f p)
+fit-for x y = record { kind = lit< tt; address = x; tail = y }
 
-abbrev fit-ys : AllFit sent-ys
-fit-ys = (
-  (lit< tt, lit< tt, lit< tt, lit< tt, lit< tt),
+abbrev fit-gone : {a l f : ℕ} → a < 2 ^ 32 → TailFits (withdrawsFor a l f) → Fits v4 (withdrawsFor a l f)
+fit-gone x y = record { kind = lit< tt; address = x; tail = y }
+
+abbrev fit-xs : AllFit v4 sent-xs
+fit-xs = (
+  fit-for (lit< tt) (lit< tt, lit< tt, lit< tt, lit< tt),
   (
-    (lit< tt, lit< tt, lit< tt, lit< tt, lit< tt),
-    ((lit< tt, lit< tt, lit< tt, lit< tt, lit< tt), ((lit< tt, lit< tt, lit< tt), tt)),
+    fit-for (lit< tt) (lit< tt, lit< tt, lit< tt, lit< tt),
+    (
+      fit-for (lit< tt) (lit< tt, lit< tt, lit< tt, lit< tt),
+      (record { kind = lit< tt; address = lit< tt; tail = lit< tt }, tt),
+    ),
   ),
 )
 
-abbrev fit-ends : AllFit (kind5 ten 9 1 ∷ kind5 ten 9 3 ∷ [])
-fit-ends = ((lit< tt, lit< tt, lit< tt), ((lit< tt, lit< tt, lit< tt), tt))
+abbrev fit-ys : AllFit v4 sent-ys
+fit-ys = (
+  fit-for (lit< tt) (lit< tt, lit< tt, lit< tt, lit< tt),
+  (
+    fit-for (lit< tt) (lit< tt, lit< tt, lit< tt, lit< tt),
+    (fit-for (lit< tt) (lit< tt, lit< tt, lit< tt, lit< tt), (fit-gone (lit< tt) (lit< tt, lit< tt), tt)),
+  ),
+)
 
-abbrev fit-zs : AllFit sent-zs
+abbrev fit-ends : AllFit v4 (withdrawsFor ten 9 1 ∷ withdrawsFor ten 9 3 ∷ [])
+fit-ends = (fit-gone (lit< tt) (lit< tt, lit< tt), (fit-gone (lit< tt) (lit< tt, lit< tt), tt))
+
+abbrev fit-zs : AllFit v4 sent-zs
 fit-zs =
     (fit-xs .0, (fit-ys .0, (fit-xs .1 .0, (fit-xs .1 .1 .0, (fit-ys .1 .0, (fit-ys .1 .1 .0, fit-ends))))))
 
-abbrev joint : Fed 2 zs
+abbrev joint : Fed v4 2 zs
 joint = roomy sent-zs refl fit-zs (0 ∷ 9 ∷ []) refl 40 (lit≤ tt)
 
-abbrev first : Fed 2 xs
+abbrev first : Fed v4 2 xs
 first = roomy sent-xs refl fit-xs (0 ∷ []) refl 20 (lit≤ tt)
 
-abbrev second : Fed 2 ys
+abbrev second : Fed v4 2 ys
 second = roomy sent-ys refl fit-ys [] tt 20 (lit≤ tt)
 
 -- read back from the bytes, cells and all
 pub read-joint : replied joint
     ≡ done 5 128 ∷ done 6 128 ∷ refused 10 ∷ refused 3 ∷ refused 10 ∷ done 7 1 ∷ done 5 0 ∷ refused 7 ∷ []
-unfolding answer cells shown needTo runs halts
+unfolding answer cells shown needTo runs halts number digits
 read-joint = refl
 
 pub read-first : replied first ≡ done 5 128 ∷ refused 10 ∷ refused 3 ∷ done 5 128 ∷ []
-unfolding answer cells shown needTo runs halts
+unfolding answer cells shown needTo runs halts number digits
 read-first = refl
 
 pub together : Together woven joint first second

@@ -10,6 +10,7 @@ use mathlib.Core.List.{List, [], _∷_, _++_}
 use mathlib.Core.Option.{none, some}
 use Prim.Native.Nat.{ℕ, _+_, _≤_}
 use lib.ListN.{length}
+use Rattle.routes.specs.Family.{Family, width}
 use Rattle.routes.specs.Route.{Route, route, tooLong, stray}
 use Rattle.routes.specs.Room.{need}
 use Rattle.routes.specs.Answers.{Reply, isDone, isRefused, count}
@@ -96,7 +97,7 @@ pub record Independent (W A : ℕ) {xs ys zs : List Update} (w : Weave xs ys zs)
   pub union : Union (kept W A xs) (kept W A ys) (keptBoth W A xs ys)
   -- so it answers and writes itself out accordingly
   pub lookups : (a : ℕ) → lookedUp W (kept W A zs) a ≡ lookedUp W (keptBoth W A xs ys) a
-  pub out : written (kept W A zs) ≡ written (keptBoth W A xs ys)
+  pub out : (F : Family) → written F (kept W A zs) ≡ written F (keptBoth W A xs ys)
 
 -- what is asked of the two feeds: no number is used by both, and all prefixes that are named need, together, no more arrays than
 -- there are. A prefix may stand in both
@@ -110,8 +111,8 @@ Demand3 W = (A : ℕ) (xs ys zs : List Update) (w : Weave xs ys zs) → Meets W 
 
 -- ---- a feed as bytes, run
 
-abbrev pub bytes : List Sent → List ℕ → List ℕ
-bytes ss rest = allBytes ss ++ rest
+abbrev pub bytes : Family → List Sent → List ℕ → List ℕ
+bytes F ss rest = allBytes F ss ++ rest
 
 -- what may follow the records: nothing; or an end, and whatever comes after it
 abbrev pub Closes : List ℕ → Type 0
@@ -128,13 +129,13 @@ endOf [] = 0
 endOf (k ∷ t) = 1
 
 -- the records ss were sent for the updates us, and each was answered, in order, as the list answers it
-pub record Answered (A : ℕ) (us : List Update) (ss : List Sent) (rest : List ℕ) (o : Ran) : Type 0 where
+pub record Answered (F : Family) (A : ℕ) (us : List Update) (ss : List Sent) (rest : List ℕ) (o : Ran) : Type 0 where
   pub stop : o .stop ≡ stopOf rest
-  pub consumed : o .end .consumed ≡ length (allBytes ss) + endOf rest
-  pub replies : o .end .replies ≡ repliesBytes (said 32 A us)
-  pub accepted : o .end .accepted ≡ count isDone (said 32 A us)
-  pub refused : o .end .refused ≡ count isRefused (said 32 A us)
-  pub list : o .end .list ≡ kept 32 A us
+  pub consumed : o .end .consumed ≡ length (allBytes F ss) + endOf rest
+  pub replies : o .end .replies ≡ repliesBytes (said (width F) A us)
+  pub accepted : o .end .accepted ≡ count isDone (said (width F) A us)
+  pub refused : o .end .refused ≡ count isRefused (said (width F) A us)
+  pub list : o .end .list ≡ kept (width F) A us
 
 -- the replies to a feed, one for each update, read back from the first of the reply bytes on
 abbrev pub readBack : List Update → List ℕ → List Reply

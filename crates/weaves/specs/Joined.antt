@@ -8,12 +8,14 @@ use mathlib.Core.List.{List, [], _∷_, _++_}
 use mathlib.Core.Option.{Option, none, some, Option·none-ne-some}
 use Prim.Native.Nat.{ℕ, _%_, _≤_, _<_}
 use native.Mathlib.Omega.{arith}
-use lib.Dec.{eqb, lit<}
+use lib.Dec.{eqb}
 use borrow.Author.Tests.{eq-eqb, ne-eqb}
+use Rattle.routes.specs.Family.{Family, v4, v6, width}
 use Rattle.routes.specs.Route.{Route}
 use Rattle.routes.specs.Room.{mem, need}
 use Rattle.logic.specs.Cases.{bool, same}
 use Rattle.logic.specs.Bools.{or-left, or-right}
+use Rattle.laws.specs.Families.{width-low}
 use Rattle.candidates.specs.Keyed.{Ordered, find, Every}
 use Rattle.candidates.specs.Candidate.{Candidate, key, hopOf}
 use Rattle.candidates.specs.Answers.{Update, sound, target, answer, after, plain, plains, lookedUp, records, replies, leaves}
@@ -257,11 +259,18 @@ module _ (W : ℕ) (w : W < 256) (A : ℕ) (xs ys zs : List Update) (v : Weave x
         joined = is-join;
         union = join-union F S (second-beside .alone .ordered) none-common;
         lookups = λ a. ap (λ (cs : List Candidate). lookedUp W cs a) is-join;
-        out = ap written is-join;
+        out = λ F. ap (written F) is-join;
       }
 
 pub demand-3 : (W : ℕ) → W < 256 → Demand3 W
 demand-3 W w A xs ys zs v m = independent W w A xs ys zs v (m .apart) (omega arith)
 
+-- in both families
+pub demand-3-family : (F : Family) → Demand3 (width F)
+demand-3-family F = demand-3 (width F) (width-low F)
+
 pub demand-3-ipv4 : Demand3 32
-demand-3-ipv4 = demand-3 32 (lit< tt)
+demand-3-ipv4 = demand-3-family v4
+
+pub demand-3-ipv6 : Demand3 128
+demand-3-ipv6 = demand-3-family v6

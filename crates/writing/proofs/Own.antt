@@ -2,16 +2,19 @@
 use mathlib.Core.Path.{_≡_, refl, sym, ap, _∙_}
 use mathlib.Core.Logic.{_≢_}
 use mathlib.Core.Bool.{true}
-use mathlib.Core.List.{List, [], _∷_, _++_}
+use mathlib.Core.List.{List, [], _∷_, _++_, append-nil}
 use Prim.Native.Nat.{ℕ, zero, suc, _+_, _-_, _*_, _%_, _^_, _≤_, _<_}
 use native.Mathlib.Omega.{arith}
 use lib.ListN.{length, getD, set, drop, length-append, drop-of-length-le}
 use lib.Seq.{sets, drop-cons}
 use Rattle.numbers.specs.Wrote.{Wrote, wrote-none, wrote-two}
-use Rattle.numbers.specs.Digits.{one, two, four}
+use Rattle.numbers.specs.Digits.{one, two, digits}
+use Rattle.numbers.specs.Back.{number-digits}
 use Rattle.numbers.specs.Number.{AreBytes}
-use Rattle.candidates.specs.Bytes.{kind4, sentBytes}
-use Rattle.address.specs.Parts.{filled, filled-length, filled-bytes, four-back}
+use Rattle.routes.specs.Family.{levels, announcingFor, kindOf}
+use Rattle.candidates.specs.Bytes.{announcesFor, sentBytes}
+use Rattle.encoded.specs.Encoded.{size-back}
+use Rattle.address.specs.Parts.{filled, filled-length, filled-bytes}
 use Rattle.slots.specs.Word.{IsFeed, preferenceIn, hopIn}
 use Rattle.slots.specs.Slot.{freeSlotB, free-slot-reflects}
 use Rattle.slots.specs.Page.{wordsAt}
@@ -19,7 +22,7 @@ use Rattle.gather.specs.Gather.{meant, listed, ofFeeds}
 use Rattle.writing.specs.Records.{bytesOf, bytes-append}
 use Rattle.writing.specs.Prefix.{reach, prefixOf, leads-number}
 use Rattle.writing.specs.Halves.{slot-none}
-use Rattle.writing.specs.Asked.{bytesWord, bytesFeeds, bytesOwn, Puts, PutsSlot}
+use Rattle.writing.specs.Asked.{familyOf, bytesWord, bytesFeeds, bytesOwn, Puts, PutsSlot}
 
 -- ---- put_address: what is left to be copied is the whole
 
@@ -43,44 +46,53 @@ word-none bits a feed word e = rw e
 
 word-some : (bits : ℕ) (a : List ℕ) (feed word : ℕ) → word ≢ 0
     → bytesWord bits a feed word
-    ≡ sentBytes (kind4 (prefixOf a bits * 2 ^ bits) (8 * length a - bits) (hopIn word) feed (preferenceIn word))
+    ≡ sentBytes (familyOf a)
+    (announcesFor (prefixOf a bits * 2 ^ bits) (8 * length a - bits) (hopIn word) feed (preferenceIn word))
 unfolding bytesWord bytesOf
 word-some bits a feed zero n = absurd (n refl)
-word-some bits a feed (suc w) n = refl
+word-some bits a feed (suc w) n =
+    let x = announcesFor (prefixOf a bits * 2 ^ bits) (8 * length a - bits) (hopIn (suc w)) feed (preferenceIn (suc w)) in
+    append-nil (sentBytes (familyOf a) x)
 
 module _ {feed word bits : ℕ} {a b : List ℕ} {at : ℕ} (p : Puts feed word a bits b at) where
   pub put-none : word ≡ 0 → Wrote b at (bytesWord bits a feed word) at b
   put-none e = rw (word-none bits a feed word e) (wrote-none b at)
 
-  pub put-room : word ≢ 0 → at + 10 ≤ length b
-  put-room n = omega (arith, p .room, ap length (word-some bits a feed word n))
+  pub put-room : word ≢ 0 → at + (length a + 6) ≤ length b
+  put-room n =
+      let x = announcesFor (prefixOf a bits * 2 ^ bits) (8 * length a - bits) (hopIn word) feed (preferenceIn word) in
+      omega (arith, p .room, p .family, ap length (word-some bits a feed word n), size-back (familyOf a) x)
 
   abbrev M : ℕ
   M = reach (length a) bits
 
   -- room for length, hop, feed and preference, and no more
   pub put-end : word ≢ 0 → {q : ℕ} → q ≡ at + 1 + length (filled M a) → q + 5 ≤ length b
-  put-end n e = omega (arith, put-room n, filled-length a M (omega arith), p .four)
+  put-end n e = omega (arith, put-room n, filled-length a M (omega arith))
 
   -- what stands behind the address
   abbrev Tail : List ℕ
   Tail = one (8 * length a - bits) ++ (two (hopIn word) ++ (one feed ++ one (preferenceIn word)))
 
-  word-bytes : AreBytes a → word ≢ 0 → bytesWord bits a feed word ≡ 4 ∷ (filled M a ++ Tail)
+  abbrev Kind : ℕ
+  Kind = kindOf (familyOf a) announcingFor
+
+  word-bytes : AreBytes a → word ≢ 0 → bytesWord bits a feed word ≡ Kind ∷ (filled M a ++ Tail)
   word-bytes ok n =
       let m : M ≤ length a = omega arith in
-      let e = four-back (filled M a) (filled-length a M m ∙ p .four) (filled-bytes a M m ok) in
-      let f : four (prefixOf a bits * 2 ^ bits) ≡ filled M a = ap four (sym (leads-number (p .leads))) ∙ e in
-      word-some bits a feed word n ∙ ap (λ (xs : List ℕ). 4 ∷ (xs ++ Tail)) f
+      let n′ = levels (familyOf a) in
+      let e = number-digits n′ (filled M a) (filled-length a M m ∙ sym (p .family)) (filled-bytes a M m ok) in
+      let f : digits n′ (prefixOf a bits * 2 ^ bits) ≡ filled M a = ap (digits n′) (sym (leads-number (p .leads))) ∙ e in
+      word-some bits a feed word n ∙ ap (λ (xs : List ℕ). Kind ∷ (xs ++ Tail)) f
 
   -- kind, address, length, hop, feed and preference, one after the other
-  pub put-some : AreBytes a → word ≢ 0 → (c : List ℕ) (q : ℕ) → Wrote (set b at 4) (at + 1) (filled M a) q c
+  pub put-some : AreBytes a → word ≢ 0 → (k : ℕ) → k ≡ Kind → (c : List ℕ) (q : ℕ) → Wrote (set b at k) (at + 1) (filled M a) q c
       → (hop : ℕ) → hop ≡ hopIn word → (pref : ℕ) → pref ≡ preferenceIn word
       → (e : List ℕ) → e ≡ sets (set c q ((8 * length a - bits) % 256)) (q + 1) (two hop)
       → Wrote b at (bytesWord bits a feed word) (q + 5) (set (set e (q + 3) (feed % 256)) (q + 4) (pref % 256))
-  put-some ok n c q w hop eh pref ep e f =
+  put-some ok n k ek c q w hop eh pref ep e f =
       let l = (8 * length a - bits) % 256 in
-      let x : Wrote b at (4 ∷ []) (at + 1) (set b at 4) = record { place = refl; list = refl } in
+      let x : Wrote b at (Kind ∷ []) (at + 1) (set b at k) = record { place = refl; list = ap (set b at) ek } in
       let y : Wrote c q (l ∷ []) (q + 1) (set c q l) = record { place = refl; list = refl } in
       let z : Wrote (set c q l) (q + 1) (two (hopIn word)) (q + 3) e =
       record { place = omega arith; list = f ∙ ap (λ (h : ℕ). sets (set c q l) (q + 1) (two h)) eh } in
@@ -99,7 +111,7 @@ unfolding bytesFeeds bytesWord ofFeeds
 feeds-more bits a g f n =
     let v = prefixOf a bits in
     let l = 8 * length a - bits in
-    bytes-append (listed (meant bits v l f (g f))) (ofFeeds g bits v l (suc f) n)
+    bytes-append (familyOf a) (listed (meant bits v l f (g f))) (ofFeeds g bits v l (suc f) n)
 
 feeds-done : (bits : ℕ) (a : List ℕ) (g : ℕ → ℕ) (f : ℕ) → bytesFeeds bits a g f 0 ≡ []
 unfolding bytesFeeds ofFeeds bytesOf
@@ -139,7 +151,7 @@ module _ {ws : List ℕ} {slot : ℕ} {a : List ℕ} {bits : ℕ} {b : List ℕ}
 
       pub ask-word : (w : ℕ) → w ≡ g f → Puts f w a bits c p
       ask-word w e = record {
-        four = s .four;
+        family = s .family;
         leads = s .leads;
         room = rw e (omega (
           arith,

@@ -1,5 +1,6 @@
 // Writing a table's candidates out into a lent buffer: lower address first, at equal address shorter length first, at equal
 // prefix lower feed first. A walk down the binary trie meets the prefixes in that order, array below array.
+use families::Family;
 use sizes::ROOT_SLOT;
 use sizes::SLOT_WORDS;
 use slots::slot::is_free;
@@ -9,13 +10,15 @@ use slots::word::preference_in;
 ghost use mathlib.Core.Path.{_≡_};
 ghost use Prim.Native.Nat.{_+_, _*_, _<_, _≤_};
 ghost use lib.ListN.{length, getD};
-ghost use Rattle.candidates.specs.Bytes.{written};
+ghost use Rattle.routes.specs.Family.{v4, levels};
 ghost use Rattle.candidates.specs.Seen.{countOn, frontOn};
 ghost use Rattle.slots.specs.Page.{wordsAt};
-ghost use Rattle.words.specs.Table.{listOf, seen};
+ghost use Rattle.words.specs.Table.{seen};
+ghost use Rattle.families.specs.Said.{saidFamily};
 ghost use Rattle.writing.specs.Answer.{countAnswer, HasFilled};
 ghost use Rattle.numbers.specs.Wrote.{Wrote};
-ghost use Rattle.writing.specs.Asked.{bytesWord, bytesOwn, bytesBelow, Puts, PutsSlot, Branches, Splits, Keeps, Dumps};
+ghost use Rattle.writing.specs.Asked.{familyOf, bytesWord, bytesOwn, bytesBelow, Puts, PutsSlot, Branches, Splits, Keeps};
+ghost use Rattle.writing.specs.Asked.{listBytes, Starts, Dumps};
 ghost use Rattle.writing.specs.Prefix.{standAt};
 ghost use Rattle.address.specs.Parts.{filled};
 
@@ -61,7 +64,7 @@ fn put(word: u32, feed: usize, address: &[u8], bits: usize, buffer: &mut [u8], a
         return at;
     }
     let length = 8 * address.len() - bits;
-    buffer[at] = 4;
+    buffer[at] = families::list_kind(address.len());
     let end = put_address(address, address.len() - bits / 8, buffer, at + 1);
     buffer[end] = (length % 256) as u8;
     numbers::put_two(buffer, end + 1, hop_in(word));
@@ -172,27 +175,48 @@ fn halves(
     branch(words, high, address, rest, buffer, r)
 }
 
-// The whole list of a table: the root's length 0, what is below it, and the end.
-fn dump(words: &[u32], buffer: &mut [u8]) -> usize
-    requires { ⌜ Dumps (now words) (now buffer) ⌝ }
-    ensures { λ r. ⌜ Wrote (now (buffer .entry)) 0 (written (listOf 4 (now (words .entry)))) r (now (buffer .exit)) ⌝ }
+// The whole list of a table: the root's length 0, what is below it, and the end. The address lent is that of the root.
+fn dump_from(words: &[u32], address: &mut [u8], buffer: &mut [u8]) -> usize
+    requires { ⌜ Starts (now address) ⌝ }
+    requires { ⌜ Dumps (familyOf (now address)) (now words) (now buffer) ⌝ }
+    ensures { λ r. ⌜ Wrote (now (buffer .entry)) 0 (listBytes (familyOf (now (address .entry))) (now (words .entry)))
+        r (now (buffer .exit)) ⌝ }
 {
-    let mut address = [0u8; 4];
-    let p = put_slot(words, ROOT_SLOT, &address[..], 32, buffer, 0);
+    let bits = 8 * address.len();
+    let p = put_slot(words, ROOT_SLOT, address, bits, buffer, 0);
     let low = ROOT_SLOT + SLOT_WORDS;
-    let end = halves(words, low, &mut address[..], 32, buffer, p);
+    let end = halves(words, low, address, bits, buffer, p);
     buffer[end] = 0;
     end + 1
 }
 
-// How many bytes writing out puts into a buffer of `room` bytes, or the number with which it refuses.
-pub fn count(words: &[u32], room: usize) -> Counted
-    ensures { λ r. ⌜ countAnswer r ≡ countOn (seen 4 (now (words .entry))) room ⌝ }
+// The same for a family.
+fn dump(words: &[u32], family: Family, buffer: &mut [u8]) -> usize
+    requires { ⌜ Dumps (saidFamily family) (now words) (now buffer) ⌝ }
+    ensures { λ r. ⌜ Wrote (now (buffer .entry)) 0 (listBytes (saidFamily family) (now (words .entry)))
+        r (now (buffer .exit)) ⌝ }
 {
-    let checked = audit::check(words);
+    match family {
+        Family::V4 => {
+            let mut address = [0u8; 4];
+            dump_from(words, &mut address[..], buffer)
+        }
+        Family::V6 => {
+            let mut address = [0u8; 16];
+            dump_from(words, &mut address[..], buffer)
+        }
+    }
+}
+
+// How many bytes writing a family's list out puts into a buffer of `room` bytes, or the number with which it refuses.
+pub fn count_of(words: &[u32], family: Family, room: usize) -> Counted
+    ensures { λ r. ⌜ countAnswer r ≡ countOn (saidFamily family) (seen (levels (saidFamily family)) (now (words .entry))) room ⌝ }
+{
+    let levels = families::levels(family);
+    let checked = audit::check_of(words, levels as u32);
     match checked {
         audit::Checked::Counts(routes, _) => {
-            let bytes = 10 * routes as usize + 1;
+            let bytes = (levels + 6) * routes as usize + 1;
             if room < bytes {
                 return Counted::Refused(9);
             }
@@ -202,20 +226,36 @@ pub fn count(words: &[u32], room: usize) -> Counted
     }
 }
 
-// Writes the list out at the front of the buffer, whose other bytes stay; returns how many bytes, 0 where the count refuses.
-pub fn fill(words: &[u32], buffer: &mut [u8]) -> usize
-    ensures { λ r. ⌜ HasFilled (seen 4 (now (words .entry))) (now (buffer .entry)) r (now (buffer .exit)) ⌝ }
+// Of an IPv4 list.
+pub fn count(words: &[u32], room: usize) -> Counted
+    ensures { λ r. ⌜ countAnswer r ≡ countOn v4 (seen 4 (now (words .entry))) room ⌝ }
 {
-    let Counted::Bytes(_) = count(words, buffer.len()) else {
+    count_of(words, Family::V4, room)
+}
+
+// Writes a family's list out at the front of the buffer, whose other bytes stay; returns how many bytes, 0 where the count
+// refuses.
+pub fn fill_of(words: &[u32], family: Family, buffer: &mut [u8]) -> usize
+    ensures { λ r. ⌜ HasFilled (saidFamily family) (seen (levels (saidFamily family)) (now (words .entry)))
+        (now (buffer .entry)) r (now (buffer .exit)) ⌝ }
+{
+    let Counted::Bytes(_) = count_of(words, family, buffer.len()) else {
         return 0;
     };
-    dump(words, buffer)
+    dump(words, family, buffer)
+}
+
+// An IPv4 list.
+pub fn fill(words: &[u32], buffer: &mut [u8]) -> usize
+    ensures { λ r. ⌜ HasFilled v4 (seen 4 (now (words .entry))) (now (buffer .entry)) r (now (buffer .exit)) ⌝ }
+{
+    fill_of(words, Family::V4, buffer)
 }
 
 // The front of the buffer, written: the list's bytes, or none where the count refuses.
 pub fn write_out<'a>(words: &[u32], buffer: &'a mut [u8]) -> &'a mut [u8]
     ensures place { λ r. ⌜ r .ptr ≡ buffer .entry .ptr ⌝ }
-    ensures bytes { λ r. ⌜ now r ≡ frontOn (seen 4 (now (words .entry))) (length (now (buffer .entry))) ⌝ }
+    ensures bytes { λ r. ⌜ now r ≡ frontOn v4 (seen 4 (now (words .entry))) (length (now (buffer .entry))) ⌝ }
 {
     let n = fill(words, &mut buffer[..]);
     &mut buffer[..n]

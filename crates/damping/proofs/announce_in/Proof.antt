@@ -4,7 +4,7 @@ use Rattle.restraint.specs.Keeps.{announce-sound}
 use Rattle.words.specs.View.{seen-table}
 use Rattle.words.specs.Table.{listOf}
 use Rattle.words.specs.Words.{arrayCount}
-use Rattle.address.specs.Four.{four-number}
+use Rattle.numbers.specs.Four.{four-number}
 use Prim.Native.Nat.{_%_}
 use borrow.Author.Tests.{eq-eqb}
 use native.Mathlib.Omega.{arith}

@@ -1,6 +1,6 @@
 -- A fault of its own is refused by the table; the rest is the work. Assumes nothing.
 use Rattle.damping.specs.Refuse.{fault-sound, faults-on}
-use Rattle.address.specs.Four.{four-number}
+use Rattle.numbers.specs.Four.{four-number}
 use Rattle.candidates.specs.Answers.{announce}
 use mathlib.Core.Path.{sym, _∙_}
 use native.Mathlib.Omega.{arith}

@@ -4,7 +4,7 @@ use Rattle.restraint.specs.Keeps.{withdraw-sound}
 use Rattle.words.specs.View.{seen-table}
 use Rattle.words.specs.Table.{listOf}
 use Rattle.words.specs.Words.{arrayCount}
-use Rattle.address.specs.Four.{four-number}
+use Rattle.numbers.specs.Four.{four-number}
 use mathlib.Core.Path.{sym, _∙_}
 use native.Mathlib.Omega.{arith}
 use borrow.Author.Needs.{needs}

@@ -13,6 +13,9 @@ add-lookup-on c = search needs
 add-lookup-on-2 : tie.Need-add-lookup-on-2
 add-lookup-on-2 c = search needs
 
+add-lookup-on-3 : tie.Need-add-lookup-on-3
+add-lookup-on-3 c = search needs
+
 sub-lookup-on : tie.Need-sub-lookup-on
 sub-lookup-on c = search needs
 
@@ -25,15 +28,17 @@ part-lookup-on-end c = search needs
 lookup-on-requires : tie.Need-lookup-on-requires
 lookup-on-requires c κs =
     let s = c .before .before .before in
-    let l = part-length (s .args .feed .now) (s .args .at) (s .pre .1) in
-    (table-fits 4 _ (is-table _ (s .pre .0)), omega arith, omega arith)
+    let h = s .pre in
+    let l = part-length (s .args .levels) (s .args .feed .now) (s .args .at) (omega (arith, h .body)) in
+    (table-fits (s .args .levels) _ (is-table (s .args .levels) _ (h .some) (h .few) (h .isTable)), omega (arith, h .some), omega (arith, h .few))
 
 returns : tie.Need-returns
 returns c =
     let s = c .before .before .before .before in
     let a = s .args in
-    let p = rw (part-length (a .feed .now) (a .at) (s .pre .1)) at (c .lookup-on .ensures) in
-    asked-lookup (a .words .now) (c .lookup-on .result) (a .feed .now) (a .at) _ (part-number (a .feed .now) (a .at) (s .pre .1)) p
+    let l = part-length (a .levels) (a .feed .now) (a .at) (omega (arith, s .pre .body)) in
+    asked-lookup (a .levels) (a .words .now) (c .lookup-on .result) (a .feed .now) (a .at) _ (part-number (a .levels) (a .feed .now) (a .at))
+    (rw l at (c .lookup-on .ensures))
 
 pub lookup-spec : {M : Type 1} → statement M
 lookup-spec =
@@ -41,6 +46,7 @@ lookup-spec =
     (tie.spec
     add-lookup-on
     add-lookup-on-2
+    add-lookup-on-3
     sub-lookup-on
     part-lookup-on-start
     part-lookup-on-end

@@ -17,28 +17,28 @@ misfit-requires : tie.Need-misfit-requires
 misfit-requires c κs = search needs
 
 returns : tie.Need-returns
-returns c = let a = c .before .before .before .args in refusal-size (a .words .now) (a .fault) (sym (c .before .misfit .ensures) ∙ c .if1 .taken)
+returns c = let a = c .before .before .before .args in refusal-size (a .levels) (a .words .now) (a .fault) (sym (c .before .misfit .ensures) ∙ c .if1 .taken)
 
 returns-2 : tie.Need-returns-2
-returns-2 c = let a = c .before .before .before .before .args in refusal-fault (a .words .now) (a .fault) (fits (c .before)) (c .if2 .taken)
+returns-2 c = let a = c .before .before .before .before .args in refusal-fault (a .levels) (a .words .now) (a .fault) (fits (c .before)) (c .if2 .taken)
 
-is-table-requires : tie.Need-is-table-requires
-is-table-requires c κs = fits (c .before)
+is-table-of-requires : tie.Need-is-table-of-requires
+is-table-of-requires c κs = fits (c .before)
 
 returns-3 : tie.Need-returns-3
 returns-3 c =
     let f = c .before .before in
     let a = f .before .before .before .before .args in
-    refusal-foreign (a .words .now) (a .fault) (fits (f .before)) (f .if2 .left)
-    (sym (c .before .is-table .ensures) ∙ not-true _ (c .if3 .taken))
+    refusal-foreign (a .levels) (a .words .now) (a .fault) (fits (f .before)) (f .if2 .left)
+    (sym (c .before .is-table-of .ensures) ∙ not-true _ (c .if3 .taken))
 
 returns-4 : tie.Need-returns-4
 returns-4 c =
     let f = c .before .before in
     let a = f .before .before .before .before .args in
-    refusal-none (a .words .now) (a .fault) (fits (f .before)) (f .if2 .left)
-    (sym (c .before .is-table .ensures) ∙ not-false _ (c .if3 .left))
+    refusal-none (a .levels) (a .words .now) (a .fault) (fits (f .before)) (f .if2 .left)
+    (sym (c .before .is-table-of .ensures) ∙ not-false _ (c .if3 .left))
 
 pub refusal-spec : {M : Type 1} → statement M
 refusal-spec =
-    tie.close (tie.spec misfit-requires returns returns-2 is-table-requires returns-3 returns-4)
+    tie.close (tie.spec misfit-requires returns returns-2 is-table-of-requires returns-3 returns-4)

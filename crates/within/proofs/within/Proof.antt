@@ -4,7 +4,7 @@ use mathlib.Core.Path.{_≡_, ap, _∙_}
 use native.Mathlib.Omega.{arith}
 use lib.ListN.{length}
 use Rattle.numbers.specs.Number.{number}
-use Rattle.address.specs.Four.{four-number}
+use Rattle.numbers.specs.Four.{four-number}
 use Rattle.within.specs.Counted.{within-seen}
 use borrow.Author.Needs.{needs}
 use Rattle.within.proofs.within.Statement.{statement}

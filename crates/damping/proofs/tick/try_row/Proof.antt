@@ -1,6 +1,6 @@
 -- Not due, refused by the table, or installed. Assumes nothing.
 use Rattle.damping.specs.Tick.{row-high, row-empty, row-out, row-in}
-use Rattle.address.specs.Four.{four-number}
+use Rattle.numbers.specs.Four.{four-number}
 use mathlib.Core.Path.{refl, sym, _∙_}
 use Prim.Native.Nat.{_*_, _/_, _%_}
 use Rattle.rows.specs.Row.{rowAt}

@@ -1,23 +1,30 @@
 -- The counters after a record stand for the state that the definition hands on. A count stays below the bytes consumed, so no sum wraps. Assumes nothing.
+use mathlib.Core.Path.{ap, _∙_}
 use native.Mathlib.Omega.{arith}
-use lib.ListN.{getD}
-use Rattle.encoded.specs.Turns.{size-pos}
-use Rattle.replies.specs.Said.{saidReply}
-use Rattle.feed.proofs.Loop.{took}
 use borrow.Author.Needs.{needs}
+use Rattle.candidates.specs.Runs.{size, roleAt}
+use Rattle.encoded.specs.Turns.{size-pos}
+use Rattle.families.specs.Said.{saidFamily}
+use Rattle.replies.specs.Said.{saidReply}
+use Rattle.feed.proofs.Answers.{takes-asks}
+use Rattle.feed.proofs.Loop.{took}
 use Rattle.feed.proofs.Progress.answer_next.Statement.{statement}
 use Rattle.feed.proofs.Progress.answer_next.Tie as tie
 
-shared-slice-read-size : tie.Need-shared-slice-read-size
-shared-slice-read-size c =
-    let a = c .before .before .before .before .args in
-    omega (arith, size-pos (getD (a .feed .now) (a .self .at) 0))
+shared-slice-read-role-of : tie.Need-shared-slice-read-role-of
+shared-slice-read-role-of c =
+    let s = c .before .before .before .before in
+    let F = saidFamily (s .args .family) in
+    omega (arith, s .pre .clear .body, size-pos F (roleAt F (s .args .feed .now) (s .args .self .at)))
+
+role-of-requires : tie.Need-role-of-requires
+role-of-requires c κs = search needs
 
 size-requires : tie.Need-size-requires
 size-requires c κs = search needs
 
 ask-requires : tie.Need-ask-requires
-ask-requires c κs = search needs
+ask-requires c κs = takes-asks _ _ _ _ _ (c .before .before .before .before .before .before .before .pre) _ (c .before .before .role-of .ensures)
 
 put-requires : tie.Need-put-requires
 put-requires c κs = search needs
@@ -34,8 +41,8 @@ refuses-requires c κs = search needs
 add-refused : tie.Need-add-refused
 add-refused c = search needs
 
-add-t18 : tie.Need-add-t18
-add-t18 c = search needs
+add-t20 : tie.Need-add-t20
+add-t20 c = search needs
 
 same-length : tie.Need-same-length
 same-length c = search needs
@@ -46,16 +53,20 @@ same-length-2 c = search needs
 returns : tie.Need-returns
 returns c =
     let a = c .before .before .before .before .before .before .before .before .before .before in
-    let t = a .before .before .before .before .before .before .before .pre in
-    let put = c .before .before .before .before .before .before .put in
-    took _ _ _ _ t _ _ (saidReply (a .ask .result)) _ _ _ _ (a .before .before .size .ensures .0) (a .ask .ensures) (put .ensures)
+    let n = a .before .before in
+    let e = n .before .role-of .ensures in
+    let s = n .before .before .before .before .before .before in
+    let F = saidFamily (s .args .family) in
+    took F _ _ _ _ (s .pre) _ _ (saidReply (a .ask .result)) _ _ _ _ (n .size .ensures .0 ∙ ap (size F) e)
+    (rw e at (a .ask .ensures)) (c .before .before .before .before .before .before .put .ensures)
     (c .before .before .before .accepts .ensures .0) (c .before .refuses .ensures .0)
 
 pub answer-next-spec : {M : Type 1} → statement M
 answer-next-spec =
     tie.close
     (tie.spec
-    shared-slice-read-size
+    shared-slice-read-role-of
+    role-of-requires
     size-requires
     ask-requires
     put-requires
@@ -63,7 +74,7 @@ answer-next-spec =
     add-accepted
     refuses-requires
     add-refused
-    add-t18
+    add-t20
     same-length
     same-length-2
     returns)

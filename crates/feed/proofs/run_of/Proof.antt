@@ -1,0 +1,62 @@
+-- The number at the start says whether the words are a table, and with what the run refuses. Assumes nothing.
+use mathlib.Core.Path.{_≡_, ap, _∙_}
+use native.Mathlib.Omega.{arith}
+use borrow.Author.Needs.{needs}
+use Rattle.routes.specs.Family.{levels}
+use Rattle.families.specs.Said.{saidFamily}
+use Rattle.update.specs.Update.{refusalOf}
+use Rattle.feed.proofs.Loop.{run-refused, run-started}
+use Rattle.feed.proofs.run_of.Statement.{statement}
+use Rattle.feed.proofs.run_of.Tie as tie
+
+-- the test is for a table of the family's levels
+first : (c : tie.After-refusal)
+    → (let s = c .before .before .before .before .before .before in
+    c .refusal .result ≡ refusalOf (levels (saidFamily (s .args .family))) (s .args .words .now) 0)
+first c = rw (c .before .levels .ensures .0) at (c .refusal .ensures)
+
+levels-requires : tie.Need-levels-requires
+levels-requires c κs = search needs
+
+cast-refusal : tie.Need-cast-refusal
+cast-refusal c = search needs
+
+refusal-requires : tie.Need-refusal-requires
+refusal-requires c κs = search needs
+
+same-length : tie.Need-same-length
+same-length c = search needs
+
+returns : tie.Need-returns
+returns c =
+    let s = c .before .before .before .before .before .before .before in
+    run-refused (saidFamily (s .args .family)) _ _ (first (c .before)) _ _ (λ z. omega arith)
+
+run-table-requires : tie.Need-run-table-requires
+run-table-requires c κs =
+    let t = c .before .before in
+    let s = t .before .before .before .before .before .before .before in
+    run-started (saidFamily (s .args .family)) _ _ (first (t .before)) (omega arith)
+
+same-length-2 : tie.Need-same-length-2
+same-length-2 c = search needs
+
+same-length-3 : tie.Need-same-length-3
+same-length-3 c = search needs
+
+returns-2 : tie.Need-returns-2
+returns-2 c = search needs
+
+pub run-of-spec : {M : Type 1} → statement M
+run-of-spec =
+    tie.close
+    (tie.spec
+    levels-requires
+    cast-refusal
+    refusal-requires
+    same-length
+    returns
+    run-table-requires
+    same-length-2
+    same-length-3
+    returns-2)
