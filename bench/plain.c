@@ -68,3 +68,42 @@ answer plain_checking(const uint32_t *words, size_t n, uint32_t address) {
     }
     return (answer){2, 0, 0, 0, 0};
 }
+
+/* The same two for IPv6, whose address is bytes. */
+typedef struct {
+    uint8_t bytes[16];
+} ipv6;
+
+answer plain_trusting_v6(const uint32_t *words, size_t n, ipv6 address) {
+    const uint32_t *root = words + ARRAY_WORDS, *array = root;
+    uint32_t found = 0;
+    (void)n;
+    for (uint32_t level = 0;; level++) {
+        uint32_t cell = array[CELLS_AT + address.bytes[level]];
+        if (cell >> 28 == 0)
+            return answered(found, cell, level * 8 * 65536);
+        found = newer(found, best_above(cell), level * 8 * 65536);
+        array = root + ARRAY_WORDS * (size_t)(cell % 4096);
+    }
+}
+
+answer plain_checking_v6(const uint32_t *words, size_t n, ipv6 address) {
+    if (n % ARRAY_WORDS != 0 || n < 6144 || n > 12585984)
+        return (answer){1, 0, 0, 0, 0};
+    const uint32_t *root = words + ARRAY_WORDS, *array = root;
+    size_t arrays = n / ARRAY_WORDS - 1;
+    uint32_t found = 0;
+    for (uint32_t level = 0; level < 16; level++) {
+        uint32_t cell = array[CELLS_AT + address.bytes[level]], low = cell % 4096;
+        if (cell >> 28 == 0) {
+            if (low / 16 > 8 || low % 16 > 8)
+                break;
+            return answered(found, cell, level * 8 * 65536);
+        }
+        if (cell >> 28 > 9 || low >= arrays)
+            break;
+        found = newer(found, best_above(cell), level * 8 * 65536);
+        array = root + ARRAY_WORDS * (size_t)low;
+    }
+    return (answer){2, 0, 0, 0, 0};
+}

@@ -1,5 +1,5 @@
-/* Prints every field of every answer for records and damaged words that a seed makes: replay ARRAYS SEED RECORDS. What it
- * prints must not depend on the processor, so two archives are compared by its output (compare/targets). */
+/* Prints every field of every answer for records and damaged words that a seed makes, for both families: replay ARRAYS SEED
+ * RECORDS. What it prints must not depend on the processor, so two archives are compared by its output (compare/targets). */
 #include <inttypes.h>
 #include <stdio.h>
 #include <stdlib.h>
@@ -83,34 +83,100 @@ static void say_built(const char *what, toggleash_built b) {
     printf("%s %" PRIu32 " %" PRIu64 " %" PRIu64 "\n", what, b.refusal, b.routes, b.markers);
 }
 
+/* ---- The families. An address is bytes here, of which IPv4 has the first four. */
+
+typedef toggleash_ipv6 octets;
+
+static uint32_t number(octets a) {
+    return (uint32_t)a.bytes[0] << 24 | (uint32_t)a.bytes[1] << 16 | (uint32_t)a.bytes[2] << 8 | a.bytes[3];
+}
+
+static toggleash_answer v4_lookup(const uint32_t *at, size_t n, octets a) {
+    return toggleash_lookup(at, n, number(a));
+}
+
+static toggleash_total v4_within(const uint32_t *at, size_t n, octets a, uint32_t length) {
+    return toggleash_within(at, n, number(a), length);
+}
+
+static toggleash_update v4_announce(uint32_t *at, size_t n, octets a, uint32_t length, uint32_t hop, uint32_t feed,
+                                    uint8_t preference) {
+    return toggleash_announce(at, n, number(a), length, hop, feed, preference);
+}
+
+static toggleash_update v4_withdraw(uint32_t *at, size_t n, octets a, uint32_t length, uint32_t feed) {
+    return toggleash_withdraw(at, n, number(a), length, feed);
+}
+
+/* The bytes of an address, the kinds of records that name a feed and of lookups, and the calls. */
+typedef struct {
+    size_t bytes;
+    uint8_t announces, withdraws, looks_up;
+    uint32_t (*clear)(uint32_t *, size_t);
+    toggleash_counts (*check)(const uint32_t *, size_t);
+    toggleash_answer (*lookup)(const uint32_t *, size_t, octets);
+    toggleash_total (*within)(const uint32_t *, size_t, octets, uint32_t);
+    toggleash_update (*announce)(uint32_t *, size_t, octets, uint32_t, uint32_t, uint32_t, uint8_t);
+    toggleash_update (*withdraw)(uint32_t *, size_t, octets, uint32_t, uint32_t);
+    toggleash_written (*write_out)(const uint32_t *, size_t, uint8_t *, size_t);
+    toggleash_ran (*run)(uint32_t *, size_t, const uint8_t *, size_t, uint8_t *, size_t);
+} family;
+
+static const family four = {
+    4, TOGGLEASH_KIND_ANNOUNCE_FOR, TOGGLEASH_KIND_WITHDRAW_FOR, TOGGLEASH_KIND_LOOKUP, toggleash_clear, toggleash_check,
+    v4_lookup, v4_within, v4_announce, v4_withdraw, toggleash_write_out, toggleash_run};
+static const family six = {
+    16, TOGGLEASH_KIND_V6_ANNOUNCE, TOGGLEASH_KIND_V6_WITHDRAW, TOGGLEASH_KIND_V6_LOOKUP, toggleash_v6_clear,
+    toggleash_v6_check, toggleash_v6_lookup, toggleash_v6_within, toggleash_v6_announce, toggleash_v6_withdraw,
+    toggleash_v6_write_out, toggleash_v6_run};
+
+/* ---- Records */
+
 /* An address: mostly one of a few networks, so that records meet. */
-static uint32_t address(void) {
-    uint32_t a = any();
-    return any() % 4 ? 10u << 24 | (a & 0x0003FF7F) : a;
+static octets address(const family *f) {
+    octets a = {{0}};
+    for (size_t i = 0; i < f->bytes; i++)
+        a.bytes[i] = any();
+    if (any() % 4 == 0)
+        return a;
+    a.bytes[0] = 10;
+    for (size_t i = 1; i < f->bytes - 2; i++)
+        a.bytes[i] &= i == 1 ? 3 : i % 5 == 0;
+    a.bytes[f->bytes - 1] &= 0x7F;
+    return a;
+}
+
+/* The address with all bits after the length 0. */
+static octets cut(octets a, uint32_t length) {
+    for (uint32_t bit = length; bit < 128; bit++)
+        a.bytes[bit / 8] &= ~(0x80 >> bit % 8);
+    return a;
 }
 
 /* What an update names: its prefix, and the feed with its preference and hop. */
 typedef struct {
-    uint32_t address, length, hop, feed;
+    octets address;
+    uint32_t length, hop, feed;
     uint8_t preference;
 } candidate;
 
-/* The bytes of a record, after its kind: as many of the candidate's as the kind has. */
-static void add(bytes *feed, uint8_t kind, candidate c) {
-    static const size_t sizes[6] = {1, 8, 6, 5, 10, 7};
-    uint8_t record[10] = {kind, c.address >> 24, c.address >> 16, c.address >> 8, c.address, c.length, c.hop >> 8, c.hop,
-                          c.feed, c.preference};
-    if (kind == TOGGLEASH_KIND_WITHDRAW_FOR)
-        record[6] = c.feed;
-    memcpy(feed->at + feed->n, record, sizes[kind]);
-    feed->n += sizes[kind];
+static void put(bytes *feed, uint32_t byte) {
+    feed->at[feed->n++] = (uint8_t)byte;
+}
+
+/* A record's kind and address; the rest is put after it. */
+static void add(bytes *feed, const family *f, uint8_t kind, octets a) {
+    put(feed, kind);
+    memcpy(feed->at + feed->n, a.bytes, f->bytes);
+    feed->n += f->bytes;
 }
 
 /* Few lengths, hops, feeds and addresses are wrong ones, and few preferences are high ones. */
-static candidate any_candidate(void) {
-    candidate c = {.address = address(), .length = any() % 64 ? any() % 33 : any() % 256};
-    if (c.length <= 32 && any() % 30)
-        c.address = c.length ? c.address & 0xFFFFFFFFu << (32 - c.length) : 0;
+static candidate any_candidate(const family *f) {
+    uint32_t most = 8 * (uint32_t)f->bytes;
+    candidate c = {.address = address(f), .length = any() % 64 ? any() % (most + 1) : any() % 256};
+    if (c.length <= most && any() % 30)
+        c.address = cut(c.address, c.length);
     c.hop = any() % 50 ? 1 + any() % 7 : any() % 65536;
     c.feed = any() % 40 ? 1 + any() % 4 : any() % 256;
     c.preference = any() % 5 ? any() % 3 : any() % 256;
@@ -118,33 +184,40 @@ static candidate any_candidate(void) {
 }
 
 /* One record by its own call, and added to the feed, by either kind where both can say it. */
-static void record(words table, bytes *feed) {
+static void record(const family *f, words table, bytes *feed) {
     uint32_t choice = any() % 10, plain = any() % 2;
-    candidate c = any_candidate();
+    candidate c = any_candidate(f);
+    plain = plain && c.feed == 1 && f == &four;
     if (choice >= 8) {
-        c.address = address();
-        add(feed, TOGGLEASH_KIND_LOOKUP, c);
-        say_answer("lookup", toggleash_lookup(table.at, table.n, c.address));
+        c.address = address(f);
+        add(feed, f, f->looks_up, c.address);
+        say_answer("lookup", f->lookup(table.at, table.n, c.address));
         return;
     }
     if (choice >= 5) {
-        add(feed, plain && c.feed == 1 ? TOGGLEASH_KIND_WITHDRAW : TOGGLEASH_KIND_WITHDRAW_FOR, c);
-        say_update("withdraw", toggleash_withdraw(table.at, table.n, c.address, c.length, c.feed));
+        add(feed, f, plain ? TOGGLEASH_KIND_WITHDRAW : f->withdraws, c.address);
+        put(feed, c.length);
+        if (!plain)
+            put(feed, c.feed);
+        say_update("withdraw", f->withdraw(table.at, table.n, c.address, c.length, c.feed));
         return;
     }
-    if (plain && c.feed == 1)
+    if (plain)
         c.preference = 0;
-    add(feed, plain && c.feed == 1 ? TOGGLEASH_KIND_ANNOUNCE : TOGGLEASH_KIND_ANNOUNCE_FOR, c);
-    say_update("announce", toggleash_announce(table.at, table.n, c.address, c.length, c.hop, c.feed, c.preference));
+    add(feed, f, plain ? TOGGLEASH_KIND_ANNOUNCE : f->announces, c.address);
+    put(feed, c.length), put(feed, c.hop >> 8), put(feed, c.hop);
+    if (!plain)
+        put(feed, c.feed), put(feed, c.preference);
+    say_update("announce", f->announce(table.at, table.n, c.address, c.length, c.hop, c.feed, c.preference));
 }
 
 /* The records one by one on the table, and as one run on the other. */
-static void records(words table, words other, size_t count) {
-    bytes feed = {room(TOGGLEASH_RECORD_MOST * count + 1, 1), 0}, reply = {room(5 * count, 1), 5 * count};
+static void records(const family *f, words table, words other, size_t count) {
+    bytes feed = {room((f->bytes + 6) * count + 1, 1), 0}, reply = {room(5 * count, 1), 5 * count};
     for (size_t i = 0; i < count; i++)
-        record(table, &feed);
-    add(&feed, TOGGLEASH_KIND_END, (candidate){0});
-    toggleash_ran r = toggleash_run(other.at, other.n, feed.at, feed.n, reply.at, reply.n);
+        record(f, table, &feed);
+    put(&feed, TOGGLEASH_KIND_END);
+    toggleash_ran r = f->run(other.at, other.n, feed.at, feed.n, reply.at, reply.n);
     printf("run %" PRIu32 " %" PRIu32 " %" PRIu64 " %" PRIu64 " %" PRIu64 " %" PRIu64 "\n", r.refusal, r.stop, r.consumed,
            r.written, r.accepted, r.refused);
     printf("replies %016" PRIx64 " words %016" PRIx64 " %016" PRIx64 "\n", sum_of_bytes(reply.at, r.written),
@@ -153,50 +226,74 @@ static void records(words table, words other, size_t count) {
     free(reply.at);
 }
 
-/* The copy of the table's list, and what goes before it. */
-static words copied(words table) {
-    toggleash_counts counts = toggleash_check(table.at, table.n);
-    size_t size = TOGGLEASH_WRITTEN_BYTES(counts.routes);
+/* The table's list as it is written out. */
+static bytes written(const family *f, words table) {
+    toggleash_counts counts = f->check(table.at, table.n);
+    size_t size = (f->bytes + 6) * (size_t)counts.routes + 1;
     bytes list = {room(size, 1), size};
     say_counts("check", counts);
-    say_written("written, short", toggleash_write_out(table.at, table.n, list.at, list.n - 1));
-    say_written("written", toggleash_write_out(table.at, table.n, list.at, list.n));
+    say_written("written, short", f->write_out(table.at, table.n, list.at, list.n - 1));
+    say_written("written", f->write_out(table.at, table.n, list.at, list.n));
     printf("list %016" PRIx64 "\n", sum_of_bytes(list.at, list.n));
+    return list;
+}
+
+/* The copy of a list, and what goes before it. */
+static words copied(bytes list) {
     toggleash_needed need = toggleash_copy_need(list.at, list.n);
     printf("need %" PRIu32 " %" PRIu64 "\n", need.refusal, need.words);
     words copy = {room((size_t)need.words, sizeof(uint32_t)), (size_t)need.words};
     say_built("built, short", toggleash_copy_build(list.at, list.n, copy.at, copy.n - 1));
     say_built("built", toggleash_copy_build(list.at, list.n, copy.at, copy.n));
     printf("copy %016" PRIx64 "\n", sum_of_words(copy));
-    free(list.at);
     return copy;
 }
 
-/* Lookups in both. */
-static void lookups(words table, words copy, size_t count) {
-    for (size_t i = 0; i < count; i++) {
-        uint32_t a = address();
-        candidate c = any_candidate();
-        say_answer("in the table", toggleash_lookup(table.at, table.n, a));
-        say_total("within", toggleash_within(table.at, table.n, c.address, c.length));
-        say_match("in the copy", toggleash_copy_lookup(copy.at, copy.n, a));
-    }
+/* Lookups and counts in a table, after what its words are. */
+static void looks(const family *f, words table) {
+    candidate c = any_candidate(f);
+    say_answer("lookup", f->lookup(table.at, table.n, address(f)));
+    say_total("within", f->within(table.at, table.n, c.address, c.length));
 }
 
 /* One bit of the words turned, the calls on them, and the bit turned back. */
-static void damage(words table, words copy) {
-    uint32_t a = address(), bit = 1u << any() % 32;
-    candidate c = any_candidate();
-    uint32_t *word = &table.at[any() % table.n];
+static void damage(const family *f, words table) {
+    uint32_t bit = 1u << any() % 32, *word = &table.at[any() % table.n];
     *word ^= bit;
-    say_counts("check, damaged", toggleash_check(table.at, table.n));
-    say_answer("lookup, damaged", toggleash_lookup(table.at, table.n, a));
-    say_total("within, damaged", toggleash_within(table.at, table.n, c.address, c.length));
+    say_counts("check, damaged", f->check(table.at, table.n));
+    looks(f, table);
     *word ^= bit;
-    word = &copy.at[any() % copy.n];
+}
+
+static void damage_copy(words copy) {
+    uint32_t bit = 1u << any() % 32, *word = &copy.at[any() % copy.n], a = number(address(&four));
+    say_match("copy lookup", toggleash_copy_lookup(copy.at, copy.n, a));
     *word ^= bit;
     say_match("copy lookup, damaged", toggleash_copy_lookup(copy.at, copy.n, a));
     *word ^= bit;
+}
+
+/* A family's calls on foreign words, on a table of random records, and on what little damage leaves of it. */
+static void replay(const family *f, words table, words other, size_t many) {
+    for (size_t i = 0; i < table.n; i++)
+        table.at[i] = other.at[i] = any();
+    say_counts("check, foreign", f->check(table.at, table.n));
+    looks(f, table);
+    printf("clear %" PRIu32 "\n", f->clear(table.at, table.n));
+    printf("clear %" PRIu32 "\n", f->clear(other.at, other.n));
+    records(f, table, other, many);
+    for (size_t i = 0; i < many; i++)
+        looks(f, table);
+    for (size_t i = 0; i < DAMAGES; i++)
+        damage(f, table);
+    bytes list = written(f, table);
+    if (f == &four) {
+        words copy = copied(list);
+        for (size_t i = 0; i < DAMAGES; i++)
+            damage_copy(copy);
+        free(copy.at);
+    }
+    free(list.at);
 }
 
 int main(int count, char **word) {
@@ -207,17 +304,7 @@ int main(int count, char **word) {
     size_t n = TOGGLEASH_WORDS(strtoul(word[1], NULL, 10)), many = strtoul(word[3], NULL, 10);
     words table = {room(n, sizeof(uint32_t)), n}, other = {room(n, sizeof(uint32_t)), n};
     state = strtoull(word[2], NULL, 10) * 0x9E3779B97F4A7C15u + 1;
-    for (size_t i = 0; i < n; i++)
-        table.at[i] = other.at[i] = any();
-    say_counts("check, foreign", toggleash_check(table.at, n));
-    say_answer("lookup, foreign", toggleash_lookup(table.at, n, any()));
-    say_total("within, foreign", toggleash_within(table.at, n, any(), 32));
-    printf("clear %" PRIu32 "\n", toggleash_clear(table.at, n));
-    printf("clear %" PRIu32 "\n", toggleash_clear(other.at, n));
-    records(table, other, many);
-    words copy = copied(table);
-    lookups(table, copy, many);
-    for (size_t i = 0; i < DAMAGES; i++)
-        damage(table, copy);
+    replay(&four, table, other, many);
+    replay(&six, table, other, many);
     return 0;
 }

@@ -1,11 +1,12 @@
-/* The C face for any processor. The proved functions of the kit's module take every slice and every answer by pointer, which
- * is the same in each calling convention; this file turns that into the calls of toggleash.h, by the convention of the
+/* The C face for any processor. The proved functions of the kit's module take every slice, IPv6 address and answer by pointer,
+ * which is the same in each calling convention; this file turns that into the calls of toggleash.h, by the convention of the
  * processor that it is compiled for. ./build compiles it together with the module, so that a call costs nothing more. */
 #define TOGGLEASH_ARCHIVE
 #include "toggleash.h"
 #include "slice.h"
 
-/* The layout of each answer. */
+/* The layout of an IPv6 address and of each answer. */
+LAID_OUT(ipv6, 16, bytes, uint8_t[16]);
 LAID_OUT(counts, 12, arrays, uint32_t);
 LAID_OUT(answer, 20, block, uint32_t);
 LAID_OUT(total, 8, prefixes, uint32_t);
@@ -26,6 +27,15 @@ void proved_announce(toggleash_update *r, slice *words, uint32_t address, uint32
 void proved_withdraw(toggleash_update *r, slice *words, uint32_t address, uint32_t length, uint32_t feed);
 void proved_write_out(toggleash_written *r, slice *words, slice *buffer);
 void proved_run(toggleash_ran *r, slice *words, slice *feed, slice *reply);
+uint32_t proved_v6_clear(slice *words);
+void proved_v6_check(toggleash_counts *r, slice *words);
+void proved_v6_lookup(toggleash_answer *r, slice *words, toggleash_ipv6 *address);
+void proved_v6_within(toggleash_total *r, slice *words, toggleash_ipv6 *address, uint32_t length);
+void proved_v6_announce(toggleash_update *r, slice *words, toggleash_ipv6 *address, uint32_t length, uint32_t hop,
+                        uint32_t feed, uint8_t preference);
+void proved_v6_withdraw(toggleash_update *r, slice *words, toggleash_ipv6 *address, uint32_t length, uint32_t feed);
+void proved_v6_write_out(toggleash_written *r, slice *words, slice *buffer);
+void proved_v6_run(toggleash_ran *r, slice *words, slice *feed, slice *reply);
 void proved_copy_need(toggleash_needed *r, slice *bytes);
 void proved_copy_build(toggleash_built *r, slice *bytes, slice *words);
 void proved_copy_lookup(toggleash_match *r, slice *words, uint32_t address);
@@ -92,6 +102,63 @@ toggleash_ran toggleash_run(uint32_t *words, size_t n, const uint8_t *feed, size
     toggleash_ran r;
     slice w = of(words, n), f = of(feed, feed_len), p = of(reply, reply_len);
     proved_run(&r, &w, &f, &p);
+    return r;
+}
+
+uint32_t toggleash_v6_clear(uint32_t *words, size_t n) {
+    slice w = of(words, n);
+    return proved_v6_clear(&w);
+}
+
+toggleash_counts toggleash_v6_check(const uint32_t *words, size_t n) {
+    toggleash_counts r;
+    slice w = of(words, n);
+    proved_v6_check(&r, &w);
+    return r;
+}
+
+toggleash_answer toggleash_v6_lookup(const uint32_t *words, size_t n, toggleash_ipv6 address) {
+    toggleash_answer r;
+    slice w = of(words, n);
+    proved_v6_lookup(&r, &w, &address);
+    return r;
+}
+
+toggleash_total toggleash_v6_within(const uint32_t *words, size_t n, toggleash_ipv6 address, uint32_t length) {
+    toggleash_total r;
+    slice w = of(words, n);
+    proved_v6_within(&r, &w, &address, length);
+    return r;
+}
+
+toggleash_update toggleash_v6_announce(uint32_t *words, size_t n, toggleash_ipv6 address, uint32_t length, uint32_t hop,
+                                       uint32_t feed, uint8_t preference) {
+    toggleash_update r;
+    slice w = of(words, n);
+    proved_v6_announce(&r, &w, &address, length, hop, feed, preference);
+    return r;
+}
+
+toggleash_update toggleash_v6_withdraw(uint32_t *words, size_t n, toggleash_ipv6 address, uint32_t length,
+                                       uint32_t feed) {
+    toggleash_update r;
+    slice w = of(words, n);
+    proved_v6_withdraw(&r, &w, &address, length, feed);
+    return r;
+}
+
+toggleash_written toggleash_v6_write_out(const uint32_t *words, size_t n, uint8_t *buffer, size_t room) {
+    toggleash_written r;
+    slice w = of(words, n), b = of(buffer, room);
+    proved_v6_write_out(&r, &w, &b);
+    return r;
+}
+
+toggleash_ran toggleash_v6_run(uint32_t *words, size_t n, const uint8_t *feed, size_t feed_len, uint8_t *reply,
+                               size_t reply_len) {
+    toggleash_ran r;
+    slice w = of(words, n), f = of(feed, feed_len), p = of(reply, reply_len);
+    proved_v6_run(&r, &w, &f, &p);
     return r;
 }
 

@@ -1,10 +1,10 @@
 # Turns the kit's module into one for any processor: awk -v face=FACE.c -f portable.awk FACE.ll MODULE.ll >
 # PORTABLE.ll, all three as text.
 #
-# The module has each exported call twice: the proved function, with every slice and answer by pointer, and a face by x86-64's
-# calling convention. The faces go, since the face has them; the proved functions get the names and the declarations that the face
-# calls them by. What the face calls and the module lacks, or has with other types, ends this with one line and status 1, and so
-# does a call of the module that the face lacks: names inside the module are the kit's own matter and may change with the kit.
+# The module has each exported call twice: the proved function, with every slice, struct and answer by pointer, and a face by
+# x86-64's calling convention. The faces go, since the face has them; the proved functions get the names and the declarations that
+# the face calls them by. What the face calls and the module lacks, or has with other types, ends this with one line and status 1,
+# and so does a call of the module that the face lacks: names inside the module are the kit's own matter and may change with it.
 
 function fail(text) {
     print text > "/dev/stderr"
@@ -77,7 +77,7 @@ dropping {
         dropping = 0
     next
 }
-/^define internal .*@"(toggleash::(copies::)?|resolver::)toggleash_/ {
+/^define internal .*@"(toggleash::((copies|six)::)?|resolver::)toggleash_/ {
     call = name_after("toggleash_")
     if (!(call in given) || types(given[call]) != types(parameters()) || plain(result[call]) != plain(returned()))
         fail("the module has toggleash_" call " with other types than " face ": " $0)

@@ -1,5 +1,5 @@
-//! Counts of the prefixes inside one, beside lookups of addresses inside it: of prefixes of any length anywhere, of held ones, and
-//! of single addresses in the deepest arrays, to which the walk is longest.
+//! Counts of the prefixes inside one, beside lookups of addresses inside it: of prefixes of any length anywhere, of held ones,
+//! and of single addresses in the deepest arrays, to which the walk is longest.
 
 use std::hint::black_box;
 

@@ -1,18 +1,19 @@
 //! The lists and addresses that are measured on.
 
+use compare::family::Family;
 use compare::feeds::hop;
 use compare::lists::Growing;
 use compare::random::Random;
-use reference::{Candidate, CandidateList, Prefix, RouteList};
+use reference::{Address, Candidate, CandidateList, Prefix, RouteList};
 
-pub struct Load {
+pub struct Load<A = u32> {
     pub name: &'static str,
     /// The routes, each of feed 1 with preference 0.
-    pub list: RouteList,
+    pub list: RouteList<A>,
     /// These, and what else the table holds.
-    pub candidates: CandidateList,
-    /// Heads of 24 bits that have an array of their own.
-    pub deepest: Vec<u32>,
+    pub candidates: CandidateList<A>,
+    /// Heads of the deepest level that has arrays.
+    pub deepest: Vec<A>,
 }
 
 /// Random routes, address and length even, until all arrays are needed. Length 0 is left out, as rte_lpm has none.
@@ -30,6 +31,47 @@ pub fn dense(random: &mut Random, arrays: usize, routes: usize) -> Load {
         growing.grow(Prefix::around(head | random.word() >> (8 * level), length), hop(random), arrays);
     }
     load("denser list", &growing)
+}
+
+/// Lengths that networks of IPv6 have, to 64.
+const NETWORKS: [u32; 12] = [16, 20, 24, 29, 32, 36, 40, 44, 48, 52, 56, 64];
+
+/// Networks of IPv6 inside one another, of lengths to 64, until all arrays are needed; then more in these arrays, until there are
+/// so many.
+pub fn networks(random: &mut Random, arrays: usize, routes: usize) -> Load<u128> {
+    let mut growing = Growing::default();
+    let mut held = vec![Prefix { address: 1 << 125, length: 3 }];
+    while growing.need() < arrays {
+        let outer = random.pick(&held);
+        let longer: Vec<u32> = NETWORKS.into_iter().filter(|&length| length > outer.length).take(3).collect();
+        if longer.is_empty() {
+            continue;
+        }
+        let any = u128::any(random) & !u128::mask(outer.length);
+        let prefix = Prefix::around(outer.address | any, random.pick(&longer));
+        growing.grow(prefix, hop(random), arrays);
+        held.push(prefix);
+    }
+    let heads: Vec<(u32, u128)> = growing.heads().collect();
+    while growing.count() < routes {
+        let (level, head) = random.pick(&heads);
+        let length = 8 * level + random.within(1..=8) as u32;
+        let any = u128::any(random) & !u128::mask(8 * level);
+        growing.grow(Prefix::around(head | any, length), hop(random), arrays);
+    }
+    load(if routes == 0 { "IPv6 networks" } else { "denser IPv6 networks" }, &growing)
+}
+
+/// Addresses inside the longest prefixes held.
+pub fn inside_longest<A: Family>(random: &mut Random, load: &Load<A>, count: usize) -> Vec<A> {
+    let prefixes = || load.list.routes().iter().map(|route| route.prefix);
+    let longest = prefixes().map(|prefix| prefix.length).max();
+    let longest: Vec<Prefix<A>> = prefixes().filter(|prefix| Some(prefix.length) == longest).collect();
+    let inside = |random: &mut Random| {
+        let prefix = random.pick(&longest);
+        prefix.address | A::any(random) & !A::mask(prefix.length)
+    };
+    (0..count).map(|_| inside(random)).collect()
 }
 
 /// The same routes, each with a candidate of feed 2 that waits behind it.
@@ -52,14 +94,15 @@ fn filled(random: &mut Random, arrays: usize) -> Growing {
     growing
 }
 
-fn load(name: &'static str, growing: &Growing) -> Load {
-    let deepest = growing.heads().filter(|&(level, _)| level == 3).map(|(_, head)| head).collect();
+fn load<A: Family>(name: &'static str, growing: &Growing<A>) -> Load<A> {
+    let last = growing.heads().map(|(level, _)| level).max();
+    let deepest = growing.heads().filter(|&(level, _)| Some(level) == last).map(|(_, head)| head).collect();
     let list = growing.list();
     Load { name, candidates: (&list).into(), list, deepest }
 }
 
-pub fn random_addresses(random: &mut Random, count: usize) -> Vec<u32> {
-    (0..count).map(|_| random.word()).collect()
+pub fn random_addresses<A: Family>(random: &mut Random, count: usize) -> Vec<A> {
+    (0..count).map(|_| A::any(random)).collect()
 }
 
 pub fn deep_addresses(random: &mut Random, load: &Load, count: usize) -> Vec<u32> {

@@ -1,5 +1,6 @@
-//! Measures the library beside other ways of doing the same, all in one run: `bench/run`, `bench/run --quick` for a
-//! rough look, or `bench/run --runs` for the updates inside a run alone. A line gives the median time of one call and how much of it the library takes.
+//! Measures the library beside other ways of doing the same, all in one run: `bench/run`, with `--runs` for the updates inside
+//! an IPv4 run alone, with `--six` for IPv6 alone, with `--quick` for a rough look. A line gives the median time of one call
+//! and how much of it the library takes.
 
 mod boxed;
 mod clock;
@@ -8,20 +9,24 @@ mod insides;
 mod lists;
 mod lpm;
 mod runs;
+mod six;
 mod trie;
 
 use boxed::Boxed;
 use clock::{measure, Way};
+use compare::family::Family;
 use compare::random::Random;
 use lists::Load;
 use lpm::Lpm;
+use reference::feed::{kind_of, Role};
 use reference::{layout, CandidateList, Route};
 use toggleash::ffi::{self, Answer, Match};
-use toggleash::Candidate;
+use toggleash::{Candidate, Family as _};
 use trie::Trie;
 
 const ARRAYS: usize = 4_096;
 const ROUTES: usize = 100_000;
+const WORDS: [&str; 3] = ["--quick", "--runs", "--six"];
 /// About as many as the internet's routers hold.
 const MOST: usize = 1_000_000;
 
@@ -39,19 +44,23 @@ struct Scale {
 
 fn main() {
     let full = Scale { addresses: 10_000_000, rounds: 5 };
-    let (scale, all) = match std::env::args().nth(1).as_deref() {
-        None => (full, true),
-        Some("--quick") => (Scale { addresses: 500_000, rounds: 3 }, true),
-        Some("--runs") => (full, false),
-        Some(_) => panic!("usage: bench/run [--quick | --runs]"),
-    };
+    let words: Vec<String> = std::env::args().skip(1).collect();
+    assert!(words.iter().all(|word| WORDS.contains(&word.as_str())), "usage: bench/run [--quick] [--runs | --six]");
+    let told = |word: &str| words.iter().any(|told| told == word);
+    let scale = if told("--quick") { Scale { addresses: 500_000, rounds: 3 } } else { full };
+    let (runs, six) = (!told("--six"), !told("--runs"));
     let mut random = Random::for_case(1, "bench", 0);
     let lpm = Lpm::open(2 * MOST as u32, 2 * ARRAYS as u32);
     println!("one call, median of {} rounds; last column: the library's time over this one's", scale.rounds);
-    if all {
+    if runs && six {
         calls(&mut random, &scale, lpm.as_ref());
     }
-    runs::measure_all(&mut random, &scale, lpm.as_ref());
+    if runs {
+        runs::measure_all(&mut random, &scale, lpm.as_ref());
+    }
+    if six {
+        six::measure_all(&mut random, &scale);
+    }
     if lpm.is_none() {
         println!("rte_lpm took no part: libdpdk-dev is not installed, or it did not start");
     }
@@ -77,9 +86,9 @@ fn calls(random: &mut Random, scale: &Scale, lpm: Option<&Lpm>) {
 }
 
 /// The list as a table, which the library's check must know.
-fn table(list: &CandidateList, arrays: usize) -> Vec<u32> {
+fn table<A: Family>(list: &CandidateList<A>, arrays: usize) -> Vec<u32> {
     let words = layout::lay(list, arrays, &(2..=arrays).collect::<Vec<_>>());
-    let counts = toggleash::check(&words).expect("a table laid out is one");
+    let counts = A::Sent::check(&words).expect("a table laid out is one");
     assert_eq!(counts.routes as usize, list.candidates().len());
     words
 }
@@ -125,7 +134,7 @@ fn lookups(random: &mut Random, scale: &Scale, load: &Load, lpm: Option<&Lpm>) {
     }
 }
 
-fn title(what: &str, load: &Load, more: &str) -> String {
+fn title<A: Family>(what: &str, load: &Load<A>, more: &str) -> String {
     format!("{what}, {}, {} arrays, {} routes, {more}", load.name, load.list.need(), load.list.routes().len())
 }
 
@@ -154,36 +163,44 @@ fn accepted(ran: Result<toggleash::Ran, toggleash::Refusal>) -> u64 {
     ran.expect("a table stays one").accepted as u64
 }
 
-/// The records that withdraw a route and announce it again, by feed 1 as it is.
-fn take_and_put(route: &Route) -> Vec<u8> {
-    let (address, length) = (route.prefix.address.to_be_bytes(), [route.prefix.length as u8]);
+/// The records that withdraw a route and announce it again, by feed 1 as it is; of kinds that name no feed where there are such.
+fn take_and_put<A: Family>(route: &Route<A>) -> Vec<u8> {
+    let (address, length) = (route.prefix.address.bytes(), [route.prefix.length as u8]);
     let hop = (route.hop as u16).to_be_bytes();
-    [&[2][..], &address, &length, &[1], &address, &length, &hop].concat()
+    let kind = |plain, named| match kind_of::<A>(plain) {
+        Some(kind) => (kind, false),
+        None => (kind_of::<A>(named).expect("both families have one"), true),
+    };
+    let (withdraw, feed) = kind(Role::Withdraw, Role::WithdrawFor);
+    let taken = [&[withdraw][..], &address, &length, if feed { &[1] } else { &[] }].concat();
+    let (announce, feed) = kind(Role::Announce, Role::AnnounceFor);
+    let put = [&[announce][..], &address, &length, &hop, if feed { &[1, 0] } else { &[] }].concat();
+    [taken, put].concat()
 }
 
 /// Gives the number of updates accepted.
-fn flap(words: &mut [u32], routes: &[Route]) -> u64 {
+fn flap<A: Family>(words: &mut [u32], routes: &[Route<A>]) -> u64 {
     let mut accepted = 0;
     for route in routes {
-        let (address, length) = (route.prefix.address.into(), route.prefix.length);
-        accepted += u64::from(toggleash::withdraw(words, address, length, 1).is_ok());
-        accepted += u64::from(toggleash::announce(words, address, length, Candidate::via(route.hop)).is_ok());
+        let (address, length) = (A::Sent::from(route.prefix.address), route.prefix.length);
+        accepted += u64::from(A::Sent::withdraw(words, address, length, 1).is_ok());
+        accepted += u64::from(A::Sent::announce(words, address, length, Candidate::via(route.hop)).is_ok());
     }
     accepted
 }
 
 /// The calls that read or write the whole table.
-fn whole(scale: &Scale, load: &Load) {
+fn whole<A: Family>(scale: &Scale, load: &Load<A>) {
     let words = &table(&load.candidates, ARRAYS);
     let mut buffer = vec![0; load.candidates.encoded_size()];
     let mut cleared = words.clone();
-    let check = || u64::from(toggleash::check(words).expect("a table").routes);
-    let write_out = || toggleash::write_out(words, &mut buffer).expect("room enough").len() as u64;
-    let clear = || u64::from(toggleash::clear(&mut cleared).is_ok());
+    let check = || u64::from(A::Sent::check(words).expect("a table").routes);
+    let write_out = || A::Sent::write_out(words, &mut buffer).expect("room enough").len() as u64;
+    let clear = || u64::from(A::Sent::clear(&mut cleared).is_ok());
     let ways = [
-        ("check", Way::new("toggleash_check", check)),
-        ("write out", Way::new("toggleash_write_out", write_out)),
-        ("clear", Way::new("toggleash_clear", clear)),
+        ("check", Way::new("the library", check)),
+        ("write out", Way::new("the library", write_out)),
+        ("clear", Way::new("the library", clear)),
     ];
     for (what, way) in ways {
         measure(&title(what, load, "one call"), scale.rounds, 1, vec![way]);

@@ -1,6 +1,25 @@
 //! A trie of one bit a step with its nodes in one vector.
 
-use reference::{Prefix, Route, RouteList};
+use std::marker::PhantomData;
+
+use reference::{Address, Prefix, Route, RouteList};
+
+/// An address whose bits are read one by one, the first being number 0.
+pub trait Bits: Address {
+    fn bit(self, at: u32) -> usize;
+}
+
+impl Bits for u32 {
+    fn bit(self, at: u32) -> usize {
+        (self >> (31 - at) & 1) as usize
+    }
+}
+
+impl Bits for u128 {
+    fn bit(self, at: u32) -> usize {
+        (self >> (127 - at) & 1) as usize
+    }
+}
 
 /// Children by the next bit, 0 for none, and the hop of a route that ends here, or 0.
 #[derive(Clone, Copy, Default)]
@@ -9,14 +28,15 @@ struct Node {
     hop: u32,
 }
 
-pub struct Trie {
+pub struct Trie<A = u32> {
     nodes: Vec<Node>,
     free: Vec<u32>,
+    of: PhantomData<A>,
 }
 
-impl Trie {
-    pub fn new(list: &RouteList) -> Trie {
-        let mut trie = Trie { nodes: vec![Node::default()], free: Vec::new() };
+impl<A: Bits> Trie<A> {
+    pub fn new(list: &RouteList<A>) -> Trie<A> {
+        let mut trie = Trie { nodes: vec![Node::default()], free: Vec::new(), of: PhantomData };
         for route in list.routes() {
             trie.announce(route.prefix, route.hop);
         }
@@ -25,17 +45,17 @@ impl Trie {
 
     /// Hop and length of the longest match.
     #[inline(never)]
-    pub fn lookup(&self, address: u32) -> Option<(u32, u32)> {
+    pub fn lookup(&self, address: A) -> Option<(u32, u32)> {
         let mut found = None;
         let mut node = &self.nodes[0];
-        for length in 0..=32 {
+        for length in 0..=A::BITS {
             if node.hop != 0 {
                 found = Some((node.hop, length));
             }
-            if length == 32 {
+            if length == A::BITS {
                 break;
             }
-            match node.children[(address >> (31 - length) & 1) as usize] {
+            match node.children[address.bit(length)] {
                 0 => break,
                 child => node = &self.nodes[child as usize],
             }
@@ -44,10 +64,10 @@ impl Trie {
     }
 
     /// The hop becomes the prefix's; nodes on the way are made.
-    pub fn announce(&mut self, prefix: Prefix, hop: u32) {
+    pub fn announce(&mut self, prefix: Prefix<A>, hop: u32) {
         let mut at = 0;
         for length in 0..prefix.length {
-            let bit = (prefix.address >> (31 - length) & 1) as usize;
+            let bit = prefix.address.bit(length);
             if self.nodes[at].children[bit] == 0 {
                 self.nodes[at].children[bit] = self.gain();
             }
@@ -57,10 +77,10 @@ impl Trie {
     }
 
     /// The prefix's hop goes, and nodes that then hold nothing.
-    pub fn withdraw(&mut self, prefix: Prefix) {
+    pub fn withdraw(&mut self, prefix: Prefix<A>) {
         let mut path = vec![0];
         for length in 0..prefix.length {
-            let bit = (prefix.address >> (31 - length) & 1) as usize;
+            let bit = prefix.address.bit(length);
             path.push(self.nodes[path[length as usize]].children[bit] as usize);
         }
         self.nodes[path[prefix.length as usize]].hop = 0;
@@ -75,12 +95,12 @@ impl Trie {
     }
 
     /// The sum of the hops found.
-    pub fn sum(&self, addresses: &[u32]) -> u64 {
+    pub fn sum(&self, addresses: &[A]) -> u64 {
         addresses.iter().map(|&address| u64::from(self.lookup(address).map_or(0, |(hop, _)| hop))).sum()
     }
 
     /// Takes the routes out and puts them back; gives the number of updates.
-    pub fn flap(&mut self, routes: &[Route]) -> u64 {
+    pub fn flap(&mut self, routes: &[Route<A>]) -> u64 {
         for route in routes {
             self.withdraw(route.prefix);
             self.announce(route.prefix, route.hop);

@@ -8,10 +8,13 @@ uint32_t lent(uint32_t parameter[TOGGLEASH_WORDS(1)], const uint32_t *constant);
 
 uint32_t lent(uint32_t parameter[TOGGLEASH_WORDS(1)], const uint32_t *constant) {
     toggleash_table table = TOGGLEASH_TABLE(words);
+    toggleash_v6_table six = TOGGLEASH_V6_TABLE(words);
+    toggleash_ipv6 address = {{0}};
     toggleash_copy copy = TOGGLEASH_COPY(card);
     uint32_t *pointer = parameter;
     uint32_t refusal = toggleash_table_clear(table) + toggleash_copy_make(copy, list, sizeof list).refusal;
     refusal += toggleash_table_announce(table, 0, 0, 1, 1, 0).refusal + toggleash_table_withdraw(table, 0, 0, 1).refusal;
+    refusal += toggleash_v6_table_clear(six) + toggleash_v6_table_find(six, address).refusal;
     (void)pointer, (void)constant, (void)odd, (void)bytes;
 #if MISTAKE == 0
     return refusal;
@@ -46,5 +49,24 @@ uint32_t lent(uint32_t parameter[TOGGLEASH_WORDS(1)], const uint32_t *constant) 
     return refusal + toggleash_table_announce(table, 0, 0, 1).refusal;
 #elif MISTAKE == 15
     return refusal + toggleash_table_withdraw(table, 0, 0).refusal;
+#elif MISTAKE == 16 /* a table of the other family */
+    return refusal + toggleash_v6_table_find(table, address).hop;
+#elif MISTAKE == 17
+    return refusal + toggleash_table_clear(six);
+#elif MISTAKE == 18
+    return refusal + toggleash_v6_table_find(copy, address).hop;
+#elif MISTAKE == 19 /* an address of the other family */
+    return refusal + toggleash_table_find(table, address).hop;
+#elif MISTAKE == 20
+    return refusal + toggleash_v6_table_find(six, 1).hop;
+#elif MISTAKE == 21 /* an address by its pointer */
+    return refusal + toggleash_v6_table_find(six, address.bytes).hop;
+#elif MISTAKE == 22 /* no IPv6 table has so many words either */
+    return refusal + toggleash_v6_table_clear(TOGGLEASH_V6_TABLE(odd));
+#elif MISTAKE == 23
+    return refusal + toggleash_v6_table_clear(TOGGLEASH_V6_TABLE(pointer));
+#elif MISTAKE == 24 /* a refusal that nobody sees */
+    toggleash_v6_table_clear(six);
+    return refusal;
 #endif
 }

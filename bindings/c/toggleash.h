@@ -1,5 +1,6 @@
-/* Toggleash: an IPv4 route table in 32-bit words that the caller lends. Every call checks its input and either answers
- * or refuses with a number; a refused call has changed nothing lent. Link with libtoggleash.a. C11 or C++11 and later.
+/* Toggleash: a route table of IPv4 or IPv6 in 32-bit words that the caller lends. Every call checks its input and either
+ * answers or refuses with a number; a refused call has changed nothing lent. Link with libtoggleash.a. C11 or C++11 and
+ * later.
  *
  *     static uint32_t words[TOGGLEASH_WORDS(7)];
  *     toggleash_table table = TOGGLEASH_TABLE(words);
@@ -11,13 +12,24 @@
  * table of their own. They are in the byte order of the machine: to hand routes to another machine write them out,
  * which gives bytes that are the same everywhere. Start with toggleash_table_clear.
  *
- * Tables and copies. A line card that only looks up can have a copy of a route list, in words of its own that are no
- * table: make it from the bytes that were written out, in as many words as toggleash_copy_need tells or more. The
- * structs toggleash_table and toggleash_copy say where the words are and how many, so that one kind cannot be handed in
- * for the other, nor a size in bytes for a number of words.
+ * Families. A table is of IPv4 or of IPv6; the words are as many for both. A call on an IPv6 table has v6 in its name:
  *
- * Addresses, hops. An address is a number, a.b.c.d being a * 2^24 + b * 2^16 + c * 2^8 + d. A hop is from 1 to 65,535,
- * and what it stands for is the caller's matter.
+ *     toggleash_v6_table table = TOGGLEASH_V6_TABLE(words);
+ *
+ *     if (toggleash_v6_table_clear(table)) ..
+ *
+ * It does what the IPv4 call does, with addresses of 16 bytes and lengths to 128. The words do not say of which family they
+ * are: an IPv4 table is an IPv6 table too, and an IPv6 table is one of IPv4 as long as no prefix in it is over 32 bits long
+ * (docs/LAYOUT.md). So a call may not notice that it is handed the other family's words; the types below do.
+ *
+ * Tables and copies. A line card that only looks up can have a copy of an IPv4 route list, in words of its own that are
+ * no table: make it from the bytes that were written out, in as many words as toggleash_copy_need tells or more. The
+ * structs toggleash_table, toggleash_v6_table and toggleash_copy say where the words are and how many, so that one kind
+ * cannot be handed in for another, nor a size in bytes for a number of words.
+ *
+ * Addresses, hops. An IPv4 address is a number, a.b.c.d being a * 2^24 + b * 2^16 + c * 2^8 + d. An IPv6 address is its 16
+ * bytes in network order, as in the s6_addr of a struct in6_addr, and is passed by value: toggleash_ipv6. A hop is from 1
+ * to 65,535, and what it stands for is the caller's matter.
  *
  * Candidates. A prefix holds up to four, one for each feed 1 to 4, each with a hop and a preference from 0 to 255. The
  * feed's number tells from which side a candidate was heard; the records of one run may name several. The candidate with
@@ -58,7 +70,8 @@ enum {
     TOGGLEASH_WORD_COUNT = 1,   /* the number of words is not a multiple of 3,072 from 6,144 to 12,585,984 */
     TOGGLEASH_NOT_A_TABLE = 2,  /* the words are not a table. A lookup does not test that; it gives 2 where a cell on its
                                    walk has a length over 8, no link and a block over 8, or a link to an array that the
-                                   words do not have, as any link has at the last of the four levels (docs/LAYOUT.md).
+                                   words do not have, as any link has at the last of the four levels, for IPv6 of the
+                                   sixteen (docs/LAYOUT.md).
                                    Nor does toggleash_within; it gives 2 where its walk meets a link to an array that the
                                    words do not have, or a total over 511 for each array of the words.
                                    From toggleash_copy_need and making a copy: the bytes are not one whole list of a
@@ -66,6 +79,7 @@ enum {
                                    the words are fewer than 1,024, or its walk meets a best match, the place of a hash
                                    table or the mark of an entry that no copy has (docs/COPY.md) */
     TOGGLEASH_LENGTH_OVER_32 = 3,
+    TOGGLEASH_LENGTH_OVER_128 = 3, /* what 3 means from an IPv6 call */
     TOGGLEASH_STRAY_BIT = 4,    /* a bit of the address after the first `length` is set */
     TOGGLEASH_HOP_OUT_OF_RANGE = 5, /* the hop is 0 or over 65,535 */
     TOGGLEASH_NOT_HELD = 7,     /* the feed has no candidate for this prefix that could be withdrawn */
@@ -80,12 +94,12 @@ enum {
 enum {
     TOGGLEASH_STOP_END = 0,     /* an end record */
     TOGGLEASH_STOP_NO_BYTE = 1, /* no byte of the feed left */
-    TOGGLEASH_STOP_KIND = 2,    /* a kind that is not 0 to 5 */
+    TOGGLEASH_STOP_KIND = 2,    /* a kind that the table's family has not: not 0 to 5, for IPv6 not 0 and not 6 to 8 */
     TOGGLEASH_STOP_BODY = 3,    /* a record whose body is short */
     TOGGLEASH_STOP_REPLY = 4    /* fewer than TOGGLEASH_REPLY_MOST reply bytes free */
 };
 
-/* The first byte of a record, and of a reply. */
+/* The first byte of a record, and of a reply. 0 and the replies are of both families. */
 enum {
     TOGGLEASH_KIND_END = 0,
     TOGGLEASH_KIND_ANNOUNCE = 1,     /* address 4 bytes, length 1, hop 2; the feed is 1 and the preference 0 */
@@ -93,6 +107,9 @@ enum {
     TOGGLEASH_KIND_LOOKUP = 3,       /* address 4 */
     TOGGLEASH_KIND_ANNOUNCE_FOR = 4, /* as kind 1, then a byte for the feed and one for the preference */
     TOGGLEASH_KIND_WITHDRAW_FOR = 5, /* as kind 2, then a byte for the feed */
+    TOGGLEASH_KIND_V6_ANNOUNCE = 6,  /* address 16, length 1, hop 2, feed 1, preference 1 */
+    TOGGLEASH_KIND_V6_WITHDRAW = 7,  /* address 16, length 1, feed 1 */
+    TOGGLEASH_KIND_V6_LOOKUP = 8,    /* address 16 */
     TOGGLEASH_KIND_DONE = 16,        /* hop 2, cells 2 */
     TOGGLEASH_KIND_FOUND = 17,       /* hop 2, length 1, block 1 */
     TOGGLEASH_KIND_NONE = 18,        /* block 1 */
@@ -106,18 +123,21 @@ enum {
     TOGGLEASH_MOST_WORDS = 12585984,
     TOGGLEASH_COPY_LEAST_WORDS = 1024, /* a copy of no route */
     TOGGLEASH_MOST_LENGTH = 32,
+    TOGGLEASH_V6_MOST_LENGTH = 128,
     TOGGLEASH_MOST_HOP = 65535,
     TOGGLEASH_MOST_FEED = 4,
     TOGGLEASH_MOST_CELLS = 256,
     TOGGLEASH_RECORD_MOST = 10,        /* bytes of the longest record of a feed */
+    TOGGLEASH_V6_RECORD_MOST = 22,
     TOGGLEASH_REPLY_MOST = 5           /* bytes of the longest reply: so many a record are always enough */
 };
 
-/* The words of a table of so many arrays. */
+/* The words of a table of so many arrays, of either family. */
 #define TOGGLEASH_WORDS(arrays) ((size_t)3072 * ((size_t)(arrays) + 1))
 
 /* The bytes of a written-out list of so many candidates, the check's `routes`. */
 #define TOGGLEASH_WRITTEN_BYTES(routes) ((size_t)10 * (size_t)(routes) + 1)
+#define TOGGLEASH_V6_WRITTEN_BYTES(routes) ((size_t)22 * (size_t)(routes) + 1)
 
 /* ---- The version
  *
@@ -151,7 +171,12 @@ static uint32_t (*const toggleash_version_linked_)(void) TOGGLEASH_KEPT_ = toggl
 #define TOGGLEASH_ANSWER
 #endif
 
-/* ---- Answers */
+/* ---- An IPv6 address, by value, in network order: the highest byte first */
+typedef struct {
+    uint8_t bytes[16];
+} toggleash_ipv6;
+
+/* ---- Answers, of both families alike */
 
 /* What the check counts. */
 typedef struct {
@@ -166,8 +191,8 @@ typedef struct {
     uint32_t refusal; /* 0, 1 or 2 */
     uint32_t found;   /* 1: a route matches; 0: none does, and hop and length are 0 */
     uint32_t hop;     /* hop of the longest match */
-    uint32_t length;  /* its length, 0 to 32 */
-    uint32_t block;   /* 0 to 32, where none is found too; in a table never below the length */
+    uint32_t length;  /* its length, 0 to 32, for IPv6 to 128 */
+    uint32_t block;   /* 0 to 32, for IPv6 to 128, where none is found too; in a table never below the length */
 } toggleash_answer;
 
 /* What lies inside a prefix. */
@@ -195,7 +220,7 @@ typedef struct {
 /* What writing out wrote. */
 typedef struct {
     uint32_t refusal; /* 0, 1, 2 or 9 */
-    uint64_t bytes;   /* 10 for each candidate, and 1 */
+    uint64_t bytes;   /* 10 for each candidate, for IPv6 22, and 1 */
 } toggleash_written;
 
 /* What a run did. */
@@ -277,13 +302,34 @@ TOGGLEASH_ANSWER toggleash_built toggleash_copy_build(const uint8_t *bytes, size
  * With fewer than 1,024 words, null and 0 too, it always gives 2. */
 TOGGLEASH_ANSWER toggleash_match toggleash_copy_lookup(const uint32_t *words, size_t n, uint32_t address);
 
+/* The calls on IPv6 tables. Each is as the one above without v6 in its name, but that it refuses with 3 a length over 128,
+ * writes out records of kind 6, of 22 bytes, and takes feeds of kinds 0 and 6 to 8. */
+TOGGLEASH_ANSWER uint32_t toggleash_v6_clear(uint32_t *words, size_t n);
+TOGGLEASH_ANSWER toggleash_counts toggleash_v6_check(const uint32_t *words, size_t n);
+TOGGLEASH_ANSWER toggleash_answer toggleash_v6_lookup(const uint32_t *words, size_t n, toggleash_ipv6 address);
+TOGGLEASH_ANSWER toggleash_total toggleash_v6_within(const uint32_t *words, size_t n, toggleash_ipv6 address,
+                                                     uint32_t length);
+TOGGLEASH_ANSWER toggleash_update toggleash_v6_announce(uint32_t *words, size_t n, toggleash_ipv6 address, uint32_t length,
+                                                        uint32_t hop, uint32_t feed, uint8_t preference);
+TOGGLEASH_ANSWER toggleash_update toggleash_v6_withdraw(uint32_t *words, size_t n, toggleash_ipv6 address, uint32_t length,
+                                                        uint32_t feed);
+TOGGLEASH_ANSWER toggleash_written toggleash_v6_write_out(const uint32_t *words, size_t n, uint8_t *buffer, size_t room);
+TOGGLEASH_ANSWER toggleash_ran toggleash_v6_run(uint32_t *words, size_t n, const uint8_t *feed, size_t feed_len,
+                                                uint8_t *reply, size_t reply_len);
+
 /* ---- Tables and copies */
 
-/* Words that are a table, or are to become one by toggleash_table_clear, and their number. */
+/* Words that are an IPv4 table, or are to become one by toggleash_table_clear, and their number. */
 typedef struct {
     uint32_t *words;
     size_t n;
 } toggleash_table;
+
+/* Words that are an IPv6 table, or are to become one by toggleash_v6_table_clear, and their number. */
+typedef struct {
+    uint32_t *words;
+    size_t n;
+} toggleash_v6_table;
 
 /* Words that are a copy of a route list, or are to become one by toggleash_copy_make, and their number. */
 typedef struct {
@@ -291,22 +337,23 @@ typedef struct {
     size_t n;
 } toggleash_copy;
 
-/* TOGGLEASH_TABLE(array) and TOGGLEASH_COPY(array) make one of an array of uint32_t. Anything else does not compile: a
- * pointer, an array of other elements, and for a table an array of a number of words that no table has. Where p points
- * to a whole array, `uint32_t (*p)[TOGGLEASH_WORDS(7)]`, it is TOGGLEASH_TABLE(*p). */
+/* TOGGLEASH_TABLE(array), TOGGLEASH_V6_TABLE(array) and TOGGLEASH_COPY(array) make one of an array of uint32_t. Anything
+ * else does not compile: a pointer, an array of other elements, and for a table an array of a number of words that no
+ * table has. Where p points to a whole array, `uint32_t (*p)[TOGGLEASH_WORDS(7)]`, it is TOGGLEASH_TABLE(*p). */
 #define TOGGLEASH_FITS_(n) ((n) % 3072 == 0 && (n) >= TOGGLEASH_LEAST_WORDS && (n) <= TOGGLEASH_MOST_WORDS)
 
 #ifdef __cplusplus
 extern "C++" {
-template <size_t n> constexpr toggleash_table toggleash_table_of_(uint32_t (&words)[n]) {
+template <typename table, size_t n> constexpr table toggleash_table_of_(uint32_t (&words)[n]) {
     static_assert(TOGGLEASH_FITS_(n), "a table has TOGGLEASH_WORDS(arrays) words");
-    return toggleash_table{words, n};
+    return table{words, n};
 }
 template <size_t n> constexpr toggleash_copy toggleash_copy_of_(uint32_t (&words)[n]) {
     return toggleash_copy{words, n};
 }
 }
-#define TOGGLEASH_TABLE(array) (toggleash_table_of_(array))
+#define TOGGLEASH_TABLE(array) (toggleash_table_of_<toggleash_table>(array))
+#define TOGGLEASH_V6_TABLE(array) (toggleash_table_of_<toggleash_v6_table>(array))
 #define TOGGLEASH_COPY(array) (toggleash_copy_of_(array))
 #else
 /* The address of an array is a pointer to an array of so many elements, that of a pointer is not; the length of the type
@@ -314,8 +361,10 @@ template <size_t n> constexpr toggleash_copy toggleash_copy_of_(uint32_t (&words
 #define TOGGLEASH_LENGTH_(array) (sizeof(array) / sizeof((array)[0]))
 #define TOGGLEASH_ARRAY_(array, right)                                                                                   \
     _Generic(&(array), uint32_t(*)[TOGGLEASH_LENGTH_(array) + !(right)]: TOGGLEASH_LENGTH_(array))
-#define TOGGLEASH_TABLE(array)                                                                                           \
-    ((toggleash_table){(array), TOGGLEASH_ARRAY_(array, TOGGLEASH_FITS_(TOGGLEASH_LENGTH_(array)))})
+#define TOGGLEASH_TABLE_(table, array)                                                                                   \
+    ((table){(array), TOGGLEASH_ARRAY_(array, TOGGLEASH_FITS_(TOGGLEASH_LENGTH_(array)))})
+#define TOGGLEASH_TABLE(array) TOGGLEASH_TABLE_(toggleash_table, array)
+#define TOGGLEASH_V6_TABLE(array) TOGGLEASH_TABLE_(toggleash_v6_table, array)
 #define TOGGLEASH_COPY(array) ((toggleash_copy){(array), TOGGLEASH_ARRAY_(array, 1)})
 #endif
 
@@ -325,6 +374,13 @@ static inline toggleash_table toggleash_table_at(uint32_t *words, uint32_t array
     toggleash_table table;
     table.words = words;
     table.n = arrays <= TOGGLEASH_MOST_ARRAYS ? TOGGLEASH_WORDS(arrays) : 0;
+    return table;
+}
+
+static inline toggleash_v6_table toggleash_v6_table_at(uint32_t *words, uint32_t arrays) {
+    toggleash_v6_table table;
+    table.words = words;
+    table.n = toggleash_table_at(words, arrays).n;
     return table;
 }
 
@@ -377,6 +433,46 @@ TOGGLEASH_ANSWER static inline toggleash_ran toggleash_table_run(toggleash_table
     return toggleash_run(table.words, table.n, feed, feed_len, reply, reply_len);
 }
 
+TOGGLEASH_ANSWER static inline uint32_t toggleash_v6_table_clear(toggleash_v6_table table) {
+    return toggleash_v6_clear(table.words, table.n);
+}
+
+TOGGLEASH_ANSWER static inline toggleash_counts toggleash_v6_table_check(toggleash_v6_table table) {
+    return toggleash_v6_check(table.words, table.n);
+}
+
+TOGGLEASH_ANSWER static inline toggleash_answer toggleash_v6_table_find(toggleash_v6_table table, toggleash_ipv6 address) {
+    return toggleash_v6_lookup(table.words, table.n, address);
+}
+
+TOGGLEASH_ANSWER static inline toggleash_total toggleash_v6_table_within(toggleash_v6_table table, toggleash_ipv6 address,
+                                                                         uint32_t length) {
+    return toggleash_v6_within(table.words, table.n, address, length);
+}
+
+TOGGLEASH_ANSWER static inline toggleash_update toggleash_v6_table_announce(toggleash_v6_table table,
+                                                                            toggleash_ipv6 address, uint32_t length,
+                                                                            uint32_t hop, uint32_t feed,
+                                                                            uint8_t preference) {
+    return toggleash_v6_announce(table.words, table.n, address, length, hop, feed, preference);
+}
+
+TOGGLEASH_ANSWER static inline toggleash_update toggleash_v6_table_withdraw(toggleash_v6_table table,
+                                                                            toggleash_ipv6 address, uint32_t length,
+                                                                            uint32_t feed) {
+    return toggleash_v6_withdraw(table.words, table.n, address, length, feed);
+}
+
+TOGGLEASH_ANSWER static inline toggleash_written toggleash_v6_table_write(toggleash_v6_table table, uint8_t *buffer,
+                                                                          size_t room) {
+    return toggleash_v6_write_out(table.words, table.n, buffer, room);
+}
+
+TOGGLEASH_ANSWER static inline toggleash_ran toggleash_v6_table_run(toggleash_v6_table table, const uint8_t *feed,
+                                                                    size_t feed_len, uint8_t *reply, size_t reply_len) {
+    return toggleash_v6_run(table.words, table.n, feed, feed_len, reply, reply_len);
+}
+
 TOGGLEASH_ANSWER static inline toggleash_built toggleash_copy_make(toggleash_copy copy, const uint8_t *bytes,
                                                                    size_t bytes_len) {
     return toggleash_copy_build(bytes, bytes_len, copy.words, copy.n);
@@ -394,7 +490,7 @@ static inline const char *toggleash_refusal_text(uint32_t refusal) {
     case 0: return "answered";
     case TOGGLEASH_WORD_COUNT: return "the number of words is not a multiple of 3,072 from 6,144 to 12,585,984";
     case TOGGLEASH_NOT_A_TABLE: return "the words are not a table or not a copy, or the bytes not a list";
-    case TOGGLEASH_LENGTH_OVER_32: return "the length is over 32";
+    case TOGGLEASH_LENGTH_OVER_32: return "the length is over 32, or of a prefix of IPv6 over 128";
     case TOGGLEASH_STRAY_BIT: return "a bit after the length is set";
     case TOGGLEASH_HOP_OUT_OF_RANGE: return "the hop is 0 or over 65,535";
     case TOGGLEASH_NOT_HELD: return "the feed has no candidate for the prefix";
@@ -410,7 +506,7 @@ static inline const char *toggleash_stop_text(uint32_t stop) {
     switch (stop) {
     case TOGGLEASH_STOP_END: return "end";
     case TOGGLEASH_STOP_NO_BYTE: return "no byte left";
-    case TOGGLEASH_STOP_KIND: return "the next record's kind is not 0 to 5";
+    case TOGGLEASH_STOP_KIND: return "the next record's kind is not 0 to 5, or for IPv6 not 0 and not 6 to 8";
     case TOGGLEASH_STOP_BODY: return "the next record's body is short";
     case TOGGLEASH_STOP_REPLY: return "fewer than 5 reply bytes are free";
     default: return "no stop has this number";

@@ -33,7 +33,7 @@ pub fn list(random: &mut Random, prefixes: usize, tally: &mut Tally) -> Same {
     build(&bytes, &mut words, tally)?;
     let addresses = addresses(random, list.winners());
     table.lookup(&addresses)?;
-    tally.lookups += addresses.len() as u64;
+    tally.four.lookups += addresses.len() as u64;
     look_up(&words, &addresses, Some(list.winners()), tally)
 }
 

@@ -2,18 +2,19 @@
 
 use std::collections::VecDeque;
 
-use reference::layout::{cells, fill_totals, tag_below, unused, winners, word, Arrays, Cell, End};
-use reference::layout::{CELLS, HOPS, LEVELS, LINKS, SLOT, TOTALS, UNUSED};
+use reference::layout::{self, cells, fill_totals, tag_below, unused, winners, word, Arrays, Cell, End};
+use reference::layout::{CELLS, HOPS, LINKS, SLOT, TOTALS, UNUSED};
 use reference::memory::ARRAY_WORDS;
 use reference::{Address, CandidateList, Prefix};
 
+use crate::family::Family;
 use crate::feeds::{preference, Mood, Source, Terrain};
 use crate::guard::Side;
 use crate::insides;
-use crate::lists::{filling, litter, scattered};
+use crate::lists::{filling, litter, rivalled, scattered, Growing};
 use crate::pair::{Pair, Same};
 use crate::random::Random;
-use crate::tally::Tally;
+use crate::tally::Counts;
 
 /// Numbers of words that no table has, but for two, and the nearest to those that some has.
 pub const SIZES: [usize; 17] = [
@@ -34,24 +35,36 @@ const SLOT_BORDERS: [u32; 6] =
     [HOPS + 1, 255 * HOPS, 255 * HOPS + 1, 255 * HOPS + 65_535, 256 * HOPS + 1, 256 * HOPS + 65_535];
 
 /// A table of so many arrays with some damage, and every call on it.
-pub fn memory(random: &mut Random, arrays: usize, tally: &mut Tally) -> Same {
-    let terrain = Terrain::new(random, arrays);
+pub fn memory<A: Family>(random: &mut Random, arrays: usize, tally: &mut Counts) -> Same {
+    let terrain = Terrain::<A>::new(random, arrays);
     let need = arrays - random.below(arrays.min(4));
     let list = filling(random, &terrain, need);
-    let mut words = scattered(random, &list, arrays);
+    let whole = scattered(random, &list, arrays);
+    let mut words = whole.clone();
     for _ in 0..random.pick(&[0, 1, 1, 1, 1, 2, 3]) {
         damage(random, &mut words);
     }
-    every_call(random, &terrain, &list, &words, tally)
+    every_call(random, (&terrain, &list), (&words, &whole), &[], tally)
+}
+
+/// A table of the other family, which may be one of this family too, and every call on it.
+pub fn other<A: Family, B: Family>(random: &mut Random, tally: &mut Counts) -> Same {
+    let arrays = random.within(1..=24);
+    let terrain = Terrain::<B>::new(random, arrays);
+    let list = filling(random, &terrain, arrays);
+    let words = scattered(random, &list, arrays);
+    let seen = layout::read::<A>(&words).list().cloned().unwrap_or_default();
+    let terrain = Terrain::<A>::new(random, arrays);
+    every_call(random, (&terrain, &seen), (&words, &words), &[], tally)
 }
 
 /// Words of any number, all alike or all random, and every call on them.
-pub fn size(random: &mut Random, count: usize, tally: &mut Tally) -> Same {
-    let terrain = Terrain::new(random, 7);
+pub fn size<A: Family>(random: &mut Random, count: usize, tally: &mut Counts) -> Same {
+    let terrain = Terrain::<A>::new(random, 7);
     let alike = border(random);
     let any = random.chance(50);
     let words: Vec<u32> = (0..count).map(|_| if any { random.word() } else { alike }).collect();
-    every_call(random, &terrain, &CandidateList::default(), &words, tally)
+    every_call(random, (&terrain, &CandidateList::default()), (&words, &words), &[], tally)
 }
 
 fn border(random: &mut Random) -> u32 {
@@ -62,16 +75,25 @@ fn border(random: &mut Random) -> u32 {
     }
 }
 
-/// The calls that change no word first, on words that cannot be written, then updates in a row, a run and clearing.
-fn every_call(random: &mut Random, terrain: &Terrain, list: &CandidateList, words: &[u32], tally: &mut Tally) -> Same {
+/// The calls that change no word first, on words that cannot be written, then updates in a row, a run and clearing. Beside the
+/// words stand those that they were before any damage; the prefixes are counted inside, and their first addresses looked up, too.
+fn every_call<A: Family>(
+    random: &mut Random,
+    (terrain, list): (&Terrain<A>, &CandidateList<A>),
+    (words, whole): (&[u32], &[u32]),
+    besides: &[Prefix<A>],
+    tally: &mut Counts,
+) -> Same {
     tally.damaged += 1;
     let side = random.pick(&[Side::Front, Side::Back]);
-    let mut pair = Pair::seen(words, side);
+    let mut pair = Pair::<A>::seen(words, side);
     pair.check()?;
-    let addresses = every_cell(random, words);
+    let mut addresses = every_cell(random, words, whole);
+    let mut prefixes: Vec<Prefix<A>> = addresses.iter().map(|&address| insides::holding(random, address)).collect();
+    addresses.extend(besides.iter().map(|prefix| prefix.address));
+    prefixes.extend(besides);
     pair.lookup(&addresses)?;
     tally.lookups += addresses.len() as u64;
-    let prefixes: Vec<Prefix> = addresses.iter().map(|&address| insides::holding(random, address)).collect();
     pair.within(&prefixes)?;
     tally.withins += prefixes.len() as u64;
     let full = list.encoded_size();
@@ -86,31 +108,78 @@ fn every_call(random: &mut Random, terrain: &Terrain, list: &CandidateList, word
         pair.stands()?;
     }
     tally.updates += updates.len() as u64;
-    tally.records += Pair::seen(words, side).run(&feed, random.below(70), side)?;
+    tally.records += Pair::<A>::seen(words, side).run(&feed, random.below(70), side)?;
     tally.feeds += 1;
-    Pair::seen(words, side).clear()
+    Pair::<A>::seen(words, side).clear()
 }
 
-/// Random addresses, and one for each cell that links lead to, damaged ones too, until there are enough.
-fn every_cell(random: &mut Random, words: &[u32]) -> Vec<u32> {
-    let mut addresses: Vec<u32> = (0..20).map(|_| random.word()).collect();
+/// Random addresses, and one for each cell that links lead to, damaged ones too, until there are enough; in arrays without damage
+/// perhaps only for some cells, and for those with a link.
+fn every_cell<A: Family>(random: &mut Random, words: &[u32], whole: &[u32]) -> Vec<A> {
+    let mut addresses: Vec<A> = (0..20).map(|_| A::any(random)).collect();
     let Some(arrays) = Arrays::new(words) else { return addresses };
-    let mut ahead = VecDeque::from([(1, 0, 0)]);
+    let mut ahead = VecDeque::from([(1, 0, A::default())]);
     while let Some((a, level, head)) = ahead.pop_front() {
         if addresses.len() > ADDRESSES {
             break;
         }
-        for cell in 0..256 {
-            let place = 24 - 8 * level;
-            let inside = head | (cell as u32) << place;
-            addresses.push(inside | random.word() & !u32::mask(8 * level + 8));
-            let below = arrays.below(a, cell).and_then(|number| arrays.held(number));
-            if let (Some(below), 0..=2) = (below, level) {
-                ahead.push_back((below, level + 1, inside));
+        let page = ARRAY_WORDS * a..ARRAY_WORDS * (a + 1);
+        let damaged = words[page.clone()] != whole[page];
+        for cell in 0..=255 {
+            let link = arrays.below(a, cell.into());
+            if !damaged && link.is_none() && random.below(256) >= A::CELLS {
+                continue;
             }
+            let inside = head | A::with_byte(cell, level);
+            addresses.push(inside | A::any(random) & !A::mask(8 * level + 8));
+            let below = link.and_then(|number| arrays.held(number)).filter(|_| level + 1 < A::LEVELS);
+            ahead.extend(below.map(|below| (below, level + 1, inside)));
         }
     }
     addresses
+}
+
+/// What can be planted in an array: something in a cell, or a total, that no table has.
+const PLANTS: u64 = 4;
+
+/// The number of cases of `depth` for a family: each of these on each level.
+pub const fn depths(levels: u32) -> u64 {
+    PLANTS * levels as u64
+}
+
+/// A table with a way to one address, and on a chosen level of that way something that no table has: a length, a block or a
+/// link at the way's cell, or a total.
+pub fn depth<A: Family>(random: &mut Random, case: u64, tally: &mut Counts) -> Same {
+    let (level, plant) = ((case / PLANTS) as u32 % A::LEVELS, case % PLANTS);
+    let arrays = A::LEVELS as usize + random.below(9);
+    let terrain = Terrain::<A>::new(random, arrays);
+    let mut growing = Growing::default();
+    let way = Prefix::around(terrain.address(random), A::BITS);
+    growing.grow(way, 1 + random.below(65_535) as u32, arrays);
+    for _ in 0..random.below(60) {
+        growing.grow(terrain.prefix(random), 1 + random.below(65_535) as u32, arrays);
+    }
+    let list = rivalled(random, &growing.list());
+    let whole = scattered(random, &list, arrays);
+    let mut words = whole.clone();
+    let on_the_way = Arrays::new(&whole).and_then(|all| array_on(&all, way.address, level));
+    let page = ARRAY_WORDS * on_the_way.expect("the way is held");
+    let at = page + CELLS + way.address.byte(level);
+    let cell = Cell::of(words[at]);
+    let no_array = (arrays as u32 + 1).min(LINKS);
+    match plant {
+        0 => words[at] = Cell { length: random.within(9..=14) as u32, ..cell }.word(),
+        1 => words[at] = Cell { end: End::Block(random.within(9..=15) as u32), ..cell }.word(),
+        2 => words[at] = Cell { end: End::Link(no_array), ..cell }.word(),
+        _ => words[page + TOTALS + 256 + way.address.byte(level)] = 511 * arrays as u32 + 1,
+    }
+    let inside = Prefix::around(way.address, 8 * level + 8);
+    every_call(random, (&terrain, &list), (&words, &whole), &[way, inside], tally)
+}
+
+/// The array that links lead to along an address's first bytes.
+fn array_on<A: Family>(arrays: &Arrays, address: A, level: u32) -> Option<usize> {
+    (0..level).try_fold(1, |a, level| arrays.held(arrays.below(a, address.byte(level))?))
 }
 
 /// One change, of a kind that some call may or may not notice.
@@ -318,7 +387,7 @@ fn total_up(words: &mut [u32], a: usize) {
 
 /// The totals of the arrays above one follow, as far as tags lead to any and levels allow.
 fn total_above(words: &mut [u32], mut a: usize) {
-    for _ in 0..LEVELS {
+    for _ in 0..u128::LEVELS {
         let Some(parent) = Arrays::new(words).and_then(|arrays| arrays.held(arrays.tag(a) / 8192)) else { return };
         fill_totals(words, parent);
         a = parent;

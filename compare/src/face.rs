@@ -3,118 +3,186 @@
 
 use std::ptr::{null, null_mut};
 
-use toggleash::ffi::{self, Answer, Built, Counts, Match, Needed, Ran, Total, Update, Written};
+use reference::feed::{kind_of, Role};
+use toggleash::ffi::{self, Answer, Built, Counts, Ipv6, Match, Needed, Ran, Total, Update, Written};
 
+use crate::family::Family;
 use crate::guard::{begin_call, Lent, Side};
 use crate::pair::{same, Same};
 
 /// Lengths that no memory has, some of them multiples of an array's; none may be read.
 const FAR: [usize; 6] = [3 << 23, 1 << 32, (3 << 32) + 6_144, 1 << 60, usize::MAX - 1_023, usize::MAX];
 
-pub fn compare() -> Same {
-    nothing_lent()?;
-    FAR.into_iter().try_for_each(far_lengths)?;
-    refused_fields()?;
-    copy_fields()
+/// The calls of a family as C has them, to which an address passes as a `P`.
+struct Calls<P> {
+    clear: unsafe extern "C" fn(*mut u32, usize) -> u32,
+    check: unsafe extern "C" fn(*const u32, usize) -> Counts,
+    lookup: unsafe extern "C" fn(*const u32, usize, P) -> Answer,
+    within: unsafe extern "C" fn(*const u32, usize, P, u32) -> Total,
+    announce: unsafe extern "C" fn(*mut u32, usize, P, u32, u32, u32, u8) -> Update,
+    withdraw: unsafe extern "C" fn(*mut u32, usize, P, u32, u32) -> Update,
+    write_out: unsafe extern "C" fn(*const u32, usize, *mut u8, usize) -> Written,
+    run: unsafe extern "C" fn(*mut u32, usize, *const u8, usize, *mut u8, usize) -> Ran,
 }
 
-/// Refusal 1 from every call, whatever else applies, with words that lead nowhere.
-fn refused_by_size(words: *mut u32, n: usize) -> Same {
-    begin_call("a call of C with a wrong number of words");
-    unsafe {
-        same(|| format!("clear {n}"), ffi::toggleash_clear(words, n), 1)?;
-        let counts = Counts { refusal: 1, ..Counts::default() };
-        same(|| format!("check {n}"), ffi::toggleash_check(words, n), counts)?;
-        let answer = Answer { refusal: 1, ..Answer::default() };
-        same(|| format!("lookup {n}"), ffi::toggleash_lookup(words, n, 0), answer)?;
-        let total = Total { refusal: 1, ..Total::default() };
-        same(|| format!("within {n}"), ffi::toggleash_within(words, n, 1, 33), total)?;
-        let update = Update { refusal: 1, ..Update::default() };
-        same(|| format!("announce {n}"), ffi::toggleash_announce(words, n, 1, 33, 0, 0, 0), update)?;
-        same(|| format!("withdraw {n}"), ffi::toggleash_withdraw(words, n, 1, 33, 0), update)?;
-        let written = Written { refusal: 1, ..Written::default() };
-        same(|| format!("write out {n}"), ffi::toggleash_write_out(words, n, null_mut(), 0), written)?;
-        let ran = Ran { refusal: 1, ..Ran::default() };
-        same(|| format!("run {n}"), ffi::toggleash_run(words, n, null(), 0, null_mut(), 0), ran)
+trait InC: Family {
+    type Passed: Copy;
+    const CALLS: Calls<Self::Passed>;
+
+    fn passed(self) -> Self::Passed;
+
+    /// The address whose last byte this is, all others being 0.
+    fn last(byte: u8) -> Self::Passed {
+        Self::with_byte(byte, Self::LEVELS - 1).passed()
     }
 }
 
-fn nothing_lent() -> Same {
-    refused_by_size(null_mut(), 0)?;
+impl InC for u32 {
+    type Passed = u32;
+    const CALLS: Calls<u32> = Calls {
+        clear: ffi::toggleash_clear,
+        check: ffi::toggleash_check,
+        lookup: ffi::toggleash_lookup,
+        within: ffi::toggleash_within,
+        announce: ffi::toggleash_announce,
+        withdraw: ffi::toggleash_withdraw,
+        write_out: ffi::toggleash_write_out,
+        run: ffi::toggleash_run,
+    };
+
+    fn passed(self) -> u32 {
+        self
+    }
+}
+
+impl InC for u128 {
+    type Passed = Ipv6;
+    const CALLS: Calls<Ipv6> = Calls {
+        clear: ffi::toggleash_v6_clear,
+        check: ffi::toggleash_v6_check,
+        lookup: ffi::toggleash_v6_lookup,
+        within: ffi::toggleash_v6_within,
+        announce: ffi::toggleash_v6_announce,
+        withdraw: ffi::toggleash_v6_withdraw,
+        write_out: ffi::toggleash_v6_write_out,
+        run: ffi::toggleash_v6_run,
+    };
+
+    fn passed(self) -> Ipv6 {
+        Ipv6 { bytes: self.to_be_bytes() }
+    }
+}
+
+pub fn compare() -> Same {
+    tables::<u32>()?;
+    tables::<u128>()?;
+    copy_fields()
+}
+
+fn tables<A: InC>() -> Same {
+    nothing_lent::<A>()?;
+    FAR.into_iter().try_for_each(far_lengths::<A>)?;
+    refused_fields::<A>().map_err(|text| format!("{}, {text}", A::NAME))
+}
+
+/// Refusal 1 from every call, whatever else applies, with words that lead nowhere.
+fn refused_by_size<A: InC>(words: *mut u32, n: usize) -> Same {
+    begin_call("a call of C with a wrong number of words");
+    let (calls, one) = (A::CALLS, A::last(1));
+    let told = |call: &str| format!("{} {call} {n}", A::NAME);
+    unsafe {
+        same(|| told("clear"), (calls.clear)(words, n), 1)?;
+        let counts = Counts { refusal: 1, ..Counts::default() };
+        same(|| told("check"), (calls.check)(words, n), counts)?;
+        let answer = Answer { refusal: 1, ..Answer::default() };
+        same(|| told("lookup"), (calls.lookup)(words, n, one), answer)?;
+        let total = Total { refusal: 1, ..Total::default() };
+        same(|| told("within"), (calls.within)(words, n, one, A::BITS + 1), total)?;
+        let update = Update { refusal: 1, ..Update::default() };
+        same(|| told("announce"), (calls.announce)(words, n, one, A::BITS + 1, 0, 0, 0), update)?;
+        same(|| told("withdraw"), (calls.withdraw)(words, n, one, A::BITS + 1, 0), update)?;
+        let written = Written { refusal: 1, ..Written::default() };
+        same(|| told("write out"), (calls.write_out)(words, n, null_mut(), 0), written)?;
+        let ran = Ran { refusal: 1, ..Ran::default() };
+        same(|| told("run"), (calls.run)(words, n, null(), 0, null_mut(), 0), ran)
+    }
+}
+
+fn nothing_lent<A: InC>() -> Same {
+    refused_by_size::<A>(null_mut(), 0)?;
     let mut words = Lent::copy_of(&[0; 6_144], Side::Back);
     begin_call("a call of C with null beside words");
-    let (first, n) = (words.as_mut_ptr(), words.len());
+    let (calls, first, n) = (A::CALLS, words.as_mut_ptr(), words.len());
+    let lookup = vec![kind_of::<A>(Role::Lookup).expect("both families have one"); 1 + A::LEVELS as usize];
     unsafe {
-        same(|| "clear".into(), ffi::toggleash_clear(first, n), 0)?;
+        same(|| "clear".into(), (calls.clear)(first, n), 0)?;
         let written = Written { refusal: 9, ..Written::default() };
-        same(|| "write out to null".into(), ffi::toggleash_write_out(first, n, null_mut(), 0), written)?;
+        same(|| "write out to null".into(), (calls.write_out)(first, n, null_mut(), 0), written)?;
         let ran = Ran { stop: 1, ..Ran::default() };
-        same(|| "run null".into(), ffi::toggleash_run(first, n, null(), 0, null_mut(), 0), ran)?;
+        same(|| "run null".into(), (calls.run)(first, n, null(), 0, null_mut(), 0), ran)?;
         let ran = Ran { stop: 4, ..Ran::default() };
-        same(|| "run to null".into(), ffi::toggleash_run(first, n, [3; 5].as_ptr(), 5, null_mut(), 0), ran)
+        same(|| "run to null".into(), (calls.run)(first, n, lookup.as_ptr(), lookup.len(), null_mut(), 0), ran)
     }
 }
 
 /// The words end where the guard begins, so a call that believes the length faults.
-fn far_lengths(n: usize) -> Same {
+fn far_lengths<A: InC>(n: usize) -> Same {
     let mut words = Lent::copy_of(&[0; 1], Side::Back);
-    refused_by_size(words.as_mut_ptr(), n)
+    refused_by_size::<A>(words.as_mut_ptr(), n)
 }
 
 /// The fields of refusals by other numbers, and of a lookup that finds none.
-fn refused_fields() -> Same {
+fn refused_fields<A: InC>() -> Same {
     let mut words = Lent::copy_of(&[0; 6_144], Side::Back);
     begin_call("a refused call of C");
-    let (first, n) = (words.as_mut_ptr(), words.len());
+    let (calls, first, n) = (A::CALLS, words.as_mut_ptr(), words.len());
+    let (zero, seven, half) = (A::last(0), A::last(7), A::with_byte(128, 0).passed());
     let update = |refusal| Update { refusal, ..Update::default() };
     unsafe {
-        same(|| "check".into(), ffi::toggleash_check(first, n), Counts { refusal: 2, ..Counts::default() })?;
-        same(|| "announce".into(), ffi::toggleash_announce(first, n, 0, 0, 1, 4, 255), update(2))?;
-        same(|| "withdraw".into(), ffi::toggleash_withdraw(first, n, 0, 0, 4), update(2))?;
+        same(|| "check".into(), (calls.check)(first, n), Counts { refusal: 2, ..Counts::default() })?;
+        same(|| "announce".into(), (calls.announce)(first, n, zero, 0, 1, 4, 255), update(2))?;
+        same(|| "withdraw".into(), (calls.withdraw)(first, n, zero, 0, 4), update(2))?;
         for feed in [0, 5, 256 + 1, u32::MAX] {
-            let got = ffi::toggleash_announce(first, n, 0, 0, 1, feed, 0);
+            let got = (calls.announce)(first, n, zero, 0, 1, feed, 0);
             same(|| format!("announce by {feed}"), got, update(10))?;
-            same(|| format!("withdraw by {feed}"), ffi::toggleash_withdraw(first, n, 0, 0, feed), update(10))?;
+            same(|| format!("withdraw by {feed}"), (calls.withdraw)(first, n, zero, 0, feed), update(10))?;
         }
         let total = |refusal, prefixes| Total { refusal, prefixes };
-        same(|| "within, length".into(), ffi::toggleash_within(first, n, 1, 33), total(3, 0))?;
-        same(|| "within, stray bit".into(), ffi::toggleash_within(first, n, 1, 31), total(4, 0))?;
+        same(|| "within, length".into(), (calls.within)(first, n, seven, A::BITS + 1), total(3, 0))?;
+        same(|| "within, stray bit".into(), (calls.within)(first, n, seven, A::BITS - 1), total(4, 0))?;
         *first.add(3_072 + 2_304 + 1) = 512;
-        same(|| "within, a total".into(), ffi::toggleash_within(first, n, 0, 0), total(2, 0))?;
+        same(|| "within, a total".into(), (calls.within)(first, n, zero, 0), total(2, 0))?;
         *first.add(3_072 + 2_304 + 1) = 511;
-        same(|| "within, the largest total".into(), ffi::toggleash_within(first, n, 0, 0), total(0, 511))?;
-        let ran = ffi::toggleash_run(first, n, [0].as_ptr(), 1, null_mut(), 0);
+        same(|| "within, the largest total".into(), (calls.within)(first, n, zero, 0), total(0, 511))?;
+        let ran = (calls.run)(first, n, [0].as_ptr(), 1, null_mut(), 0);
         same(|| "run".into(), ran, Ran { refusal: 2, ..Ran::default() })?;
-        ffi::toggleash_clear(first, n);
-        same(|| "lookup".into(), ffi::toggleash_lookup(first, n, 7), Answer::default())?;
-        same(|| "withdraw none".into(), ffi::toggleash_withdraw(first, n, 0, 0, 1), update(7))?;
+        (calls.clear)(first, n);
+        same(|| "lookup".into(), (calls.lookup)(first, n, seven), Answer::default())?;
+        same(|| "withdraw none".into(), (calls.withdraw)(first, n, zero, 0, 1), update(7))?;
         let held = Update { hop: 5, cells: 256, ..update(0) };
-        same(|| "announce".into(), ffi::toggleash_announce(first, n, 0, 0, 5, 2, 254), held)?;
+        same(|| "announce".into(), (calls.announce)(first, n, zero, 0, 5, 2, 254), held)?;
         let again = Update { cells: 0, ..held };
-        same(|| "announce again".into(), ffi::toggleash_announce(first, n, 0, 0, 5, 2, 254), again)?;
+        same(|| "announce again".into(), (calls.announce)(first, n, zero, 0, 5, 2, 254), again)?;
         let worse = Update { hop: 9, ..again };
-        same(|| "announce a loser".into(), ffi::toggleash_announce(first, n, 0, 0, 9, 1, 255), worse)?;
+        same(|| "announce a loser".into(), (calls.announce)(first, n, zero, 0, 9, 1, 255), worse)?;
         let found = Answer { found: 1, hop: 5, ..Answer::default() };
-        same(|| "lookup".into(), ffi::toggleash_lookup(first, n, 7), found)?;
-        same(
-            || "announce".into(),
-            ffi::toggleash_announce(first, n, 1 << 31, 8, 6, 3, 0),
-            Update { hop: 6, cells: 1, ..held },
-        )?;
+        same(|| "lookup".into(), (calls.lookup)(first, n, seven), found)?;
+        let one = Update { hop: 6, cells: 1, ..held };
+        same(|| "announce".into(), (calls.announce)(first, n, half, 8, 6, 3, 0), one)?;
         let beside = Answer { block: 1, ..found };
-        same(|| "lookup beside a route".into(), ffi::toggleash_lookup(first, n, 7), beside)?;
+        same(|| "lookup beside a route".into(), (calls.lookup)(first, n, seven), beside)?;
         let inside = Answer { hop: 6, length: 8, block: 8, ..found };
-        same(|| "lookup in a route".into(), ffi::toggleash_lookup(first, n, 1 << 31), inside)?;
-        same(|| "within".into(), ffi::toggleash_within(first, n, 0, 0), total(0, 2))?;
-        let refusals = [(3, 1, 33, 0, 0), (4, 1, 0, 0, 0), (5, 0, 0, 0, 0), (10, 0, 9, 1, 0), (8, 0, 9, 1, 1)];
-        for (refusal, address, length, hop, feed) in refusals {
-            let got = ffi::toggleash_announce(first, n, address, length, hop, feed, 0);
+        same(|| "lookup in a route".into(), (calls.lookup)(first, n, half), inside)?;
+        same(|| "within".into(), (calls.within)(first, n, zero, 0), total(0, 2))?;
+        let refusals = [(3, 1, A::BITS + 1, 0, 0), (4, 1, 0, 0, 0), (5, 0, 0, 0, 0), (10, 0, 9, 1, 0), (8, 0, 9, 1, 1)];
+        for (refusal, byte, length, hop, feed) in refusals {
+            let got = (calls.announce)(first, n, A::last(byte), length, hop, feed, 0);
             same(|| format!("announce refused {refusal}"), got, update(refusal))?;
         }
         let gone = Update { hop: 5, cells: 256 - 1, ..update(0) };
-        same(|| "withdraw a winner".into(), ffi::toggleash_withdraw(first, n, 0, 0, 2), gone)?;
+        same(|| "withdraw a winner".into(), (calls.withdraw)(first, n, zero, 0, 2), gone)?;
         let left = Answer { hop: 9, ..beside };
-        same(|| "lookup of what waited".into(), ffi::toggleash_lookup(first, n, 7), left)?;
+        same(|| "lookup of what waited".into(), (calls.lookup)(first, n, seven), left)?;
     }
     Ok(())
 }

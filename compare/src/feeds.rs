@@ -1,54 +1,43 @@
 //! Random prefixes that nest and meet, and random feeds of them: repeated, malformed, cut.
 
-use reference::feed::Record;
+use reference::feed::{kind_of, Record, Role};
 use reference::{CandidateList, Prefix, FEEDS};
 
+use crate::family::Family;
 use crate::random::Random;
 
-/// Lengths at the borders of levels, where mistakes live.
-const BORDERS: [u32; 15] = [0, 1, 7, 8, 9, 10, 15, 16, 17, 23, 24, 25, 26, 31, 32];
 const HOPS: [u32; 5] = [1, 255, 256, 65_534, 65_535];
 /// Feeds that there are not.
 const NO_FEEDS: [u32; 4] = [0, 5, 6, 255];
+/// Kinds of both families, of replies and of nothing.
+const KINDS: [u8; 15] = [1, 2, 3, 4, 5, 6, 7, 8, 9, 15, 16, 17, 19, 128, 255];
 
 /// Addresses that prefixes are drawn around, so that boxes stand inside boxes.
-pub struct Terrain {
-    anchors: Vec<u32>,
+pub struct Terrain<A> {
+    anchors: Vec<A>,
 }
 
-impl Terrain {
+impl<A: Family> Terrain<A> {
     /// For a table of so many arrays: enough anchors to fill it, few enough to meet often.
-    pub fn new(random: &mut Random, arrays: usize) -> Terrain {
-        let count = 1 + random.below(2 + arrays / 3);
-        let any = random.word();
-        let mut anchors = vec![random.pick(&[0, u32::MAX, any, any])];
+    pub fn new(random: &mut Random, arrays: usize) -> Terrain<A> {
+        // About so many arrays are the way to one anchor alone.
+        let way = 3 * A::LEVELS as usize / 4;
+        let count = 1 + random.below(2 + arrays / way);
+        let any = A::any(random);
+        let mut anchors = vec![random.pick(&[A::default(), !A::default(), any, any])];
         for _ in 1..count {
             let old = random.pick(&anchors);
-            anchors.push(near(random, old));
+            anchors.push(old.near(random));
         }
         Terrain { anchors }
     }
 
-    pub fn address(&self, random: &mut Random) -> u32 {
-        let anchor = random.pick(&self.anchors);
-        near(random, anchor)
+    pub fn address(&self, random: &mut Random) -> A {
+        random.pick(&self.anchors).near(random)
     }
 
-    pub fn prefix(&self, random: &mut Random) -> Prefix {
-        Prefix::around(self.address(random), length(random))
-    }
-}
-
-/// An address that shares its first bits, any number of them, with this one.
-fn near(random: &mut Random, address: u32) -> u32 {
-    let shared = random.below(33) as u32;
-    address ^ random.word().checked_shr(shared).unwrap_or(0)
-}
-
-fn length(random: &mut Random) -> u32 {
-    match random.chance(50) {
-        true => random.pick(&BORDERS),
-        false => random.below(33) as u32,
+    pub fn prefix(&self, random: &mut Random) -> Prefix<A> {
+        Prefix::around(self.address(random), A::length(random))
     }
 }
 
@@ -85,37 +74,37 @@ impl Mood {
 }
 
 /// Draws records, remembering the prefixes that it named, each with a feed.
-pub struct Source<'a> {
+pub struct Source<'a, A> {
     random: &'a mut Random,
-    terrain: &'a Terrain,
-    known: Vec<(Prefix, u32)>,
+    terrain: &'a Terrain<A>,
+    known: Vec<(Prefix<A>, u32)>,
     /// The feeds that most of its records name.
     sides: &'static [u32],
 }
 
-impl<'a> Source<'a> {
+impl<'a, A: Family> Source<'a, A> {
     /// Knows some of the candidates held.
-    pub fn new(random: &'a mut Random, terrain: &'a Terrain, held: &CandidateList) -> Source<'a> {
+    pub fn new(random: &'a mut Random, terrain: &'a Terrain<A>, held: &CandidateList<A>) -> Source<'a, A> {
         let sides = random.pick(&[&[1][..], &[3], &[1, 2], &[2, 4], &[1, 2, 3, 4], &[1, 2, 3, 4]]);
         let known = match held.candidates() {
-            [] => vec![(Prefix { address: 0, length: 0 }, 1)],
+            [] => vec![(Prefix { address: A::default(), length: 0 }, 1)],
             held => (0..40).map(|_| random.pick(held)).map(|held| (held.prefix, held.feed)).collect(),
         };
         Source { random, terrain, known, sides }
     }
 
     /// The prefixes that its records were drawn around.
-    pub fn known(&self) -> Vec<Prefix> {
+    pub fn known(&self) -> Vec<Prefix<A>> {
         self.known.iter().map(|known| known.0).collect()
     }
 
     /// A prefix named before, one that starts where such a one does, or a new one; with the feed that named the one before, or
     /// with another.
-    fn named(&mut self, before: usize, by_another: usize) -> (Prefix, u32) {
+    fn named(&mut self, before: usize, by_another: usize) -> (Prefix<A>, u32) {
         let (known, feed) = self.random.pick(&self.known);
         let prefix = match self.random.below(100) {
             roll if roll < before => known,
-            roll if roll < before + 15 => Prefix::around(known.address, length(self.random)),
+            roll if roll < before + 15 => Prefix::around(known.address, A::length(self.random)),
             _ => self.terrain.prefix(self.random),
         };
         let feed = if self.random.chance(by_another) { self.random.pick(self.sides) } else { feed };
@@ -123,11 +112,14 @@ impl<'a> Source<'a> {
         (prefix, feed)
     }
 
-    /// Sometimes a length over 32 or a bit after the length.
-    fn maybe_malformed(&mut self, prefix: Prefix) -> (u32, u32) {
+    /// Sometimes a length over the longest or a bit after the length.
+    fn maybe_malformed(&mut self, prefix: Prefix<A>) -> (A, u32) {
         match self.random.below(50) {
-            0 => (prefix.address, self.random.within(33..=255) as u32),
-            1 => (prefix.address | 1 << self.random.below(32), prefix.length),
+            0 => (prefix.address, self.random.within(A::BITS as usize + 1..=255) as u32),
+            1 => {
+                let (bit, level) = (1 << self.random.below(8), self.random.below(A::LEVELS as usize) as u32);
+                (prefix.address | A::with_byte(bit, level), prefix.length)
+            }
             _ => (prefix.address, prefix.length),
         }
     }
@@ -142,9 +134,11 @@ impl<'a> Source<'a> {
     }
 
     /// Often the prefix's own, so that second announcements, and those of other feeds, meet the same hop and another one.
-    fn hop(&mut self, prefix: Prefix) -> u32 {
+    fn hop(&mut self, prefix: Prefix<A>) -> u32 {
         match self.random.chance(30) {
-            true => 1 + (prefix.address ^ prefix.length) % 65_535,
+            true => {
+                1 + prefix.address.bytes().iter().fold(prefix.length, |sum, &byte| sum * 37 % 65_521 + u32::from(byte))
+            }
             false => hop(self.random),
         }
     }
@@ -157,7 +151,7 @@ impl<'a> Source<'a> {
         }
     }
 
-    pub fn record(&mut self, mood: Mood) -> Record {
+    pub fn record(&mut self, mood: Mood) -> Record<A> {
         let roll = self.random.below(100);
         if roll < mood.announce {
             let (prefix, feed) = self.named(30, 70);
@@ -171,7 +165,7 @@ impl<'a> Source<'a> {
             Record::Withdraw { address, length, feed: self.maybe_no_feed(feed) }
         } else {
             let (known, _) = self.random.pick(&self.known);
-            Record::Lookup { address: near(self.random, known.address) }
+            Record::Lookup { address: known.address.near(self.random) }
         }
     }
 
@@ -199,11 +193,12 @@ impl<'a> Source<'a> {
                 self.litter(bytes);
             }
             3 => {
-                bytes.push(self.random.within(6..=255) as u8);
+                bytes.push(any_kind(self.random));
                 self.litter(bytes);
             }
-            4 => bytes.push(self.random.pick(&[6, 7, 15, 16, 17, 18, 19, 128, 255])),
-            5 => bytes.truncate(bytes.len().saturating_sub(self.random.within(1..=9))),
+            4 => bytes.push(any_kind(self.random)),
+            // At most all of a record but its kind.
+            5 => bytes.truncate(bytes.len().saturating_sub(self.random.within(1..=A::LEVELS as usize + 5))),
             6 => self.scratch(bytes),
             _ => {}
         }
@@ -224,13 +219,21 @@ impl<'a> Source<'a> {
     }
 }
 
-/// A feed of just so many bytes for a program of three arrays, its last record cut; sometimes a record before it is
-/// an end or of no kind.
-pub fn program_feed(random: &mut Random, length: usize) -> Vec<u8> {
-    let terrain = Terrain::new(random, 3);
+/// Any kind, mostly one that no record of a family has: that is for the two sides to say.
+fn any_kind(random: &mut Random) -> u8 {
+    match random.chance(70) {
+        true => random.pick(&KINDS),
+        false => random.byte(),
+    }
+}
+
+/// A feed of just so many bytes for a program of so many arrays, its last record cut; sometimes a record before it is an end
+/// or of any kind.
+pub fn program_feed<A: Family>(random: &mut Random, arrays: usize, length: usize) -> Vec<u8> {
+    let terrain = Terrain::<A>::new(random, arrays);
     let mood = Mood::any(random);
     let broken = random.chance(50).then(|| random.below(length + 1));
-    let kind = random.pick(&[0, 0, 6, 16, 19, 255]);
+    let kind = if random.chance(35) { 0 } else { any_kind(random) };
     let mut source = Source::new(random, &terrain, &CandidateList::default());
     let mut bytes = Vec::new();
     let mut whole = true;
@@ -245,30 +248,34 @@ pub fn program_feed(random: &mut Random, length: usize) -> Vec<u8> {
     bytes
 }
 
-/// The bytes of a record; a plain one names no feed, where it need not.
-fn encode(record: Record, plain: bool, bytes: &mut Vec<u8>) {
-    let kind = match record {
-        Record::End => 0,
-        Record::Announce { feed: 1, preference: 0, .. } if plain => 1,
-        Record::Withdraw { feed: 1, .. } if plain => 2,
-        Record::Lookup { .. } => 3,
-        Record::Announce { .. } => 4,
-        Record::Withdraw { .. } => 5,
+/// The bytes of a record; a plain one names no feed, where it need not and a kind has none.
+fn encode<A: Family>(record: Record<A>, plain: bool, bytes: &mut Vec<u8>) {
+    let both = |named: Role, plain_role: Role, may: bool| match kind_of::<A>(plain_role).filter(|_| plain && may) {
+        Some(kind) => (Some(kind), false),
+        None => (kind_of::<A>(named), true),
     };
-    bytes.push(kind);
+    let (kind, names) = match record {
+        Record::End => (Some(0), false),
+        Record::Announce { feed, preference, .. } => {
+            both(Role::AnnounceFor, Role::Announce, feed == 1 && preference == 0)
+        }
+        Record::Withdraw { feed, .. } => both(Role::WithdrawFor, Role::Withdraw, feed == 1),
+        Record::Lookup { .. } => (kind_of::<A>(Role::Lookup), false),
+    };
+    bytes.push(kind.expect("a family has kinds that name feeds, and lookups"));
     match record {
         Record::End => {}
         Record::Announce { address, length, hop, feed, preference } => {
-            bytes.extend(address.to_be_bytes());
+            bytes.extend(address.bytes());
             bytes.push(length as u8);
             bytes.extend((hop as u16).to_be_bytes());
-            bytes.extend([feed as u8, preference].into_iter().filter(|_| kind == 4));
+            bytes.extend([feed as u8, preference].into_iter().filter(|_| names));
         }
         Record::Withdraw { address, length, feed } => {
-            bytes.extend(address.to_be_bytes());
+            bytes.extend(address.bytes());
             bytes.push(length as u8);
-            bytes.extend([feed as u8].into_iter().filter(|_| kind == 5));
+            bytes.extend([feed as u8].into_iter().filter(|_| names));
         }
-        Record::Lookup { address } => bytes.extend(address.to_be_bytes()),
+        Record::Lookup { address } => bytes.extend(address.bytes()),
     }
 }

@@ -3,6 +3,7 @@
 pub mod copies;
 pub mod damage;
 pub mod face;
+pub mod family;
 pub mod feeds;
 pub mod foreign;
 pub mod guard;

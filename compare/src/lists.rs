@@ -5,19 +5,20 @@ use std::collections::{BTreeMap, BTreeSet};
 
 use reference::layout::{self, unused};
 use reference::memory::{ARRAY_WORDS, MOST_ARRAYS};
-use reference::{Address, Candidate, CandidateList, Prefix, RouteList};
+use reference::{Candidate, CandidateList, Prefix, RouteList};
 
+use crate::family::Family;
 use crate::feeds::{hop, preference, Terrain};
 use crate::random::Random;
 
 /// A list that grows, with the heads of the arrays that it needs, so that each step costs little.
 #[derive(Default)]
-pub struct Growing {
-    routes: BTreeMap<Prefix, u32>,
-    heads: BTreeSet<(u32, u32)>,
+pub struct Growing<A = u32> {
+    routes: BTreeMap<Prefix<A>, u32>,
+    heads: BTreeSet<(u32, A)>,
 }
 
-impl Growing {
+impl<A: Family> Growing<A> {
     /// The number of routes.
     pub fn count(&self) -> usize {
         self.routes.len()
@@ -29,13 +30,13 @@ impl Growing {
     }
 
     /// Level and head of each array needed below the root, the deepest last.
-    pub fn heads(&self) -> impl DoubleEndedIterator<Item = (u32, u32)> + '_ {
+    pub fn heads(&self) -> impl DoubleEndedIterator<Item = (u32, A)> + '_ {
         self.heads.iter().copied()
     }
 
     /// Adds the route if its prefix is new and no more than so many arrays are needed then.
-    pub fn grow(&mut self, prefix: Prefix, hop: u32, most: usize) {
-        let heads = (1..=prefix.level()).map(|level| (level, prefix.address & u32::mask(8 * level)));
+    pub fn grow(&mut self, prefix: Prefix<A>, hop: u32, most: usize) {
+        let heads = (1..=prefix.level()).map(|level| (level, prefix.address & A::mask(8 * level)));
         let missing = heads.clone().filter(|head| !self.heads.contains(head)).count();
         if self.need() + missing <= most && !self.routes.contains_key(&prefix) {
             self.routes.insert(prefix, hop);
@@ -43,7 +44,7 @@ impl Growing {
         }
     }
 
-    pub fn list(&self) -> RouteList {
+    pub fn list(&self) -> RouteList<A> {
         let mut list = RouteList::default();
         for (&prefix, &hop) in &self.routes {
             list.set(prefix, hop);
@@ -53,7 +54,7 @@ impl Growing {
 }
 
 /// The prefixes of the list, each with one candidate or several, of any feeds. Some have the route's hop.
-pub fn rivalled(random: &mut Random, list: &RouteList) -> CandidateList {
+pub fn rivalled<A: Family>(random: &mut Random, list: &RouteList<A>) -> CandidateList<A> {
     let mut candidates = Vec::new();
     for route in list.routes() {
         let mut feeds = [1, 2, 3, 4];
@@ -67,7 +68,7 @@ pub fn rivalled(random: &mut Random, list: &RouteList) -> CandidateList {
 }
 
 /// A list that needs at most so many arrays, and just as many unless its terrain is too small.
-pub fn filling(random: &mut Random, terrain: &Terrain, most: usize) -> CandidateList {
+pub fn filling<A: Family>(random: &mut Random, terrain: &Terrain<A>, most: usize) -> CandidateList<A> {
     let mut growing = Growing::default();
     for _ in 0..20 + 30 * most {
         growing.grow(terrain.prefix(random), hop(random), most);
@@ -140,7 +141,7 @@ fn crowd(random: &mut Random, growing: &mut Growing, routes: usize) {
 }
 
 /// The list as a table whose arrays stand anywhere, as often as not with litter in the words without a use.
-pub fn scattered(random: &mut Random, list: &CandidateList, arrays: usize) -> Vec<u32> {
+pub fn scattered<A: Family>(random: &mut Random, list: &CandidateList<A>, arrays: usize) -> Vec<u32> {
     let mut numbers: Vec<usize> = (2..=arrays).collect();
     random.shuffle(&mut numbers);
     let mut words = layout::lay(list, arrays, &numbers);

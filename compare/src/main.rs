@@ -1,20 +1,44 @@
-//! Compares the library, through the bindings, with the reference on random input; or, with `--programs`,
-//! the proved program with the reference. Exits with status 1 on any difference.
+//! Compares the library, through the bindings, with the reference on random input; or, with `--programs` or `--programs6`, the
+//! proved program of IPv4 or of IPv6 with the reference. Exits with status 1 on any difference.
 
 use std::process::ExitCode;
 
+use compare::family::Family;
 use compare::pair::Same;
 use compare::random::Random;
 use compare::resolves::{self, Resolves};
 use compare::tally::Tally;
 use compare::{copies, damage, face, foreign, guard, programs, rooms, unlisted};
 
-const USAGE: &str = "usage: compare [--long] [--seed NUMBER] [--programs PROVED SECOND]";
+const USAGE: &str = "usage: compare [--long] [--seed NUMBER] [--programs PROVED SECOND | --programs6 PROVED SECOND]";
 
-/// Records that the rooms take between them in a plain run.
-const RECORDS: u64 = 240_000;
-/// Feeds that the programs take in a plain run.
-const FEEDS: usize = 1_000;
+/// What a plain run does of a family's tables: records that the rooms take between them, the largest rooms, and memories that
+/// are damaged; and the feeds that its program takes.
+struct Share {
+    records: u64,
+    largest: u64,
+    damaged: u64,
+    feeds: usize,
+    /// The parts that the cases are of.
+    parts: [&'static str; 5],
+}
+
+/// One record in ten is of IPv6.
+const FOUR: Share = Share {
+    records: 216_000,
+    largest: 3,
+    damaged: 3_600,
+    feeds: 800,
+    parts: ["sizes", "damage", "rooms", "largest", "programs"],
+};
+const SIX: Share = Share {
+    records: 24_000,
+    largest: 1,
+    damaged: 400,
+    feeds: 200,
+    parts: ["sizes of IPv6", "damage of IPv6", "rooms of IPv6", "largest of IPv6", "programs of IPv6"],
+};
+
 /// Copies that a plain run builds from lists, and lists and copies that it damages.
 const COPIES: u64 = 600;
 const DAMAGED_COPIES: u64 = 24_000;
@@ -27,6 +51,7 @@ struct Options {
     seed: u64,
     times: u64,
     programs: Option<(String, String)>,
+    six: bool,
 }
 
 fn main() -> ExitCode {
@@ -35,20 +60,24 @@ fn main() -> ExitCode {
         return ExitCode::from(2);
     };
     let differences = match &options.programs {
-        Some((proved, reference)) => compare_programs(&options, proved, reference),
+        Some((proved, second)) if options.six => compare_programs::<u128>(&options, &SIX, proved, &[second, "6"]),
+        Some((proved, second)) => compare_programs::<u32>(&options, &FOUR, proved, &[second]),
         None => compare_library(&options),
     };
     ExitCode::from(u8::from(differences > 0))
 }
 
 fn options() -> Option<Options> {
-    let mut options = Options { seed: 1, times: 1, programs: None };
+    let mut options = Options { seed: 1, times: 1, programs: None, six: false };
     let mut words = std::env::args().skip(1);
     while let Some(word) = words.next() {
         match word.as_str() {
             "--long" => options.times = LONG,
             "--seed" => options.seed = words.next()?.parse().ok()?,
-            "--programs" => options.programs = Some((words.next()?, words.next()?)),
+            "--programs" | "--programs6" => {
+                options.six = word == "--programs6";
+                options.programs = Some((words.next()?, words.next()?));
+            }
             _ => return None,
         }
     }
@@ -59,16 +88,27 @@ fn compare_library(options: &Options) -> u64 {
     guard::watch();
     let mut tally = Tally::default();
     tally.case("face", 0, face::compare());
-    wrong_sizes(options, &mut tally);
-    damaged(options, &mut tally);
-    all_rooms(options, &mut tally);
-    largest_rooms(options, &mut tally);
+    tables::<u32>(options, &FOUR, &mut tally);
+    tables::<u128>(options, &SIX, &mut tally);
+    others::<u32, u128>(options, "IPv6 tables for IPv4", &mut tally);
+    others::<u128, u32>(options, "IPv4 tables for IPv6", &mut tally);
+    depths::<u128>(options, &mut tally);
     all_copies(options, &mut tally);
     damaged_copies(options, &mut tally);
     all_resolves(options, &mut tally);
-    tally.answers();
-    println!("compare, seed {}: {tally}", options.seed);
+    tally.answers::<u32>();
+    tally.answers::<u128>();
+    tally.copies();
+    println!("compare, seed {}: {} differences", options.seed, tally.differences);
     tally.differences
+}
+
+/// The tables of a family.
+fn tables<A: Family>(options: &Options, share: &Share, tally: &mut Tally) {
+    wrong_sizes::<A>(options, share, tally);
+    damaged::<A>(options, share, tally);
+    all_rooms::<A>(options, share, tally);
+    largest_rooms::<A>(options, share, tally);
 }
 
 /// The generator of one case, whose part and number a difference or a fault names.
@@ -93,54 +133,59 @@ fn cases(
     }
 }
 
-fn all_rooms(options: &Options, tally: &mut Tally) {
-    let end = tally.records + RECORDS * options.times;
+fn all_rooms<A: Family>(options: &Options, share: &Share, tally: &mut Tally) {
+    let part = share.parts[2];
+    let end = A::counts(tally).records + share.records * options.times;
     for case in 0.. {
-        if tally.records >= end || tally.enough() {
+        if A::counts(tally).records >= end || tally.enough() {
             return;
         }
-        let mut random = begin(options, "rooms", case);
-        let (arrays, records) = size_of_room(&mut random);
-        let result = rooms::room(&mut random, arrays, records, tally);
-        tally.case("rooms", case, result.map_err(|text| format!("{text} (in {arrays} arrays)")));
+        let mut random = begin(options, part, case);
+        let arrays = A::arrays(&mut random);
+        // Each update reads every word of its table.
+        let records = 3_000 / (1 + arrays as u64 / 16);
+        let result = rooms::room::<A>(&mut random, arrays, records, A::counts(tally));
+        tally.case(part, case, result.map_err(|text| format!("{text} (in {arrays} arrays)")));
     }
-}
-
-/// Mostly small: each update reads every word of its table. The number of records falls as the table grows.
-fn size_of_room(random: &mut Random) -> (usize, u64) {
-    let arrays = match random.below(100) {
-        0..=59 => random.within(1..=8),
-        60..=84 => random.within(9..=40),
-        85..=95 => random.within(41..=130),
-        _ => random.within(131..=700),
-    };
-    (arrays, 3_000 / (1 + arrays as u64 / 16))
 }
 
 /// Rooms of 4,096 arrays, or nearly, that are full or nearly.
-fn largest_rooms(options: &Options, tally: &mut Tally) {
-    cases(options, tally, ("largest", 4), |random, _, tally| {
+fn largest_rooms<A: Family>(options: &Options, share: &Share, tally: &mut Tally) {
+    cases(options, tally, (share.parts[3], share.largest), |random, _, tally| {
         let arrays = random.pick(&[4_096, 4_095, 4_089, 4_088]);
-        rooms::room(random, arrays, 60, tally).map_err(|text| format!("{text} (in {arrays} arrays)"))
+        rooms::room::<A>(random, arrays, 60, A::counts(tally)).map_err(|text| format!("{text} (in {arrays} arrays)"))
     });
 }
 
-fn wrong_sizes(options: &Options, tally: &mut Tally) {
+fn wrong_sizes<A: Family>(options: &Options, share: &Share, tally: &mut Tally) {
+    let part = share.parts[0];
     for (case, &count) in damage::SIZES.iter().enumerate() {
-        let mut random = begin(options, "sizes", case as u64);
-        let result = damage::size(&mut random, count, tally);
-        tally.case("sizes", case as u64, result.map_err(|text| format!("{text} (in {count} words)")));
+        let mut random = begin(options, part, case as u64);
+        let result = damage::size::<A>(&mut random, count, A::counts(tally));
+        tally.case(part, case as u64, result.map_err(|text| format!("{text} (in {count} words)")));
     }
 }
 
-fn damaged(options: &Options, tally: &mut Tally) {
-    cases(options, tally, ("damage", 4_000), |random, case, tally| {
+fn damaged<A: Family>(options: &Options, share: &Share, tally: &mut Tally) {
+    cases(options, tally, (share.parts[1], share.damaged), |random, case, tally| {
         let arrays = match case % 1_000 {
             0 => 4_096,
             1..=60 => random.within(9..=60),
-            _ => random.within(1..=8),
+            _ => random.within(1..=2 * A::LEVELS as usize),
         };
-        damage::memory(random, arrays, tally).map_err(|text| format!("{text} (in {arrays} arrays)"))
+        damage::memory::<A>(random, arrays, A::counts(tally)).map_err(|text| format!("{text} (in {arrays} arrays)"))
+    });
+}
+
+/// Tables of a family for the calls of another.
+fn others<A: Family, B: Family>(options: &Options, part: &'static str, tally: &mut Tally) {
+    cases(options, tally, (part, 60), |random, _, tally| damage::other::<A, B>(random, A::counts(tally)));
+}
+
+/// Something that no table has on each level, where ways are too long for random damage to meet them all.
+fn depths<A: Family>(options: &Options, tally: &mut Tally) {
+    cases(options, tally, ("depths", 3 * damage::depths(A::LEVELS)), |random, case, tally| {
+        damage::depth::<A>(random, case, A::counts(tally))
     });
 }
 
@@ -159,11 +204,12 @@ fn all_copies(options: &Options, tally: &mut Tally) {
 }
 
 /// Bytes that are hardly a list, and words that are hardly a copy. The first lists need 4,096 arrays, one more and two;
-/// then comes one of about 50,000 routes, too sparse for any table.
+/// then comes one of about 50,000 routes, too sparse for any table, and some of IPv6.
 fn damaged_copies(options: &Options, tally: &mut Tally) {
     cases(options, tally, ("damaged copies", DAMAGED_COPIES), |random, case, tally| match case {
         0..=2 => unlisted::widest(random, case as usize, tally),
         3 => unlisted::widest(random, 40_000, tally),
+        4..=50 => unlisted::of_ipv6(random, tally),
         _ if case % 3 == 0 => unlisted::torn(random, tally),
         _ if case % 3 == 1 => foreign::damaged(random, tally),
         _ => foreign::made_up(random, tally),
@@ -184,18 +230,19 @@ fn all_resolves(options: &Options, tally: &mut Tally) {
     tally.differences += seen.told();
 }
 
-fn compare_programs(options: &Options, proved: &str, reference: &str) -> u64 {
-    let (mut lines, mut tally) = (0, Tally::default());
-    for case in 0..FEEDS * options.times as usize {
-        tally.feeds += 1;
-        let mut random = begin(options, "programs", case as u64);
-        let result = programs::compare(&mut random, case, proved, reference).map(|count| lines += count);
-        tally.case("programs", case as u64, result);
+fn compare_programs<A: Family>(options: &Options, share: &Share, proved: &str, second: &[&str]) -> u64 {
+    let (mut feeds, mut lines, mut tally) = (0, 0, Tally::default());
+    let part = share.parts[4];
+    for case in 0..share.feeds * options.times as usize {
+        feeds += 1;
+        let mut random = begin(options, part, case as u64);
+        let result = programs::compare::<A>(&mut random, case, proved, second).map(|count| lines += count);
+        tally.case(part, case as u64, result);
         if tally.enough() {
             break;
         }
     }
-    let (seed, Tally { feeds, differences, .. }) = (options.seed, tally);
-    println!("compare programs, seed {seed}: {feeds} feeds, {lines} lines: {differences} differences");
+    let (seed, differences) = (options.seed, tally.differences);
+    println!("compare {part}, seed {seed}: {feeds} feeds, {lines} lines: {differences} differences");
     differences
 }

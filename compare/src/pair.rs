@@ -1,15 +1,14 @@
 //! The library's words beside the reference's memory: each call is made on both and compared, in answer, in lent
 //! bytes, and in what the words stand for.
 
-use std::net::Ipv4Addr;
-
 use reference::feed::Answer;
 use reference::layout::{self, unused, Arrays, Walked, TOTALS, UNUSED};
 use reference::memory::ARRAY_WORDS;
 use reference::{Candidate, CandidateList, Lookup, Memory, Prefix, Refusal};
+use toggleash::Family as _;
 
+use crate::family::Family;
 use crate::guard::{begin_call, Lent, Side};
-use crate::tally::{saw_odd, saw_odd_total, saw_refusal, saw_stop, saw_winner};
 
 /// Nothing differs, or the text of what does.
 pub type Same = Result<(), String>;
@@ -18,9 +17,9 @@ pub type Same = Result<(), String>;
 const UNTOUCHED: u8 = 0xA5;
 
 /// Lent words and what they must stand for.
-pub struct Pair {
+pub struct Pair<A = u32> {
     pub words: Lent<u32>,
-    pub memory: Memory,
+    pub memory: Memory<A>,
 }
 
 /// An answer in the form that both sides share.
@@ -30,8 +29,8 @@ pub fn library<T>(result: Result<T, toggleash::Refusal>) -> Told<T> {
     result.map_err(toggleash::Refusal::number)
 }
 
-fn list<T>(result: Result<T, Refusal>) -> Told<T> {
-    result.map_err(Refusal::number).inspect_err(|&number| saw_refusal(number))
+fn list<A: Family, T>(result: Result<T, Refusal>) -> Told<T> {
+    result.map_err(Refusal::number).inspect_err(|&number| A::seen().refusal(number))
 }
 
 pub fn same<T: PartialEq + std::fmt::Debug>(what: impl Fn() -> String, library: T, list: T) -> Same {
@@ -52,9 +51,9 @@ pub fn left<T: PartialEq + std::fmt::Debug>(what: impl Fn() -> String, expected:
     Err(format!("{}: lent element {at} is {is:?}, not {wanted:?}", what()))
 }
 
-impl Pair {
+impl<A: Family> Pair<A> {
     /// Words as they are, read by the reference.
-    pub fn seen(words: &[u32], side: Side) -> Pair {
+    pub fn seen(words: &[u32], side: Side) -> Pair<A> {
         Pair { words: Lent::copy_of(words, side), memory: layout::read(words) }
     }
 
@@ -62,9 +61,9 @@ impl Pair {
     pub fn clear(&mut self) -> Same {
         let before = self.words.to_vec();
         begin_call("clear");
-        let told = library(toggleash::clear(&mut self.words));
-        same(|| "clear".into(), told, list(self.memory.clear()))?;
-        let cleared = |arrays| layout::lay(&CandidateList::default(), arrays, &[]);
+        let told = library(A::Sent::clear(&mut self.words));
+        same(|| "clear".into(), told, list::<A, _>(self.memory.clear()))?;
+        let cleared = |arrays| layout::lay(&CandidateList::<A>::default(), arrays, &[]);
         let expected = self.memory.room().map_or(before, cleared);
         left(|| "words after clear".into(), &expected, &self.words)
     }
@@ -79,19 +78,19 @@ impl Pair {
 
     pub fn check(&self) -> Same {
         begin_call("check");
-        let told = library(self.words.sealed(toggleash::check)).map(|counts| (counts.routes, counts.arrays));
-        same(|| "check".into(), told, list(self.memory.check()).map(|counts| (counts.routes, counts.arrays)))
+        let told = library(self.words.sealed(A::Sent::check)).map(|counts| (counts.routes, counts.arrays));
+        same(|| "check".into(), told, list::<A, _>(self.memory.check()).map(|counts| (counts.routes, counts.arrays)))
     }
 
     /// Lookups by the layout's walk on any words, and by longest match and block where they are a table.
-    pub fn lookup(&self, addresses: &[u32]) -> Same {
+    pub fn lookup(&self, addresses: &[A]) -> Same {
         begin_call("lookup");
         self.words.sealed(|words| {
             addresses.iter().try_for_each(|&address| {
-                let what = || format!("lookup {}", Ipv4Addr::from(address));
-                let told = library(toggleash::lookup(words, address.into()));
+                let what = || format!("lookup {}", address.text());
+                let told = library(A::Sent::lookup(words, address.into()));
                 let told = told.map(|answer| (answer.found.map(|found| (found.hop, found.length)), answer.block));
-                let walked = list(layout::walk(words, address)).map(|Walked { found, block }| (found, block));
+                let walked = list::<A, _>(layout::walk(words, address)).map(|Walked { found, block }| (found, block));
                 same(what, told, walked)?;
                 match self.memory.lookup(address) {
                     Ok(Lookup { route, block }) => {
@@ -104,13 +103,13 @@ impl Pair {
     }
 
     /// What lies inside prefixes of any numbers, by the layout's walk on any words, and by the list where they are a table.
-    pub fn within(&self, prefixes: &[Prefix]) -> Same {
+    pub fn within(&self, prefixes: &[Prefix<A>]) -> Same {
         begin_call("within");
         self.words.sealed(|words| {
             prefixes.iter().try_for_each(|&Prefix { address, length }| {
-                let what = || format!("within {}/{length}", Ipv4Addr::from(address));
-                let told = library(toggleash::within(words, address.into(), length));
-                same(what, told, list(layout::within(words, address, length)))?;
+                let what = || format!("within {}/{length}", address.text());
+                let told = library(A::Sent::within(words, address.into(), length));
+                same(what, told, list::<A, _>(layout::within(words, address, length)))?;
                 match self.memory.within(address, length) {
                     Err(Refusal::NotATable) => Ok(count_odd_total(words, Prefix { address, length })),
                     counted => same(what, told, counted.map_err(Refusal::number)),
@@ -118,53 +117,53 @@ impl Pair {
             })
         })?;
         let Ok(held) = self.memory.list() else { return Ok(()) };
-        let all = library(toggleash::within(&self.words, Ipv4Addr::UNSPECIFIED, 0));
+        let all = library(A::Sent::within(&self.words, A::default().into(), 0));
         same(|| "prefixes in all".into(), all, Ok(held.winners().routes().len() as u32))
     }
 
     /// A feed announces a candidate, whose prefix and feed may be any numbers.
-    pub fn announce(&mut self, candidate: Candidate) -> Same {
+    pub fn announce(&mut self, candidate: Candidate<A>) -> Same {
         let Candidate { prefix, feed, preference, hop } = candidate;
         let Prefix { address, length } = prefix;
-        let sent = || format!("{}/{length} via {hop}", Ipv4Addr::from(address));
+        let sent = || format!("{}/{length} via {hop}", address.text());
         let what = || format!("announce {} by {feed} with {preference}", sent());
         let before = self.words.to_vec();
         let again = self.memory.list().is_ok_and(|list| list.held(prefix, feed) == Some(candidate));
         let won = self.winning(prefix);
         begin_call("announce");
         let announced = toggleash::Candidate { hop, feed, preference };
-        let told = library(toggleash::announce(&mut self.words, address.into(), length, announced));
-        let expected = list(self.memory.announce(address, length, hop, feed, preference));
+        let told = library(A::Sent::announce(&mut self.words, address.into(), length, announced));
+        let expected = list::<A, _>(self.memory.announce(address, length, hop, feed, preference));
         same_update(what, told, expected)?;
         if told.is_ok() {
-            saw_winner(won, self.winning(prefix));
+            A::seen().winner(won, self.winning(prefix));
         }
         self.changed(what, (told.is_ok() && !again).then_some((prefix, won)), &before)
     }
 
-    pub fn withdraw(&mut self, prefix: Prefix, feed: u32) -> Same {
+    pub fn withdraw(&mut self, prefix: Prefix<A>, feed: u32) -> Same {
         let Prefix { address, length } = prefix;
-        let what = || format!("withdraw {}/{length} by {feed}", Ipv4Addr::from(address));
+        let what = || format!("withdraw {}/{length} by {feed}", address.text());
         let before = self.words.to_vec();
         let won = self.winning(prefix);
         begin_call("withdraw");
-        let told = library(toggleash::withdraw(&mut self.words, address.into(), length, feed));
-        let expected = list(self.memory.withdraw(address, length, feed));
+        let told = library(A::Sent::withdraw(&mut self.words, address.into(), length, feed));
+        let expected = list::<A, _>(self.memory.withdraw(address, length, feed));
         same_update(what, told, expected)?;
         if told.is_ok() {
-            saw_winner(won, self.winning(prefix));
+            A::seen().winner(won, self.winning(prefix));
         }
         self.changed(what, told.is_ok().then_some((prefix, won)), &before)
     }
 
     /// The hop that wins at the prefix.
-    fn winning(&self, prefix: Prefix) -> Option<u32> {
+    fn winning(&self, prefix: Prefix<A>) -> Option<u32> {
         self.memory.list().ok()?.winners().hop(prefix)
     }
 
     /// Only the words changed that the update of this prefix may change, where this hop won before; none if it was refused or the
     /// candidate held already.
-    fn changed(&self, what: impl Fn() -> String, updated: Option<(Prefix, Option<u32>)>, before: &[u32]) -> Same {
+    fn changed(&self, what: impl Fn() -> String, updated: Option<(Prefix<A>, Option<u32>)>, before: &[u32]) -> Same {
         match updated {
             Some((prefix, won)) => {
                 confined(&what, prefix, before, &self.words)?;
@@ -183,9 +182,8 @@ impl Pair {
         let mut expected = vec![UNTOUCHED; room];
         let mut buffer = Lent::copy_of(&expected, side);
         begin_call("write_out");
-        let told =
-            self.words.sealed(|words| library(toggleash::write_out(words, &mut buffer)).map(|front| front.len()));
-        same(what, told, list(self.memory.write_out(&mut expected)))?;
+        let told = self.words.sealed(|words| library(A::Sent::write_out(words, &mut buffer)).map(|front| front.len()));
+        same(what, told, list::<A, _>(self.memory.write_out(&mut expected)))?;
         left(what, &expected, &buffer)
     }
 
@@ -197,16 +195,16 @@ impl Pair {
         let mut replies = Lent::copy_of(&expected, side);
         begin_call("run");
         let words = &mut self.words;
-        let told = library(Lent::copy_of(feed, side).sealed(|feed| toggleash::run(words, feed, &mut replies)));
+        let told = library(Lent::copy_of(feed, side).sealed(|feed| A::Sent::run(words, feed, &mut replies)));
         let told = told.map(|ran| (ran.stop.number(), ran.consumed, ran.written, ran.accepted, ran.refused));
         let mut records = 0;
-        let ran = list(self.memory.run_and_tell(feed, &mut expected, |_, answer| {
+        let ran = list::<A, _>(self.memory.run_and_tell(feed, &mut expected, |_, answer| {
             records += 1;
             if let Answer::Refused(refusal) = answer {
-                saw_refusal(refusal.number());
+                A::seen().refusal(refusal.number());
             }
         }));
-        let ran = ran.inspect(|ran| saw_stop(ran.stop as u8));
+        let ran = ran.inspect(|ran| A::seen().stop(ran.stop as u8));
         let ran = ran.map(|ran| (ran.stop as u8, ran.consumed, ran.written, ran.accepted, ran.refused));
         same(what, told, ran)?;
         left(what, &expected, &replies)?;
@@ -222,16 +220,16 @@ impl Pair {
 }
 
 /// Counts what a walk over words that are no table meets, if that ends it.
-fn count_odd(words: &[u32], address: u32) {
+fn count_odd<A: Family>(words: &[u32], address: A) {
     if let Some(Err((odd, level))) = Arrays::new(words).map(|arrays| layout::trace(&arrays, address)) {
-        saw_odd(odd, level);
+        A::seen().odd(odd, level);
     }
 }
 
 /// Counts what a walk to a total over words that are no table meets, if that ends it.
-fn count_odd_total(words: &[u32], prefix: Prefix) {
+fn count_odd_total<A: Family>(words: &[u32], prefix: Prefix<A>) {
     if let Some(Err((odd, level))) = Arrays::new(words).map(|arrays| layout::trace_total(&arrays, prefix)) {
-        saw_odd_total(odd, level);
+        A::seen().odd_total(odd, level);
     }
 }
 
@@ -260,14 +258,14 @@ fn totals_left(what: impl Fn() -> String, before: &[u32], after: &[u32]) -> Same
 
 /// Besides the header and the update's own array only arrays gained or freed, and the one that links to them, changed; of the
 /// other arrays on the way only totals.
-fn confined(what: impl Fn() -> String, prefix: Prefix, before: &[u32], after: &[u32]) -> Same {
+fn confined<A: Family>(what: impl Fn() -> String, prefix: Prefix<A>, before: &[u32], after: &[u32]) -> Same {
     // The way to the array is whole where more arrays are used.
     let (full, lean) = if after[0] >= before[0] { (after, before) } else { (before, after) };
     let arrays = Arrays::new(full).expect("an accepted update has a right size");
     let mut path = vec![1];
     for level in 0..prefix.level() {
-        let cell = (prefix.address >> (24 - 8 * level) & 255) as usize;
-        let below = arrays.below(path[level as usize], cell).and_then(|number| arrays.held(number));
+        let below =
+            arrays.below(path[level as usize], prefix.address.byte(level)).and_then(|number| arrays.held(number));
         path.push(below.ok_or_else(|| format!("{}: no array for it", what()))?);
     }
     let comes_or_goes = |a: &usize| lean[ARRAY_WORDS * a] == 0;

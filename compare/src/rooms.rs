@@ -5,20 +5,21 @@ use reference::feed::Record;
 use reference::memory::ARRAY_WORDS;
 use reference::{Candidate, CandidateList, Prefix};
 
+use crate::family::Family;
 use crate::feeds::{Mood, Source, Terrain};
 use crate::guard::Side;
 use crate::insides;
 use crate::lists::{filling, scattered};
 use crate::pair::{Pair, Same};
 use crate::random::Random;
-use crate::tally::Tally;
+use crate::tally::Counts;
 
 /// Words that the check may read over and over for one round trip; beyond that it would take too long.
 const ROUND_TRIP_WORDS: usize = 120_000_000;
 
 /// A room of so many arrays and about so many records.
-pub fn room(random: &mut Random, arrays: usize, records: u64, tally: &mut Tally) -> Same {
-    let terrain = Terrain::new(random, arrays);
+pub fn room<A: Family>(random: &mut Random, arrays: usize, records: u64, tally: &mut Counts) -> Same {
+    let terrain = Terrain::<A>::new(random, arrays);
     let mut pair = start(random, &terrain, arrays)?;
     let end = tally.records + tally.updates + records;
     while tally.records + tally.updates < end {
@@ -32,7 +33,7 @@ pub fn room(random: &mut Random, arrays: usize, records: u64, tally: &mut Tally)
 }
 
 /// A cleared table, from words of any content, or one that is nearly full already.
-fn start(random: &mut Random, terrain: &Terrain, arrays: usize) -> Result<Pair, String> {
+fn start<A: Family>(random: &mut Random, terrain: &Terrain<A>, arrays: usize) -> Result<Pair<A>, String> {
     if arrays > 100 || random.chance(20) {
         let need = arrays - random.below(arrays.min(3));
         let list = filling(random, terrain, need);
@@ -44,11 +45,16 @@ fn start(random: &mut Random, terrain: &Terrain, arrays: usize) -> Result<Pair, 
     Ok(pair)
 }
 
-fn held(pair: &Pair) -> CandidateList {
+fn held<A: Family>(pair: &Pair<A>) -> CandidateList<A> {
     pair.memory.list().expect("a room's words stay a table").clone()
 }
 
-fn run_feed(random: &mut Random, terrain: &Terrain, pair: &mut Pair, tally: &mut Tally) -> Result<Vec<Prefix>, String> {
+fn run_feed<A: Family>(
+    random: &mut Random,
+    terrain: &Terrain<A>,
+    pair: &mut Pair<A>,
+    tally: &mut Counts,
+) -> Result<Vec<Prefix<A>>, String> {
     let mood = Mood::any(random);
     let count = if pair.words.len() > 1_500_000 { random.within(1..=12) } else { random.within(0..=60) };
     let side = random.pick(&[Side::Front, Side::Back]);
@@ -61,17 +67,17 @@ fn run_feed(random: &mut Random, terrain: &Terrain, pair: &mut Pair, tally: &mut
     Ok(known)
 }
 
-fn update_directly(
+fn update_directly<A: Family>(
     random: &mut Random,
-    terrain: &Terrain,
-    pair: &mut Pair,
-    tally: &mut Tally,
-) -> Result<Vec<Prefix>, String> {
+    terrain: &Terrain<A>,
+    pair: &mut Pair<A>,
+    tally: &mut Counts,
+) -> Result<Vec<Prefix<A>>, String> {
     let mood = Mood::any(random);
     let count = if pair.words.len() > 1_500_000 { random.within(1..=4) } else { random.within(1..=30) };
     let wide = random.pick(&[256, 65_536, 1 << 31]);
     let mut source = Source::new(random, terrain, &held(pair));
-    let records: Vec<Record> = (0..count).map(|_| source.record(mood)).collect();
+    let records: Vec<Record<A>> = (0..count).map(|_| source.record(mood)).collect();
     let known = source.known();
     for record in records {
         tally.updates += 1;
@@ -84,7 +90,7 @@ fn update_directly(
 }
 
 /// Makes one record's call directly, its length, hop and feed perhaps widened.
-pub fn update(pair: &mut Pair, record: Record, mut wider: impl FnMut(u32) -> u32) -> Same {
+pub fn update<A: Family>(pair: &mut Pair<A>, record: Record<A>, mut wider: impl FnMut(u32) -> u32) -> Same {
     match record {
         Record::Announce { address, length, hop, feed, preference } => {
             let prefix = Prefix { address, length: wider(length) };
@@ -98,9 +104,15 @@ pub fn update(pair: &mut Pair, record: Record, mut wider: impl FnMut(u32) -> u32
     }
 }
 
-fn after_burst(random: &mut Random, terrain: &Terrain, pair: &Pair, known: &[Prefix], tally: &mut Tally) -> Same {
+fn after_burst<A: Family>(
+    random: &mut Random,
+    terrain: &Terrain<A>,
+    pair: &Pair<A>,
+    known: &[Prefix<A>],
+    tally: &mut Counts,
+) -> Same {
     pair.check()?;
-    let mut addresses: Vec<u32> = (0..12).map(|_| random.word()).collect();
+    let mut addresses: Vec<A> = (0..12).map(|_| A::any(random)).collect();
     addresses.extend((0..12).map(|_| terrain.address(random)));
     let list = held(pair);
     for _ in 0..12 {
@@ -111,7 +123,7 @@ fn after_burst(random: &mut Random, terrain: &Terrain, pair: &Pair, known: &[Pre
     }
     pair.lookup(&addresses)?;
     tally.lookups += addresses.len() as u64;
-    let mut prefixes: Vec<Prefix> = addresses.iter().map(|&address| insides::holding(random, address)).collect();
+    let mut prefixes: Vec<Prefix<A>> = addresses.iter().map(|&address| insides::holding(random, address)).collect();
     for _ in 0..12 {
         let prefix = random.pick(known);
         prefixes.extend(insides::around(random, prefix));
@@ -130,20 +142,22 @@ fn after_burst(random: &mut Random, terrain: &Terrain, pair: &Pair, known: &[Pre
 }
 
 /// The first and last address inside and those beside.
-pub fn neighbours(prefix: Prefix) -> [u32; 4] {
+pub fn neighbours<A: Family>(prefix: Prefix<A>) -> [A; 4] {
     let (first, last) = (prefix.address, prefix.last());
-    [first.wrapping_sub(1), first, last, last.wrapping_add(1)]
+    // After the last of all addresses comes the first. The one before another is not that which comes after what is not it.
+    let after = |address: A| address.next().unwrap_or_default();
+    [!after(!first), first, last, after(last)]
 }
 
 /// The written list, run into a cleared table of the same room, gives the list again.
-fn round_trip(pair: &Pair) -> Same {
+fn round_trip<A: Family>(pair: &Pair<A>) -> Same {
     let list = held(pair);
     let count = list.candidates().len();
     if count * pair.words.len() > ROUND_TRIP_WORDS {
         return Ok(());
     }
     pair.write_out(list.encoded_size(), Side::Back)?;
-    let mut copy = Pair::seen(&pair.words, Side::Back);
+    let mut copy = Pair::<A>::seen(&pair.words, Side::Back);
     copy.clear()?;
     copy.run(&list.encoding(), 5 * count, Side::Back)?;
     match held(&copy) == list {

@@ -3,7 +3,9 @@
 use std::fmt;
 use std::sync::atomic::{AtomicU64, Ordering::Relaxed};
 
-use reference::layout::{Odd, OddTotal, LEVELS};
+use reference::layout::{Odd, OddTotal};
+
+use crate::family::Family;
 
 /// Differences after which no more are looked for.
 const ENOUGH: u64 = 10;
@@ -11,6 +13,15 @@ const ENOUGH: u64 = 10;
 /// Counts of what was compared.
 #[derive(Default)]
 pub struct Tally {
+    pub four: Counts,
+    pub six: Counts,
+    pub copies: Copies,
+    pub differences: u64,
+}
+
+/// Of the tables of a family.
+#[derive(Default)]
+pub struct Counts {
     pub records: u64,
     pub feeds: u64,
     pub updates: u64,
@@ -18,8 +29,6 @@ pub struct Tally {
     pub withins: u64,
     pub tables: u64,
     pub damaged: u64,
-    pub copies: Copies,
-    pub differences: u64,
 }
 
 /// Of copies for the line card.
@@ -37,74 +46,103 @@ pub struct Copies {
     pub lookups_refused: u64,
 }
 
-/// How often each refusal, by its number, and each stop was the right answer.
-static REFUSALS: [AtomicU64; 11] = [const { AtomicU64::new(0) }; 11];
-static STOPS: [AtomicU64; 5] = [const { AtomicU64::new(0) }; 5];
-/// How often a lookup's walk ended at what no table has: lengths, then blocks, then links, by level.
-static ODD: [AtomicU64; 3 * LEVELS as usize] = [const { AtomicU64::new(0) }; 3 * LEVELS as usize];
+/// The levels of the family that has most.
+const LEVELS: usize = 16;
 
-/// How often a walk to a total ended so: at links, by the levels but the last, then at totals, by level.
-static ODD_TOTALS: [AtomicU64; 2 * LEVELS as usize - 1] = [const { AtomicU64::new(0) }; 2 * LEVELS as usize - 1];
-
-/// How often a direct update made a hop win at its prefix, changed it, left it, and left none.
-static WINNERS: [AtomicU64; 4] = [const { AtomicU64::new(0) }; 4];
-
-pub fn saw_refusal(number: u8) {
-    REFUSALS[usize::from(number)].fetch_add(1, Relaxed);
+/// How often each thing was met in the tables of a family.
+pub struct Seen {
+    /// A refusal, by its number, or a stop as the right answer.
+    refusals: [AtomicU64; 11],
+    stops: [AtomicU64; 5],
+    /// A direct update that made a hop win at its prefix, changed it, left it, and left none.
+    winners: [AtomicU64; 4],
+    /// A lookup's walk that ended at what no table has: lengths, blocks and links, by level.
+    odd: [[AtomicU64; LEVELS]; 3],
+    /// A walk to a total that ended so: links and totals, by level.
+    odd_totals: [[AtomicU64; LEVELS]; 2],
 }
 
-pub fn saw_stop(number: u8) {
-    STOPS[usize::from(number)].fetch_add(1, Relaxed);
-}
+impl Seen {
+    pub const fn new() -> Seen {
+        Seen {
+            refusals: [const { AtomicU64::new(0) }; 11],
+            stops: [const { AtomicU64::new(0) }; 5],
+            winners: [const { AtomicU64::new(0) }; 4],
+            odd: [const { [const { AtomicU64::new(0) }; LEVELS] }; 3],
+            odd_totals: [const { [const { AtomicU64::new(0) }; LEVELS] }; 2],
+        }
+    }
 
-/// Notes the hops that win at an accepted update's prefix before and after it.
-pub fn saw_winner(before: Option<u32>, after: Option<u32>) {
-    let which = match (before, after) {
-        (None, _) => 0,
-        (Some(_), None) => 3,
-        _ if before == after => 2,
-        _ => 1,
-    };
-    WINNERS[which].fetch_add(1, Relaxed);
-}
+    pub fn refusal(&self, number: u8) {
+        self.refusals[usize::from(number)].fetch_add(1, Relaxed);
+    }
 
-pub fn saw_odd(odd: Odd, level: u32) {
-    let first = match odd {
-        Odd::Length => 0,
-        Odd::Block => LEVELS,
-        Odd::Array => 2 * LEVELS,
-    };
-    ODD[(first + level) as usize].fetch_add(1, Relaxed);
-}
+    pub fn stop(&self, number: u8) {
+        self.stops[usize::from(number)].fetch_add(1, Relaxed);
+    }
 
-pub fn saw_odd_total(odd: OddTotal, level: u32) {
-    let first = match odd {
-        OddTotal::Array => 0,
-        OddTotal::Total => LEVELS - 1,
-    };
-    ODD_TOTALS[(first + level) as usize].fetch_add(1, Relaxed);
-}
+    /// Notes the hops that win at an accepted update's prefix before and after it.
+    pub fn winner(&self, before: Option<u32>, after: Option<u32>) {
+        let which = match (before, after) {
+            (None, _) => 0,
+            (Some(_), None) => 3,
+            _ if before == after => 2,
+            _ => 1,
+        };
+        self.winners[which].fetch_add(1, Relaxed);
+    }
 
-impl Tally {
-    /// Prints how often each refusal and stop was met. A comparison that met one of them never has shown nothing of it.
-    pub fn answers(&mut self) {
+    pub fn odd(&self, odd: Odd, level: u32) {
+        self.odd[odd as usize][level as usize].fetch_add(1, Relaxed);
+    }
+
+    pub fn odd_total(&self, odd: OddTotal, level: u32) {
+        self.odd_totals[odd as usize][level as usize].fetch_add(1, Relaxed);
+    }
+
+    /// Prints what was met, of so many levels. Tells whether one of them never was.
+    fn lacks(&self, levels: usize) -> bool {
         let counts = |of: &[AtomicU64]| of.iter().map(|count| count.load(Relaxed)).collect::<Vec<u64>>();
-        let (mut refusals, stops) = (counts(&REFUSALS), counts(&STOPS));
+        let (mut refusals, stops) = (counts(&self.refusals), counts(&self.stops));
         // there is no 0 and no 6
         refusals.remove(6);
         refusals.remove(0);
-        println!("refusals 1, 2, 3, 4, 5, 7, 8, 9, 10 met {refusals:?} times, stops 0 to 4 {stops:?} times");
-        let winners = counts(&WINNERS);
-        println!("direct updates by which a winning hop comes, changes, stays and goes {winners:?} times");
-        let odd = counts(&ODD);
-        let by_level: Vec<_> = odd.chunks(LEVELS as usize).collect();
-        println!("lookups refused with 2 for a length, a block and a link, on each level {by_level:?} times");
-        let odd_totals = counts(&ODD_TOTALS);
-        let by_level = odd_totals.split_at(LEVELS as usize - 1);
-        println!("counts inside a prefix refused with 2 for a link and a total, on each level {by_level:?} times");
+        println!("  refusals 1, 2, 3, 4, 5, 7, 8, 9, 10 met {refusals:?} times, stops 0 to 4 {stops:?} times");
+        let winners = counts(&self.winners);
+        println!("  direct updates by which a winning hop comes, changes, stays and goes {winners:?} times");
+        let odd = [0, 1, 2].map(|odd| counts(&self.odd[odd][..levels]));
+        println!("  lookups refused with 2 for a length, a block and a link, on each level {odd:?} times");
+        // No walk to a total leaves the last level.
+        let odd_totals = [counts(&self.odd_totals[0][..levels - 1]), counts(&self.odd_totals[1][..levels])];
+        println!("  counts inside a prefix refused with 2 for a link and a total, on each level {odd_totals:?} times");
+        [refusals, stops, winners, odd.concat(), odd_totals.concat()].concat().contains(&0)
+    }
+}
+
+impl Default for Seen {
+    fn default() -> Seen {
+        Seen::new()
+    }
+}
+
+impl Tally {
+    /// Prints what was met of a family. A comparison that met one of the answers never has shown nothing of it.
+    pub fn answers<A: Family>(&mut self) {
+        println!("{}: {}", A::NAME, A::counts(self));
+        let lacks = A::seen().lacks(A::LEVELS as usize);
+        self.missing(lacks);
+    }
+
+    /// The same of copies.
+    pub fn copies(&mut self) {
+        println!("copies: {}", self.copies);
         let copies = [self.copies.bytes_refused, self.copies.words_refused, self.copies.lookups_refused];
-        println!("for copies, bytes refused with 2, words by 9 and lookups by 2 {copies:?} times");
-        if !self.enough() && [&refusals[..], &stops, &winners, &odd, &odd_totals, &copies].concat().contains(&0) {
+        println!("  bytes refused with 2, words by 9 and lookups by 2 {copies:?} times");
+        self.missing(copies.contains(&0));
+    }
+
+    fn missing(&mut self, lacks: bool) {
+        if lacks && !self.enough() {
             println!("difference: one of them was never met");
             self.differences += 1;
         }
@@ -123,18 +161,17 @@ impl Tally {
     }
 }
 
-impl fmt::Display for Tally {
+impl fmt::Display for Counts {
     fn fmt(&self, f: &mut fmt::Formatter<'_>) -> fmt::Result {
-        let Tally { records, feeds, updates, lookups, withins, tables, damaged, copies, differences } = self;
+        let Counts { records, feeds, updates, lookups, withins, tables, damaged } = self;
         write!(f, "{records} records in {feeds} feeds, {updates} direct updates, {lookups} lookups, ")?;
-        write!(f, "{withins} counts inside a prefix, ")?;
-        write!(f, "{tables} tables, {damaged} damaged memories; {copies}: {differences} differences")
+        write!(f, "{withins} counts inside a prefix, {tables} tables, {damaged} damaged memories")
     }
 }
 
 impl fmt::Display for Copies {
     fn fmt(&self, f: &mut fmt::Formatter<'_>) -> fmt::Result {
         let Copies { built, lookups, torn, damaged, .. } = self;
-        write!(f, "{built} copies, {lookups} lookups in them, {torn} damaged lists, {damaged} damaged copies")
+        write!(f, "{built} built, {lookups} lookups in them, {torn} damaged lists, {damaged} damaged copies")
     }
 }

@@ -4,9 +4,9 @@ use reference::memory::MOST_ARRAYS;
 use reference::{CandidateList, Prefix};
 
 use crate::copies::{build, need};
-use crate::feeds::hop;
+use crate::feeds::{hop, Terrain};
 use crate::guard::{Lent, Side};
-use crate::lists::{any_list, rivalled, Growing};
+use crate::lists::{any_list, filling, rivalled, Growing};
 use crate::pair::Same;
 use crate::random::Random;
 use crate::tally::Tally;
@@ -44,6 +44,14 @@ pub fn torn(random: &mut Random, tally: &mut Tally) -> Same {
         tear(random, &mut list);
     }
     every_call(random, &list.bytes, tally)
+}
+
+/// A list of the other family, which no copy is made of unless it is empty.
+pub fn of_ipv6(random: &mut Random, tally: &mut Tally) -> Same {
+    let arrays = random.within(1..=20);
+    let terrain = Terrain::<u128>::new(random, arrays);
+    let list = filling(random, &terrain, arrays);
+    every_call(random, &list.encoding(), tally)
 }
 
 /// A list of all lengths that needs just as many arrays as a table can have, or so many more.

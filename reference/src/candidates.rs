@@ -1,6 +1,7 @@
 //! Candidates, what feeds have announced for prefixes, in the order of writing out, and which of them win.
 
 use crate::address::Address;
+use crate::feed::{kind_of, Role};
 use crate::list::{Prefix, Route, RouteList};
 
 /// The feeds that may announce; there is no feed 0.
@@ -107,13 +108,14 @@ impl<A: Address> From<&RouteList<A>> for CandidateList<A> {
     }
 }
 
-impl CandidateList {
+impl<A: Address> CandidateList<A> {
     /// The list as a feed of announcements that name their feeds, and an end.
     pub fn encoding(&self) -> Vec<u8> {
+        let kind = kind_of::<A>(Role::AnnounceFor).expect("both families have one");
         let mut bytes = Vec::with_capacity(self.encoded_size());
         for candidate in &self.candidates {
-            bytes.push(4);
-            bytes.extend(candidate.prefix.address.to_be_bytes());
+            bytes.push(kind);
+            bytes.extend(candidate.prefix.address.bytes());
             bytes.push(candidate.prefix.length as u8);
             bytes.extend((candidate.hop as u16).to_be_bytes());
             bytes.extend([candidate.feed as u8, candidate.preference]);
@@ -122,8 +124,8 @@ impl CandidateList {
         bytes
     }
 
-    /// The bytes of that.
+    /// The bytes of that: 10 a candidate for IPv4, 22 for IPv6, and the end.
     pub fn encoded_size(&self) -> usize {
-        10 * self.candidates.len() + 1
+        (A::LEVELS as usize + 6) * self.candidates.len() + 1
     }
 }

@@ -1,25 +1,49 @@
 //! Feeds, replies and the run.
 
+use crate::address::Address;
 use crate::memory::{Lookup, Memory, Update};
 use crate::refusal::Refusal;
 
 /// The free reply bytes that every record but end asks for, whatever its reply takes.
 const REPLY_ROOM: usize = 5;
 
-/// One record of a feed: what it asks for, which kinds 1 and 4 say in two ways, and kinds 2 and 5.
+/// What the records of a kind ask for, and whether they name their feed.
 #[derive(Clone, Copy, Debug, PartialEq, Eq)]
-pub enum Record {
+pub enum Role {
+    Announce,
+    Withdraw,
+    Lookup,
+    AnnounceFor,
+    WithdrawFor,
+}
+
+impl Role {
+    /// The bytes of a body after its address.
+    fn rest(self) -> usize {
+        match self {
+            Role::Lookup => 0,
+            Role::Withdraw => 1,
+            Role::WithdrawFor => 2,
+            Role::Announce => 3,
+            Role::AnnounceFor => 5,
+        }
+    }
+}
+
+/// One record of a feed: what it asks for, which two kinds of IPv4 say in two ways each.
+#[derive(Clone, Copy, Debug, PartialEq, Eq)]
+pub enum Record<A = u32> {
     End,
-    Announce { address: u32, length: u32, hop: u32, feed: u32, preference: u8 },
-    Withdraw { address: u32, length: u32, feed: u32 },
-    Lookup { address: u32 },
+    Announce { address: A, length: u32, hop: u32, feed: u32, preference: u8 },
+    Withdraw { address: A, length: u32, feed: u32 },
+    Lookup { address: A },
 }
 
 /// What a record but end is answered.
 #[derive(Clone, Copy, Debug, PartialEq, Eq)]
-pub enum Answer {
+pub enum Answer<A = u32> {
     Done(Update),
-    Looked(Lookup),
+    Looked(Lookup<A>),
     Refused(Refusal),
 }
 
@@ -44,48 +68,41 @@ pub struct Ran {
     pub refused: usize,
 }
 
-/// The bytes of a record with its kind, for the kinds of a feed.
-pub fn record_size(kind: u8) -> Option<usize> {
-    match kind {
-        0 => Some(1),
-        1 => Some(8),
-        2 => Some(6),
-        3 => Some(5),
-        4 => Some(10),
-        5 => Some(7),
-        _ => None,
-    }
+/// The kind of a family's records with this role, if it has one.
+pub fn kind_of<A: Address>(role: Role) -> Option<u8> {
+    A::KINDS.iter().find(|kind| kind.1 == role).map(|kind| kind.0)
 }
 
 /// The first record and its size, or the stop that the feed itself gives.
-fn first_record(feed: &[u8]) -> Result<(Record, usize), Stop> {
-    let &kind = feed.first().ok_or(Stop::NoByteLeft)?;
-    let size = record_size(kind).ok_or(Stop::UnknownKind)?;
-    let bytes = feed.get(..size).ok_or(Stop::BodyShort)?;
-    Ok((record(bytes), size))
+fn first_record<A: Address>(feed: &[u8]) -> Result<(Record<A>, usize), Stop> {
+    let (&first, body) = feed.split_first().ok_or(Stop::NoByteLeft)?;
+    if first == 0 {
+        return Ok((Record::End, 1));
+    }
+    let &(_, role) = A::KINDS.iter().find(|kind| kind.0 == first).ok_or(Stop::UnknownKind)?;
+    let size = A::LEVELS as usize + role.rest();
+    let body = body.get(..size).ok_or(Stop::BodyShort)?;
+    Ok((record(role, body), 1 + size))
 }
 
-/// The record that the bytes of just one are. Kinds 1 and 2 are of feed 1, kind 1 with preference 0.
-fn record(bytes: &[u8]) -> Record {
-    let prefix = |a, b, c, d, length: u8| (u32::from_be_bytes([a, b, c, d]), u32::from(length));
-    let announce = |(address, length), hop: [u8; 2], feed: u8, preference| {
-        let hop = u32::from(u16::from_be_bytes(hop));
-        Record::Announce { address, length, hop, feed: feed.into(), preference }
-    };
-    let withdraw = |(address, length), feed: u8| Record::Withdraw { address, length, feed: feed.into() };
-    match *bytes {
-        [1, a, b, c, d, length, high, low] => announce(prefix(a, b, c, d, length), [high, low], 1, 0),
-        [2, a, b, c, d, length] => withdraw(prefix(a, b, c, d, length), 1),
-        [3, a, b, c, d] => Record::Lookup { address: u32::from_be_bytes([a, b, c, d]) },
-        [4, a, b, c, d, length, high, low, feed, preference] => {
-            announce(prefix(a, b, c, d, length), [high, low], feed, preference)
+/// The record that a body is. One that names no feed is of feed 1, and announces with preference 0.
+fn record<A: Address>(role: Role, body: &[u8]) -> Record<A> {
+    let (address, rest) = body.split_at(A::LEVELS as usize);
+    let address = A::of_bytes(address);
+    let number = |at: usize| u32::from(rest[at]);
+    let hop = || 256 * number(1) + number(2);
+    match role {
+        Role::Announce => Record::Announce { address, length: number(0), hop: hop(), feed: 1, preference: 0 },
+        Role::AnnounceFor => {
+            Record::Announce { address, length: number(0), hop: hop(), feed: number(3), preference: rest[4] }
         }
-        [5, a, b, c, d, length, feed] => withdraw(prefix(a, b, c, d, length), feed),
-        _ => Record::End,
+        Role::Withdraw => Record::Withdraw { address, length: number(0), feed: 1 },
+        Role::WithdrawFor => Record::Withdraw { address, length: number(0), feed: number(1) },
+        Role::Lookup => Record::Lookup { address },
     }
 }
 
-impl Answer {
+impl<A: Address> Answer<A> {
     /// The reply as bytes.
     pub fn encoding(self) -> Vec<u8> {
         let two = |number: u32| (number as u16).to_be_bytes();
@@ -100,9 +117,9 @@ impl Answer {
     }
 }
 
-impl Memory {
+impl<A: Address> Memory<A> {
     /// What one record does; end does nothing.
-    fn take(&mut self, record: Record) -> Option<Answer> {
+    fn take(&mut self, record: Record<A>) -> Option<Answer<A>> {
         let done = |result: Result<Update, Refusal>| result.map_or_else(Answer::Refused, Answer::Done);
         match record {
             Record::End => None,
@@ -124,7 +141,7 @@ impl Memory {
         &mut self,
         feed: &[u8],
         reply: &mut [u8],
-        mut tell: impl FnMut(Record, Answer),
+        mut tell: impl FnMut(Record<A>, Answer<A>),
     ) -> Result<Ran, Refusal> {
         self.list()?;
         let mut ran = Ran { stop: Stop::End, consumed: 0, written: 0, accepted: 0, refused: 0 };

@@ -1,8 +1,9 @@
 //! A plain implementation of the rules that docs/FEED.md and docs/COPY.md give, written from the rules alone, to compare the
 //! proved one with.
 //!
-//! Candidates and routes are plain sorted lists, over any [`Address`]; feeds, words and copies are of IPv4. Nothing here knows the words
-//! of a table but [`layout`], which reads docs/LAYOUT.md, nor those of a copy but [`copy`], which reads docs/COPY.md.
+//! Candidates and routes are plain sorted lists. All is over any [`Address`], of IPv4 or of IPv6, but copies and resolving,
+//! which are of IPv4. Nothing here knows the words of a table but [`layout`], which reads docs/LAYOUT.md, nor those of a copy
+//! but [`copy`], which reads docs/COPY.md.
 
 pub mod address;
 pub mod candidates;
@@ -14,6 +15,7 @@ pub mod memory;
 pub mod program;
 pub mod refusal;
 pub mod resolve;
+pub mod rfc5952;
 
 pub use address::Address;
 pub use candidates::{Candidate, CandidateList, FEEDS};

@@ -1,5 +1,6 @@
 //! Prefixes, routes and the route list, in the order of writing out.
 
+use std::collections::BTreeMap;
 use std::ops::Range;
 
 use crate::address::Address;
@@ -68,6 +69,8 @@ pub struct Route<A = u32> {
 #[derive(Clone, Debug, Default, PartialEq, Eq)]
 pub struct RouteList<A = u32> {
     routes: Vec<Route<A>>,
+    /// The lengths held, each with the number of routes that have it: a lookup need not try others.
+    lengths: BTreeMap<u32, usize>,
 }
 
 impl<A: Address> RouteList<A> {
@@ -91,6 +94,7 @@ impl<A: Address> RouteList<A> {
             Ok(at) => Some(std::mem::replace(&mut self.routes[at].hop, hop)),
             Err(at) => {
                 self.routes.insert(at, Route { prefix, hop });
+                *self.lengths.entry(prefix.length).or_default() += 1;
                 None
             }
         }
@@ -99,12 +103,16 @@ impl<A: Address> RouteList<A> {
     /// Removes the route of this prefix and gives its hop.
     pub fn remove(&mut self, prefix: Prefix<A>) -> Option<u32> {
         let at = self.find(prefix).ok()?;
+        match self.lengths.get_mut(&prefix.length) {
+            Some(count) if *count > 1 => *count -= 1,
+            _ => drop(self.lengths.remove(&prefix.length)),
+        }
         Some(self.routes.remove(at).hop)
     }
 
     /// The matching route of the greatest length.
     pub fn longest_match(&self, address: A) -> Option<Route<A>> {
-        (0..=A::BITS).rev().find_map(|length| {
+        self.lengths.keys().rev().find_map(|&length| {
             let at = self.find(Prefix::around(address, length)).ok()?;
             Some(self.routes[at])
         })

@@ -128,9 +128,7 @@ impl<A: Address> Memory<A> {
         let removed = list.remove(prefix, feed).ok_or(Refusal::NotHeld)?;
         Ok(Update { hop: removed.hop, cells: reloaded(list, prefix, before) })
     }
-}
 
-impl Memory {
     /// Writes the list to the front of the buffer and gives the number of bytes; the rest of the buffer stays.
     pub fn write_out(&self, buffer: &mut [u8]) -> Result<usize, Refusal> {
         let bytes = self.list()?.encoding();

@@ -1,23 +1,22 @@
 //! The program: a feed in, lines out, as docs/FEED.md says.
 
 use std::fmt::Write;
-use std::net::Ipv4Addr;
 
+use crate::address::Address;
 use crate::feed::{Answer, Record};
 use crate::memory::{Lookup, Memory, ARRAY_WORDS};
 
 /// The longest feed that the program takes.
 pub const MOST_INPUT: usize = 4_096;
 const REPLY_BYTES: usize = 4_096;
-const ARRAYS: usize = 3;
 
-/// All that the program prints for an input.
-pub fn output(input: &[u8]) -> String {
+/// All that the program of a family prints for an input.
+pub fn output<A: Address>(input: &[u8]) -> String {
     if input.len() > MOST_INPUT {
         return "too long\n".to_string();
     }
-    let mut memory = Memory::new(ARRAY_WORDS * (ARRAYS + 1), None);
-    memory.clear().expect("three arrays are a right size");
+    let mut memory = Memory::<A>::new(ARRAY_WORDS * (A::PROGRAM_ARRAYS + 1), None);
+    memory.clear().expect("so many arrays are a right size");
     let mut text = String::new();
     let mut reply = [0; REPLY_BYTES];
     let ran = memory
@@ -34,16 +33,16 @@ pub fn output(input: &[u8]) -> String {
     )
 }
 
-fn sent(record: Record) -> String {
+fn sent<A: Address>(record: Record<A>) -> String {
     match record {
         Record::End => "end".to_string(),
-        Record::Announce { address, length, .. } => format!("announce {}/{length}", Ipv4Addr::from(address)),
-        Record::Withdraw { address, length, .. } => format!("withdraw {}/{length}", Ipv4Addr::from(address)),
-        Record::Lookup { address } => format!("lookup {}", Ipv4Addr::from(address)),
+        Record::Announce { address, length, .. } => format!("announce {}/{length}", address.text()),
+        Record::Withdraw { address, length, .. } => format!("withdraw {}/{length}", address.text()),
+        Record::Lookup { address } => format!("lookup {}", address.text()),
     }
 }
 
-fn answered(answer: Answer) -> String {
+fn answered<A: Address>(answer: Answer<A>) -> String {
     match answer {
         Answer::Done(update) => format!("via {} cells {}", update.hop, update.cells),
         Answer::Looked(Lookup { route: Some(route), block }) => {

@@ -87,7 +87,7 @@ lookup 10.0.0.1 none block 0
 routes 0 arrays 1 accepted 4 refused 0
 stopped 0 at 50
 ";
-    assert_eq!(program::output(&BETTER_PREFERENCE.feed()), lines);
+    assert_eq!(program::output::<u32>(&BETTER_PREFERENCE.feed()), lines);
 }
 
 #[test]
@@ -143,7 +143,7 @@ withdraw 10.0.0.0/8 via 6 cells 1
 routes 0 arrays 1 accepted 5 refused 2
 stopped 0 at 60
 ";
-    assert_eq!(program::output(&KINDS_1_AND_2.feed()), lines);
+    assert_eq!(program::output::<u32>(&KINDS_1_AND_2.feed()), lines);
 }
 
 #[test]
@@ -188,7 +188,7 @@ announce 10.0.0.0/8 via 9 cells 1
 routes 4 arrays 3 accepted 4 refused 0
 stopped 0 at 39
 ";
-    assert_eq!(program::output(&WRITING_OUT.feed()), lines);
+    assert_eq!(program::output::<u32>(&WRITING_OUT.feed()), lines);
 }
 
 #[test]

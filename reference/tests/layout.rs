@@ -57,9 +57,9 @@ fn leads(length: u32, hop: u32, number: u32) -> u32 {
 fn laid_out_is_read_again() {
     let words = words();
     assert_eq!(read(&words), Memory::new(words.len(), Some(sample())));
-    assert_eq!(check(&words), Ok(Counts { routes: 11, arrays: 7 }));
-    let empty = lay(&CandidateList::default(), 1, &[]);
-    assert_eq!(check(&empty), Ok(Counts { routes: 0, arrays: 1 }));
+    assert_eq!(check::<u32>(&words), Ok(Counts { routes: 11, arrays: 7 }));
+    let empty = lay(&CandidateList::<u32>::default(), 1, &[]);
+    assert_eq!(check::<u32>(&empty), Ok(Counts { routes: 0, arrays: 1 }));
 }
 
 #[test]
@@ -91,7 +91,7 @@ fn the_words_of_cells() {
 #[test]
 fn each_single_word_with_a_use_matters() {
     let mut words = words();
-    let seen = read(&words);
+    let seen: Memory = read(&words);
     for at in 0..words.len() {
         let unused = matches!(at % ARRAY, 1..=3 | TOTALS | 2816..);
         let used = at < ARRAY || !unused;
@@ -115,11 +115,11 @@ fn each_single_word_with_a_use_matters() {
 fn sizes() {
     for count in [0, 1, 1024, 2048, 3072, 6143, 6145, 7168, 4_195_328, 12_585_983, 12_585_985, 12_589_056] {
         let words = vec![0; count];
-        assert_eq!(check(&words), Err(Refusal::WordCount), "{count}");
-        assert_eq!(walk(&words, 0), Err(Refusal::WordCount), "{count}");
+        assert_eq!(check::<u32>(&words), Err(Refusal::WordCount), "{count}");
+        assert_eq!(walk(&words, 0_u32), Err(Refusal::WordCount), "{count}");
     }
     for count in [6_144, 9_216, 12_288, 12_585_984] {
-        assert_eq!(check(&vec![0; count]), Err(Refusal::NotATable), "{count}");
+        assert_eq!(check::<u32>(&vec![0; count]), Err(Refusal::NotATable), "{count}");
     }
 }
 
@@ -132,7 +132,7 @@ fn after(changes: &[(usize, u32)]) -> bool {
     for _ in 0..4 {
         (1..=12).for_each(|a| fill_totals(&mut words, a));
     }
-    check(&words).is_ok()
+    check::<u32>(&words).is_ok()
 }
 
 #[test]
@@ -214,7 +214,7 @@ fn the_best_is_the_winners() {
 fn words_without_a_use() {
     assert!(unused().eq((1..4).chain([TOTALS]).chain(2816..ARRAY)));
     let mut words = words();
-    let seen = read(&words);
+    let seen: Memory = read(&words);
     (1..=12).flat_map(|a| unused().map(move |at| a * ARRAY + at)).for_each(|at| words[at] = u32::MAX);
     assert_eq!(read(&words), seen);
 }

@@ -163,8 +163,8 @@ fn stops_in_their_order() {
     assert_eq!(stop(&[3, 0, 0, 0, 0, 0, 9], 5), (Stop::End, 6, 2));
     assert_eq!(stop(&[0, 0], 0), (Stop::End, 1, 0));
     assert_eq!(stop(&[3, 0, 0, 0, 0, 3, 0, 0, 0, 0], 5), (Stop::ReplyFull, 5, 2));
-    assert_eq!(Memory::new(6_144, None).run(&[0], &mut []), Err(Refusal::NotATable));
-    assert_eq!(Memory::new(0, None).run(&[0], &mut []), Err(Refusal::WordCount));
+    assert_eq!(Memory::<u32>::new(6_144, None).run(&[0], &mut []), Err(Refusal::NotATable));
+    assert_eq!(Memory::<u32>::new(0, None).run(&[0], &mut []), Err(Refusal::WordCount));
 }
 
 const EXAMPLE: &str = "01 0A000000 08 0001, 01 0A010400 16 0002, 01 0A010000 14 0003, 03 0A010509, \
@@ -192,14 +192,14 @@ fn bytes(hex: &str) -> Vec<u8> {
 fn the_example_feed() {
     let feed = bytes(EXAMPLE);
     assert_eq!(feed.len(), 52);
-    assert_eq!(program::output(&feed), EXAMPLE_OUTPUT);
+    assert_eq!(program::output::<u32>(&feed), EXAMPLE_OUTPUT);
     let ran = table(3).run(&feed, &mut [0; 4096]).unwrap();
     assert_eq!((ran.written, ran.accepted, ran.refused), (34, 4, 1));
 }
 
 #[test]
 fn inputs_at_the_limit() {
-    assert_eq!(program::output(&[]), "routes 0 arrays 1 accepted 0 refused 0\nstopped 1 at 0\n");
-    assert_eq!(program::output(&[9; 4096]), "routes 0 arrays 1 accepted 0 refused 0\nstopped 2 at 0\n");
-    assert_eq!(program::output(&[0; 4097]), "too long\n");
+    assert_eq!(program::output::<u32>(&[]), "routes 0 arrays 1 accepted 0 refused 0\nstopped 1 at 0\n");
+    assert_eq!(program::output::<u32>(&[9; 4096]), "routes 0 arrays 1 accepted 0 refused 0\nstopped 2 at 0\n");
+    assert_eq!(program::output::<u32>(&[0; 4097]), "too long\n");
 }

@@ -56,13 +56,13 @@ fn on_every_level() {
 
 #[test]
 fn prefixes_and_not_candidates() {
-    let mut memory = Memory::new(ARRAY * 3, Some(CandidateList::default()));
+    let mut memory: Memory = Memory::new(ARRAY * 3, Some(CandidateList::default()));
     for (length, feed) in [(8, 1), (8, 2), (9, 4)] {
         memory.announce(0x0A00_0000, length, 1, feed, 0).unwrap();
     }
     assert_eq!((memory.within(0, 0), memory.check().unwrap().routes), (Ok(2), 3));
     let words = lay(memory.list().unwrap(), 2, &[2]);
-    assert_eq!((within(&words, 0, 0), check(&words)), (Ok(2), memory.check()));
+    assert_eq!((within(&words, 0_u32, 0), check::<u32>(&words)), (Ok(2), memory.check()));
 }
 
 #[test]
@@ -88,7 +88,7 @@ fn addresses_of_sixteen_bytes() {
 fn refusals_in_their_order() {
     let foreign = vec![u32::MAX; ARRAY * 2];
     for (words, address, length, refusal) in [
-        (&foreign[1..], 1, 33, Refusal::WordCount),
+        (&foreign[1..], 1_u32, 33, Refusal::WordCount),
         (&foreign, 1, 33, Refusal::TooLong),
         (&foreign, 1, u32::MAX, Refusal::TooLong),
         (&foreign, 1, 31, Refusal::StrayBit),
@@ -105,7 +105,7 @@ fn refusals_in_their_order() {
 fn with(array: usize, at: usize, word: u32) -> Result<u32, Refusal> {
     let mut words = words();
     words[ARRAY * array + at] = word;
-    within(&words, 0x0A01_0480, 25)
+    within(&words, 0x0A01_0480_u32, 25)
 }
 
 #[test]
@@ -129,14 +129,14 @@ fn the_walk_of_any_link_and_total() {
 
 #[test]
 fn a_table_has_right_totals() {
-    let seen = check(&words());
+    let seen = check::<u32>(&words());
     assert!(seen.is_ok());
     for (array, slot) in [(1, 1), (1, 2), (1, 255), (1, 256 + 10), (5, 1), (2, 511), (7, 3), (3, 1), (4, 511)] {
         for by in [1, u32::MAX, 1 << 31] {
             let mut words = words();
             let total = &mut words[ARRAY * array + TOTALS + slot];
             *total = total.wrapping_add(by);
-            assert_eq!(check(&words), Err(Refusal::NotATable), "slot {slot} of array {array}");
+            assert_eq!(check::<u32>(&words), Err(Refusal::NotATable), "slot {slot} of array {array}");
         }
     }
 }
@@ -144,8 +144,8 @@ fn a_table_has_right_totals() {
 /// Two halves that say 2^32 in all: as words the sum would be what stands above them.
 #[test]
 fn sums_do_not_wrap() {
-    let mut words = lay(&CandidateList::default(), 1, &[]);
+    let mut words = lay(&CandidateList::<u32>::default(), 1, &[]);
     words[ARRAY + TOTALS + 2] = 1 << 31;
     words[ARRAY + TOTALS + 3] = 1 << 31;
-    assert_eq!(check(&words), Err(Refusal::NotATable));
+    assert_eq!(check::<u32>(&words), Err(Refusal::NotATable));
 }

@@ -14,16 +14,16 @@ pub enum Refusal {
     WordCount = 1,
     /// 2: the words are not a table. [`lookup`](crate::lookup) does not test that; it gives 2 where a cell on its walk has a
     /// length over 8, no link and a block over 8, or a link to an array that the words do not have, as any link has at the
-    /// last of the four levels. Nor does [`within`](crate::within); it gives 2 where its walk meets a link to an array that
-    /// the words do not have, or a total over 511 for each array of the words.
+    /// last of the four levels, for IPv6 of the sixteen. Nor does [`within`](crate::within); it gives 2 where its walk meets
+    /// a link to an array that the words do not have, or a total over 511 for each array of the words.
     ///
     /// From [`copy::need`](crate::copy::need) and [`copy::build`](crate::copy::build): the bytes are not one whole list of
     /// a table, of any room, in records of kind 4 or of kind 1 alone. From [`copy::lookup`](crate::copy::lookup): the words
     /// are fewer than 1,024, or its walk meets a best match, the place of a hash table or the mark of an entry that no copy
     /// has.
     NotATable = 2,
-    /// 3: the length is over 32.
-    LengthOver32 = 3,
+    /// 3: the length is over 32, or of a prefix of IPv6 over 128.
+    LengthOver = 3,
     /// 4: a bit of the address after the length is set.
     StrayBit = 4,
     /// 5: the hop is 0 or over 65,535.
@@ -46,10 +46,14 @@ pub enum Refusal {
 }
 
 impl Refusal {
+    /// What [`Refusal::LengthOver`] is for IPv4.
+    #[allow(non_upper_case_globals)]
+    pub const LengthOver32: Refusal = Refusal::LengthOver;
+
     const ALL: [Refusal; 12] = [
         Refusal::WordCount,
         Refusal::NotATable,
-        Refusal::LengthOver32,
+        Refusal::LengthOver,
         Refusal::StrayBit,
         Refusal::HopOutOfRange,
         Refusal::NotHeld,
@@ -84,7 +88,7 @@ impl fmt::Display for Refusal {
         let reason = match self {
             Refusal::WordCount => "the number of words is not a multiple of 3,072 from 6,144 to 12,585,984",
             Refusal::NotATable => "the words are not a table or not a copy, or the bytes not a list",
-            Refusal::LengthOver32 => "the length is over 32",
+            Refusal::LengthOver => "the length is over 32, or of a prefix of IPv6 over 128",
             Refusal::StrayBit => "a bit after the length is set",
             Refusal::HopOutOfRange => "the hop is 0 or over 65,535",
             Refusal::NotHeld => "the feed has no candidate for the prefix",
@@ -115,8 +119,9 @@ pub struct Counts {
 pub struct Lookup {
     /// The longest match, if any route matches.
     pub found: Option<Match>,
-    /// How many of the address's first bits the answer may be remembered for, from 0 to 32: while the table stays as it
-    /// is, all addresses that share them get the same route, or all get none. It is the smallest such number.
+    /// How many of the address's first bits the answer may be remembered for, from 0 to 32, or for IPv6 to 128: while
+    /// the table stays as it is, all addresses that share them get the same route, or all get none. It is the smallest such
+    /// number.
     pub block: u32,
 }
 
@@ -125,7 +130,7 @@ pub struct Lookup {
 pub struct Match {
     /// The route's hop, from 1 to 65,535.
     pub hop: u32,
-    /// The route's length, from 0 to 32.
+    /// The route's length, from 0 to 32, or for IPv6 to 128.
     pub length: u32,
 }
 
@@ -147,7 +152,7 @@ pub enum Stop {
     End = 0,
     /// 1: no byte was left.
     NoByteLeft = 1,
-    /// 2: the next record's kind is not 0 to 5.
+    /// 2: the next record's kind is none of the family: for IPv4 not 0 to 5, for IPv6 not 0 and not 6 to 8.
     UnknownKind = 2,
     /// 3: the next record's body is short.
     BodyShort = 3,
@@ -173,7 +178,7 @@ impl fmt::Display for Stop {
         let reason = match self {
             Stop::End => "end",
             Stop::NoByteLeft => "no byte left",
-            Stop::UnknownKind => "the next record's kind is not 0 to 5",
+            Stop::UnknownKind => "the next record's kind is not 0 to 5, or for IPv6 not 0 and not 6 to 8",
             Stop::BodyShort => "the next record's body is short",
             Stop::ReplyFull => "fewer than 5 reply bytes are free",
         };

@@ -1,8 +1,8 @@
-//! A read-only copy of a route list, for a line card that only looks up.
+//! A read-only copy of an IPv4 route list, for a line card that only looks up.
 //!
 //! A copy is built from the bytes of a list that [`write_out`](crate::write_out) wrote, in words of its own, and holds the
-//! winners of its candidates. The words are no table: their number is at least what [`need`] tells, and what stands in words past these does not matter. A copy
-//! answers every address as the table does that the list came from, but tells no block.
+//! winners of its candidates. The words are no table: their number is at least what [`need`] tells, and what stands in words
+//! past these does not matter. A copy answers every address as the table does that the list came from, but tells no block.
 //!
 //! ```
 //! use toggleash::{copy, words_for, Candidate, ListCopy, Match, Table};

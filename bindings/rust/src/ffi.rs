@@ -4,6 +4,13 @@
 
 pub use crate::resolve::Hop;
 
+/// An IPv6 address, by value and in network order.
+#[repr(C)]
+#[derive(Clone, Copy, Debug, Default, PartialEq, Eq)]
+pub struct Ipv6 {
+    pub bytes: [u8; 16],
+}
+
 #[repr(C)]
 #[derive(Clone, Copy, Debug, Default, PartialEq, Eq)]
 pub struct Counts {
@@ -112,6 +119,29 @@ extern "C" {
     pub fn toggleash_withdraw(words: *mut u32, n: usize, address: u32, length: u32, feed: u32) -> Update;
     pub fn toggleash_write_out(words: *const u32, n: usize, buffer: *mut u8, room: usize) -> Written;
     pub fn toggleash_run(
+        words: *mut u32,
+        n: usize,
+        feed: *const u8,
+        feed_len: usize,
+        reply: *mut u8,
+        reply_len: usize,
+    ) -> Ran;
+    pub fn toggleash_v6_clear(words: *mut u32, n: usize) -> u32;
+    pub fn toggleash_v6_check(words: *const u32, n: usize) -> Counts;
+    pub fn toggleash_v6_lookup(words: *const u32, n: usize, address: Ipv6) -> Answer;
+    pub fn toggleash_v6_within(words: *const u32, n: usize, address: Ipv6, length: u32) -> Total;
+    pub fn toggleash_v6_announce(
+        words: *mut u32,
+        n: usize,
+        address: Ipv6,
+        length: u32,
+        hop: u32,
+        feed: u32,
+        preference: u8,
+    ) -> Update;
+    pub fn toggleash_v6_withdraw(words: *mut u32, n: usize, address: Ipv6, length: u32, feed: u32) -> Update;
+    pub fn toggleash_v6_write_out(words: *const u32, n: usize, buffer: *mut u8, room: usize) -> Written;
+    pub fn toggleash_v6_run(
         words: *mut u32,
         n: usize,
         feed: *const u8,

@@ -1,4 +1,5 @@
-//! Safe calls to Toggleash, a proved IPv4 route table in 32-bit words that the caller lends. `no_std`, no dependencies.
+//! Safe calls to Toggleash, a proved route table of IPv4 or IPv6 in 32-bit words that the caller lends. `no_std`, no
+//! dependencies.
 //!
 //! The words are the whole state, in the machine's byte order. A table of A arrays, A from 1 to 4,096, takes
 //! 3,072 × (A + 1) of them: [`words_for`] tells. Each call checks the words and its other input for itself, and answers
@@ -23,10 +24,14 @@
 //! ```
 //!
 //! A prefix holds a [`Candidate`] for each of up to four feeds, of which one wins. [`Table`] keeps words that are a table,
-//! [`ListCopy`] those of a read-only copy of its winners for a line card that only looks up. [`Record`] and [`Reply`] are the records of a feed and the replies to it. The calls that take slices of words,
-//! here and in [`copy`], are the same ones without these types: any words can be handed to them.
+//! [`ListCopy`] those of a read-only copy of its winners for a line card that only looks up. [`Record`] and [`Reply`] are the
+//! records of a feed and the replies to it. The calls that take slices of words, here and in [`copy`], are the same ones
+//! without these types: any words can be handed to them.
 //!
-//! [`resolve`] goes on from a hop to the interface that packets leave by.
+//! A table is of one family. For IPv6 there are [`Table6`], [`Prefix6`] and [`Record6`]; what is the same for both is said once,
+//! over the trait [`Family`] of their addresses, which has the calls on words too. Copies are of IPv4.
+//!
+//! [`resolve`] goes on from a hop of an IPv4 table to the interface that packets leave by.
 //!
 //! The archives libtoggleash.a and libtoggleash_resolve.a are looked for where `./build` of the repository writes them, or in
 //! the folder that the environment variable `TOGGLEASH_LIB_DIR` names while this crate is built.
@@ -39,6 +44,7 @@ use core::net::Ipv4Addr;
 mod answers;
 mod candidate;
 pub mod copy;
+mod family;
 mod feed;
 pub mod ffi;
 mod prefix;
@@ -48,10 +54,11 @@ mod table;
 pub use answers::{Counts, Lookup, Match, Ran, Refusal, Stop, Update};
 pub use candidate::Candidate;
 pub use copy::ListCopy;
-pub use feed::{records, replies, Record, Records, Replies, Reply};
-pub use prefix::{Prefix, PrefixError};
+pub use family::Family;
+pub use feed::{records, replies, Record, Record6, RecordOf, Records, Replies, Reply};
+pub use prefix::{Prefix, Prefix6, PrefixError, PrefixOf};
 pub use resolve::{Hop, Route};
-pub use table::Table;
+pub use table::{Table, Table6, TableOf};
 
 /// The most arrays that a table can have.
 pub const MOST_ARRAYS: usize = 4_096;
@@ -67,19 +74,20 @@ pub fn words_for(arrays: usize) -> Option<usize> {
     (1..=MOST_ARRAYS).contains(&arrays).then(|| 3_072 * (arrays + 1))
 }
 
-/// The number of bytes in a written-out list of so many candidates, the routes of [`Counts`].
+/// The number of bytes in a written-out list of so many candidates of IPv4, the routes of [`Counts`]; for IPv6 it is
+/// [`Record6::written_bytes`](RecordOf::written_bytes).
 ///
 /// ```
 /// assert_eq!(toggleash::written_bytes(0), 1);
 /// assert_eq!(toggleash::written_bytes(3), 31);
 /// ```
 pub const fn written_bytes(routes: usize) -> usize {
-    10 * routes + 1
+    Record::written_bytes(routes)
 }
 
-// SAFETY of all calls below, in `copy` and in `resolve`: a slice's pointer is aligned and leads to as many elements as its length
-// says, alone if the slice is mutable, and the calls stay inside that. An empty slice's pointer leads nowhere, but with
-// length 0 the calls follow no pointer.
+// SAFETY of all calls in `family`, in `copy` and in `resolve`: a slice's pointer is aligned and leads to as many elements as
+// its length says, alone if the slice is mutable, and the calls stay inside that. An empty slice's pointer leads nowhere, but
+// with length 0 the calls follow no pointer.
 
 /// Makes the words the table of no route, whatever they hold.
 ///
@@ -96,7 +104,7 @@ pub const fn written_bytes(routes: usize) -> usize {
 /// # Errors
 /// [`Refusal::WordCount`].
 pub fn clear(words: &mut [u32]) -> Result<(), Refusal> {
-    accepted(unsafe { ffi::toggleash_clear(words.as_mut_ptr(), words.len()) })
+    Ipv4Addr::clear(words)
 }
 
 /// Tests whether the words are a table, and counts its candidates and the arrays that their prefixes need.
@@ -104,9 +112,7 @@ pub fn clear(words: &mut [u32]) -> Result<(), Refusal> {
 /// # Errors
 /// [`Refusal::WordCount`], [`Refusal::NotATable`].
 pub fn check(words: &[u32]) -> Result<Counts, Refusal> {
-    let counts = unsafe { ffi::toggleash_check(words.as_ptr(), words.len()) };
-    accepted(counts.refusal)?;
-    Ok(Counts { routes: counts.routes, arrays: counts.arrays })
+    Ipv4Addr::check(words)
 }
 
 /// Finds the longest match of an address, and how many of its first bits that may be remembered for.
@@ -117,9 +123,7 @@ pub fn check(words: &[u32]) -> Result<Counts, Refusal> {
 /// [`Refusal::WordCount`]; [`Refusal::NotATable`] where a cell on the walk has a length over 8, no link and a block over 8,
 /// or a link to an array that the words do not have, as any link has at the last of the four levels.
 pub fn lookup(words: &[u32], address: Ipv4Addr) -> Result<Lookup, Refusal> {
-    let answer = unsafe { ffi::toggleash_lookup(words.as_ptr(), words.len(), address.into()) };
-    accepted(answer.refusal)?;
-    Ok(Lookup { found: matched(answer.found, answer.hop, answer.length), block: answer.block })
+    Ipv4Addr::lookup(words, address)
 }
 
 /// Counts the prefixes with a candidate that lie inside this one, itself included. It need not be held, and any length may be
@@ -147,12 +151,10 @@ pub fn lookup(words: &[u32], address: Ipv4Addr) -> Result<Lookup, Refusal> {
 /// ```
 ///
 /// # Errors
-/// In this order [`Refusal::WordCount`], [`Refusal::LengthOver32`], [`Refusal::StrayBit`]; then [`Refusal::NotATable`] where
+/// In this order [`Refusal::WordCount`], [`Refusal::LengthOver`], [`Refusal::StrayBit`]; then [`Refusal::NotATable`] where
 /// the walk meets a link to an array that the words do not have, or a total over 511 for each array of the words.
 pub fn within(words: &[u32], address: Ipv4Addr, length: u32) -> Result<u32, Refusal> {
-    let total = unsafe { ffi::toggleash_within(words.as_ptr(), words.len(), address.into(), length) };
-    accepted(total.refusal)?;
-    Ok(total.prefixes)
+    Ipv4Addr::within(words, address, length)
 }
 
 /// Gives a feed this candidate for a prefix, in place of the one that it had. For a prefix that has a candidate, of any feed,
@@ -173,27 +175,25 @@ pub fn within(words: &[u32], address: Ipv4Addr, length: u32) -> Result<u32, Refu
 /// assert_eq!(announce(&mut words, default, 0, other), Ok(Update { hop: 7, cells: 0 }));
 /// assert_eq!(announce(&mut words, default, 0, Candidate { feed: 5, ..other }), Err(Refusal::FeedOutOfRange));
 /// assert_eq!(announce(&mut words, Ipv4Addr::new(10, 0, 0, 0), 9, other), Err(Refusal::NoRoom));
-/// assert_eq!(announce(&mut words, Ipv4Addr::new(10, 0, 0, 0), 33, other), Err(Refusal::LengthOver32));
+/// assert_eq!(announce(&mut words, Ipv4Addr::new(10, 0, 0, 0), 33, other), Err(Refusal::LengthOver));
 /// # Ok(())
 /// # }
 /// ```
 ///
 /// # Errors
-/// In this order [`Refusal::WordCount`], [`Refusal::LengthOver32`], [`Refusal::StrayBit`], [`Refusal::HopOutOfRange`],
+/// In this order [`Refusal::WordCount`], [`Refusal::LengthOver`], [`Refusal::StrayBit`], [`Refusal::HopOutOfRange`],
 /// [`Refusal::FeedOutOfRange`], [`Refusal::NotATable`], [`Refusal::NoRoom`].
 pub fn announce(words: &mut [u32], address: Ipv4Addr, length: u32, candidate: Candidate) -> Result<Update, Refusal> {
-    let (words, n) = (words.as_mut_ptr(), words.len());
-    let Candidate { hop, feed, preference } = candidate;
-    updated(unsafe { ffi::toggleash_announce(words, n, address.into(), length, hop, feed, preference) })
+    Ipv4Addr::announce(words, address, length, candidate)
 }
 
 /// Removes a feed's candidate for a prefix and gives the hop that it had.
 ///
 /// # Errors
-/// In this order [`Refusal::WordCount`], [`Refusal::LengthOver32`], [`Refusal::StrayBit`], [`Refusal::FeedOutOfRange`],
+/// In this order [`Refusal::WordCount`], [`Refusal::LengthOver`], [`Refusal::StrayBit`], [`Refusal::FeedOutOfRange`],
 /// [`Refusal::NotATable`], [`Refusal::NotHeld`].
 pub fn withdraw(words: &mut [u32], address: Ipv4Addr, length: u32, feed: u32) -> Result<Update, Refusal> {
-    updated(unsafe { ffi::toggleash_withdraw(words.as_mut_ptr(), words.len(), address.into(), length, feed) })
+    Ipv4Addr::withdraw(words, address, length, feed)
 }
 
 /// Writes the candidates as a feed of announcements, of kind 4, and an end, and gives the part of the buffer that it filled:
@@ -222,9 +222,7 @@ pub fn withdraw(words: &mut [u32], address: Ipv4Addr, length: u32, feed: u32) ->
 /// # Errors
 /// In this order [`Refusal::WordCount`], [`Refusal::NotATable`], [`Refusal::BufferShort`].
 pub fn write_out<'a>(words: &[u32], buffer: &'a mut [u8]) -> Result<&'a mut [u8], Refusal> {
-    let written = unsafe { ffi::toggleash_write_out(words.as_ptr(), words.len(), buffer.as_mut_ptr(), buffer.len()) };
-    accepted(written.refusal)?;
-    Ok(&mut buffer[..count(written.bytes)])
+    Ipv4Addr::write_out(words, buffer)
 }
 
 /// Takes the records of a feed in order and writes a reply to each but the end. The reply bytes past
@@ -248,16 +246,7 @@ pub fn write_out<'a>(words: &[u32], buffer: &'a mut [u8]) -> Result<&'a mut [u8]
 /// # Errors
 /// Before any record, [`Refusal::WordCount`] or [`Refusal::NotATable`].
 pub fn run(words: &mut [u32], feed: &[u8], reply: &mut [u8]) -> Result<Ran, Refusal> {
-    let (words, n) = (words.as_mut_ptr(), words.len());
-    let ran = unsafe { ffi::toggleash_run(words, n, feed.as_ptr(), feed.len(), reply.as_mut_ptr(), reply.len()) };
-    accepted(ran.refusal)?;
-    Ok(Ran {
-        stop: Stop::from_number(ran.stop).unwrap_or_else(|| mismatch("stop", ran.stop)),
-        consumed: count(ran.consumed),
-        written: count(ran.written),
-        accepted: count(ran.accepted),
-        refused: count(ran.refused),
-    })
+    Ipv4Addr::run(words, feed, reply)
 }
 
 fn accepted(refusal: u32) -> Result<(), Refusal> {

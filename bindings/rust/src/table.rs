@@ -1,17 +1,41 @@
 //! A table as a value that has its words, or borrows them.
 
 use core::fmt;
-use core::net::Ipv4Addr;
+use core::marker::PhantomData;
+use core::net::{Ipv4Addr, Ipv6Addr};
 
 use crate::resolve::resolve;
-use crate::{announce, check, clear, lookup, run, withdraw, within, write_out};
-use crate::{Candidate, Counts, Hop, Lookup, Prefix, Ran, Refusal, Route, Update};
+use crate::{Candidate, Counts, Family, Hop, Lookup, PrefixOf, Ran, Refusal, Route, Update};
 
-/// Words that are a table.
+/// Words that are an IPv4 table, see [`TableOf`].
+pub type Table<W> = TableOf<Ipv4Addr, W>;
+
+/// Words that are an IPv6 table, see [`TableOf`].
+///
+/// ```
+/// use std::net::Ipv6Addr;
+/// use toggleash::{words_for, Candidate, Lookup, Match, Table6};
+///
+/// # fn main() -> Result<(), Box<dyn std::error::Error>> {
+/// let mut table = Table6::new(vec![0; words_for(7).unwrap()])?;
+/// table.announce("2001:db8::/32".parse()?, Candidate::via(1))?;
+/// table.announce("2001:db8:4000::/34".parse()?, Candidate::via(2))?;
+/// let found = Some(Match { hop: 2, length: 34 });
+/// assert_eq!(table.lookup("2001:db8:5::1".parse()?)?.found, Some(Match { hop: 1, length: 32 }));
+/// assert_eq!(table.lookup("2001:db8:5000::1".parse()?)?, Lookup { found, block: 34 });
+/// assert_eq!(table.lookup(Ipv6Addr::LOCALHOST)?, Lookup { found: None, block: 3 });
+/// # Ok(())
+/// # }
+/// ```
+pub type Table6<W> = TableOf<Ipv6Addr, W>;
+
+/// Words that are a table of a family: [`Table`] for IPv4, [`Table6`] for IPv6.
 ///
 /// `W` is what the words are kept in: `Vec<u32>`, `Box<[u32]>`, an array, `&mut [u32]`; `&[u32]` serves to look up. A
-/// table can only be had of words that are cleared or tested, and a [`ListCopy`](crate::ListCopy) is another type: words of
-/// the one cannot be handed in for the other's.
+/// table can only be had of words that are cleared or tested. A table of the other family and a
+/// [`ListCopy`](crate::ListCopy) are other types: words of the one cannot be handed in for the other's. The words themselves
+/// do not say of which family they are: those of an IPv4 table are an IPv6 table too, and those of an IPv6 table one of IPv4
+/// as long as no prefix in it is over 32 bits long.
 ///
 /// ```compile_fail
 /// # use toggleash::{copy, ListCopy, Table};
@@ -20,6 +44,15 @@ use crate::{Candidate, Counts, Hop, Lookup, Prefix, Ran, Refusal, Route, Update}
 ///     table.check().unwrap().routes
 /// }
 /// count(&card);
+/// ```
+///
+/// ```compile_fail
+/// # use toggleash::{Table, Table6};
+/// let six = Table6::new(vec![0; 6_144]).unwrap();
+/// fn count(table: &Table<Vec<u32>>) -> u32 {
+///     table.check().unwrap().routes
+/// }
+/// count(&six);
 /// ```
 ///
 /// Each call still checks for itself: a single update tests the whole table, which takes milliseconds at 4,096 arrays.
@@ -41,18 +74,19 @@ use crate::{Candidate, Counts, Hop, Lookup, Prefix, Ran, Refusal, Route, Update}
 /// # }
 /// ```
 #[derive(Clone)]
-pub struct Table<W> {
+pub struct TableOf<A, W> {
     words: W,
+    family: PhantomData<A>,
 }
 
-impl<W: AsRef<[u32]>> Table<W> {
+impl<A: Family, W: AsRef<[u32]>> TableOf<A, W> {
     /// The table that these words are.
     ///
     /// # Errors
     /// [`Refusal::WordCount`]; [`Refusal::NotATable`] where they are none.
-    pub fn from_words(words: W) -> Result<Table<W>, Refusal> {
-        check(words.as_ref())?;
-        Ok(Table { words })
+    pub fn from_words(words: W) -> Result<TableOf<A, W>, Refusal> {
+        A::check(words.as_ref())?;
+        Ok(TableOf { words, family: PhantomData })
     }
 
     /// Its words.
@@ -70,18 +104,19 @@ impl<W: AsRef<[u32]>> Table<W> {
     /// # Errors
     /// [`Refusal::NotATable`] where something else has changed the words.
     pub fn check(&self) -> Result<Counts, Refusal> {
-        check(self.words())
+        A::check(self.words())
     }
 
     /// The longest match of an address, or none, and how many of its first bits that may be remembered for.
     ///
     /// # Errors
-    /// [`Refusal::NotATable`] only where something else has changed the words, see [`lookup`].
-    pub fn lookup(&self, address: Ipv4Addr) -> Result<Lookup, Refusal> {
-        lookup(self.words(), address)
+    /// [`Refusal::NotATable`] only where something else has changed the words, see [`lookup`](crate::lookup).
+    pub fn lookup(&self, address: A) -> Result<Lookup, Refusal> {
+        A::lookup(self.words(), address)
     }
 
-    /// Counts the prefixes with a candidate that lie inside this one, itself included; inside [`Prefix::DEFAULT`] lie all.
+    /// Counts the prefixes with a candidate that lie inside this one, itself included; inside [`PrefixOf::DEFAULT`] lie
+    /// all.
     ///
     /// ```
     /// use toggleash::{words_for, Candidate, Prefix, Table};
@@ -98,11 +133,22 @@ impl<W: AsRef<[u32]>> Table<W> {
     /// ```
     ///
     /// # Errors
-    /// [`Refusal::NotATable`] only where something else has changed the words, see [`within`].
-    pub fn within(&self, prefix: Prefix) -> Result<u32, Refusal> {
-        within(self.words(), prefix.address(), prefix.length().into())
+    /// [`Refusal::NotATable`] only where something else has changed the words, see [`within`](crate::within).
+    pub fn within(&self, prefix: PrefixOf<A>) -> Result<u32, Refusal> {
+        A::within(self.words(), prefix.address(), prefix.length().into())
     }
 
+    /// Writes the candidates as a feed of announcements and an end, and gives the part of the buffer that it filled.
+    ///
+    /// # Errors
+    /// [`Refusal::BufferShort`] for a buffer of fewer bytes than
+    /// [`written_bytes`](crate::RecordOf::written_bytes) of its candidates.
+    pub fn write_out<'a>(&self, buffer: &'a mut [u8]) -> Result<&'a mut [u8], Refusal> {
+        A::write_out(self.words(), buffer)
+    }
+}
+
+impl<W: AsRef<[u32]>> Table<W> {
     /// The interface that packets for an address leave by, and the last gateway used on the way to it.
     ///
     /// # Errors
@@ -111,24 +157,16 @@ impl<W: AsRef<[u32]>> Table<W> {
     pub fn resolve(&self, entries: &[Hop], address: Ipv4Addr) -> Result<Route, Refusal> {
         resolve(self.words(), entries, address)
     }
-
-    /// Writes the candidates as a feed of announcements and an end, and gives the part of the buffer that it filled.
-    ///
-    /// # Errors
-    /// [`Refusal::BufferShort`] for a buffer of fewer bytes than [`written_bytes`](crate::written_bytes) of its candidates.
-    pub fn write_out<'a>(&self, buffer: &'a mut [u8]) -> Result<&'a mut [u8], Refusal> {
-        write_out(self.words(), buffer)
-    }
 }
 
-impl<W: AsRef<[u32]> + AsMut<[u32]>> Table<W> {
+impl<A: Family, W: AsRef<[u32]> + AsMut<[u32]>> TableOf<A, W> {
     /// Makes the words the table of no route, whatever they hold.
     ///
     /// # Errors
     /// [`Refusal::WordCount`] for a number of words that [`words_for`](crate::words_for) does not give.
-    pub fn new(mut words: W) -> Result<Table<W>, Refusal> {
-        clear(words.as_mut())?;
-        Ok(Table { words })
+    pub fn new(mut words: W) -> Result<TableOf<A, W>, Refusal> {
+        A::clear(words.as_mut())?;
+        Ok(TableOf { words, family: PhantomData })
     }
 
     /// Gives a feed this candidate for a prefix, in place of the one that it had. For a prefix that has a candidate, of any
@@ -136,19 +174,20 @@ impl<W: AsRef<[u32]> + AsMut<[u32]>> Table<W> {
     ///
     /// # Errors
     /// [`Refusal::HopOutOfRange`], [`Refusal::FeedOutOfRange`], [`Refusal::NoRoom`].
-    pub fn announce(&mut self, prefix: Prefix, candidate: Candidate) -> Result<Update, Refusal> {
-        announce(self.words.as_mut(), prefix.address(), prefix.length().into(), candidate)
+    pub fn announce(&mut self, prefix: PrefixOf<A>, candidate: Candidate) -> Result<Update, Refusal> {
+        A::announce(self.words.as_mut(), prefix.address(), prefix.length().into(), candidate)
     }
 
     /// Removes a feed's candidate for a prefix and gives the hop that it had.
     ///
     /// # Errors
     /// [`Refusal::FeedOutOfRange`], [`Refusal::NotHeld`].
-    pub fn withdraw(&mut self, prefix: Prefix, feed: u32) -> Result<Update, Refusal> {
-        withdraw(self.words.as_mut(), prefix.address(), prefix.length().into(), feed)
+    pub fn withdraw(&mut self, prefix: PrefixOf<A>, feed: u32) -> Result<Update, Refusal> {
+        A::withdraw(self.words.as_mut(), prefix.address(), prefix.length().into(), feed)
     }
 
-    /// Takes the records of a feed in order and writes a reply to each but the end, see [`run`]. The table is tested once.
+    /// Takes the records of a feed in order and writes a reply to each but the end, see [`run`](crate::run). The table is
+    /// tested once.
     ///
     /// ```
     /// use toggleash::{replies, words_for, Record, Reply, Table};
@@ -171,12 +210,12 @@ impl<W: AsRef<[u32]> + AsMut<[u32]>> Table<W> {
     /// # Errors
     /// [`Refusal::NotATable`] only where something else has changed the words.
     pub fn run(&mut self, feed: &[u8], reply: &mut [u8]) -> Result<Ran, Refusal> {
-        run(self.words.as_mut(), feed, reply)
+        A::run(self.words.as_mut(), feed, reply)
     }
 }
 
-impl<W: AsRef<[u32]>> fmt::Debug for Table<W> {
+impl<A: Family, W: AsRef<[u32]>> fmt::Debug for TableOf<A, W> {
     fn fmt(&self, f: &mut fmt::Formatter<'_>) -> fmt::Result {
-        write!(f, "Table of {} words", self.words().len())
+        write!(f, "{} of {} words", A::TABLE, self.words().len())
     }
 }

@@ -1,6 +1,10 @@
 //! Feeds and replies as bytes, and the worked feed of docs/FEED.md, read from that page.
 
-use toggleash::{records, replies, words_for, written_bytes, Prefix, Ran, Record, Refusal, Reply, Stop, Table};
+use std::net::{Ipv4Addr, Ipv6Addr};
+
+use toggleash::{
+    records, replies, words_for, Family, Prefix, Ran, Record, RecordOf, Refusal, Reply, Stop, Table, TableOf,
+};
 
 const PAGE: &str = include_str!("../../../docs/FEED.md");
 
@@ -29,16 +33,16 @@ fn list(section: &str) -> Vec<u8> {
     bytes(&left.lines().skip(1).take_while(|line| line.starts_with("    ")).collect::<String>())
 }
 
-fn line(record: Record, reply: Reply) -> String {
+fn line<A: Family>(record: RecordOf<A>, reply: Reply) -> String {
     let sent = match record {
-        Record::Announce { address, length, .. } | Record::AnnounceFor { address, length, .. } => {
+        RecordOf::Announce { address, length, .. } | RecordOf::AnnounceFor { address, length, .. } => {
             format!("announce {address}/{length}")
         }
-        Record::Withdraw { address, length } | Record::WithdrawFor { address, length, .. } => {
+        RecordOf::Withdraw { address, length } | RecordOf::WithdrawFor { address, length, .. } => {
             format!("withdraw {address}/{length}")
         }
-        Record::Lookup { address } => format!("lookup {address}"),
-        Record::End => unreachable!("an end has no reply"),
+        RecordOf::Lookup { address } => format!("lookup {address}"),
+        RecordOf::End => unreachable!("an end has no reply"),
     };
     match reply {
         Reply::Done { hop, cells } => format!("{sent} via {hop} cells {cells}"),
@@ -48,40 +52,48 @@ fn line(record: Record, reply: Reply) -> String {
     }
 }
 
-/// Runs a section's feed on a cleared table of 3 arrays: replies, counts, lines and the list that is left. Gives the feed
+/// Runs a section's feed on a cleared table of a family: replies, counts, lines and the list that is left. Gives the feed
 /// and the lines.
-fn worked(section: &'static str, accepted: usize, refused: usize) -> (Vec<u8>, Vec<String>) {
+fn worked<A: Family>(section: &'static str, arrays: usize, accepted: usize, refused: usize) -> (Vec<u8>, Vec<String>) {
     let rows = rows(section);
     let feed: Vec<u8> = rows.iter().flat_map(|row| bytes(row[0])).collect();
     let expected: Vec<u8> = rows.iter().flat_map(|row| bytes(row[1])).collect();
     let (consumed, written) = (feed.len(), expected.len());
     assert!(section.contains(&format!("These are {consumed} feed bytes and {written} reply bytes: stop 0,")));
 
-    let mut table = Table::new(vec![0; words_for(3).unwrap()]).unwrap();
-    let mut reply = [0xEE; 64];
+    let mut table = TableOf::<A, _>::new(vec![0; words_for(arrays).unwrap()]).unwrap();
+    let mut reply = [0xEE; 128];
     let ran = table.run(&feed, &mut reply).unwrap();
     assert_eq!(ran, Ran { stop: Stop::End, consumed, written, accepted, refused });
     assert_eq!(reply[..written], expected);
     assert!(reply[written..].iter().all(|&byte| byte == 0xEE));
 
-    let lines: Vec<_> = records(&feed).zip(replies(&expected)).map(|(record, reply)| line(record, reply)).collect();
+    let records = RecordOf::<A>::all(&feed);
+    let lines: Vec<_> = records.zip(replies(&expected)).map(|(record, reply)| line(record, reply)).collect();
     let shown: Vec<_> = rows.iter().map(|row| row[2].trim_matches('`')).filter(|line| !line.is_empty()).collect();
     assert_eq!(lines, shown);
-    let mut buffer = [0; written_bytes(2)];
-    assert_eq!(table.write_out(&mut buffer).unwrap(), list(section));
+    let list = list(section);
+    assert_eq!(table.write_out(&mut vec![0; list.len()]).unwrap(), list);
     (feed, lines)
 }
 
 #[test]
 fn the_worked_feed() {
-    let (feed, lines) = worked(section("A worked feed"), 4, 1);
+    let (feed, lines) = worked::<Ipv4Addr>(section("A worked feed"), 3, 4, 1);
     assert_eq!(feed, include_bytes!("../../../crates/router/stdin"));
     assert!(include_str!("../../../crates/router/stdout").starts_with(&lines.join("\n")));
 }
 
 #[test]
 fn the_worked_feed_of_several_sides() {
-    worked(section("A worked feed of several sides"), 5, 2);
+    worked::<Ipv4Addr>(section("A worked feed of several sides"), 3, 5, 2);
+}
+
+#[test]
+fn the_worked_feed_of_ipv6() {
+    let (feed, lines) = worked::<Ipv6Addr>(section("A worked feed of IPv6"), 17, 7, 2);
+    assert_eq!(feed, include_bytes!("../../../crates/router6/stdin"));
+    assert!(include_str!("../../../crates/router6/stdout").starts_with(&lines.join("\n")));
 }
 
 #[test]

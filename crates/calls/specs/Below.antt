@@ -1,6 +1,6 @@
 -- From each call of the C face to the Rattle call below it: where the C call's promise holds of some numbers, there is an answer
 -- of the call below that tells these numbers, and for which its promise holds. So what is stated of the Rattle calls holds of the
--- exported ones. Assumes nothing.
+-- exported ones. The names are those of IPv4; toggleash_v6_run and the others promise the same of their family. Assumes nothing.
 --
 --     toggleash_run   its promise holds of the numbers n
 --          │
@@ -11,7 +11,7 @@ use mathlib.Core.List.{List, _++_}
 use Prim.Native.Nat.{ℕ}
 use native.Mathlib.Omega.{arith}
 use lib.ListN.{length, drop}
-use Rattle.routes.specs.Family.{v4}
+use Rattle.routes.specs.Family.{Family, levels, width}
 use Rattle.routes.specs.Answers.{Reply, done, found, none, refused, isRefused}
 use Rattle.routes.specs.Seen.{Answer, gives, refuses, Counts}
 use Rattle.candidates.specs.Answers.{Update}
@@ -63,9 +63,9 @@ clear-back : (a : Answer (Unit {0})) → audit.clearAnswer (asCleared a) ≡ a
 clear-back (gives u) = refl
 clear-back (refuses n) = refl
 
-pub clear-below : (ws vs : List ℕ) (n : ℕ) → HasCleared ws vs n
-    → Below (λ r. refusal (audit.clearAnswer r)) (audit.HasCleared 4 ws vs) n
-clear-below ws vs n p =
+pub clear-below : (F : Family) (ws vs : List ℕ) (n : ℕ) → HasCleared F ws vs n
+    → Below (λ r. refusal (audit.clearAnswer r)) (audit.HasCleared (levels F) ws vs) n
+clear-below F ws vs n p =
     let e = clear-back (clearOn (length ws)) in
     record {
       answer = asCleared (clearOn (length ws));
@@ -81,18 +81,19 @@ check-back : (a : Answer Counts) → audit.checkAnswer (asChecked a) ≡ a
 check-back (gives c) = refl
 check-back (refuses n) = refl
 
-pub check-below : (ws : List ℕ) (r : Counted) → r ≡ counted (checkOn 32 (seen 4 ws))
-    → Below (λ c. counted (audit.checkAnswer c)) (λ c. audit.checkAnswer c ≡ checkOn 32 (seen 4 ws)) r
-check-below ws r p =
-    let e = check-back (checkOn 32 (seen 4 ws)) in
-    record { answer = asChecked (checkOn 32 (seen 4 ws)); told = p ∙ ap counted (sym e); promise = e }
+pub check-below : (F : Family) (ws : List ℕ) (r : Counted) → r ≡ counted (checkOn (width F) (seen (levels F) ws))
+    → Below (λ c. counted (audit.checkAnswer c)) (λ c. audit.checkAnswer c ≡ checkOn (width F) (seen (levels F) ws)) r
+check-below F ws r p =
+    let e = check-back (checkOn (width F) (seen (levels F) ws)) in
+    record { answer = asChecked (checkOn (width F) (seen (levels F) ws)); told = p ∙ ap counted (sym e); promise = e }
 
 -- ---- toggleash_lookup
 
-pub lookup-below : (ws : List ℕ) (a : ℕ) (r : Found) → r ≡ looked (lookupOn 32 (seen 4 ws) (walk 4 ws a) a)
-    → Below (λ m. looked (saidReply m)) (λ m. saidReply m ≡ lookupOn 32 (seen 4 ws) (walk 4 ws a) a) r
-lookup-below ws a r p =
-    let y : Reply = lookupOn 32 (seen 4 ws) (walk 4 ws a) a in
+pub lookup-below : (F : Family) (ws : List ℕ) (a : ℕ) (r : Found)
+    → r ≡ looked (lookupOn (width F) (seen (levels F) ws) (walk (levels F) ws a) a)
+    → Below (λ m. looked (saidReply m)) (λ m. saidReply m ≡ lookupOn (width F) (seen (levels F) ws) (walk (levels F) ws a) a) r
+lookup-below F ws a r p =
+    let y : Reply = lookupOn (width F) (seen (levels F) ws) (walk (levels F) ws a) a in
     record { answer = replyOf y; told = p ∙ ap looked (sym (said-back y)); promise = said-back y }
 
 -- ---- toggleash_within
@@ -105,19 +106,21 @@ inside-back : (a : Answer ℕ) → withinAnswer (asInside a) ≡ a
 inside-back (gives n) = refl
 inside-back (refuses n) = refl
 
-pub within-below : (ws : List ℕ) (a l : ℕ) (r : Total) → r ≡ totalled (withinOn 32 (seen 4 ws) (total.walk 4 ws a l) a l)
-    → Below (λ m. totalled (withinAnswer m)) (λ m. withinAnswer m ≡ withinOn 32 (seen 4 ws) (total.walk 4 ws a l) a l) r
-within-below ws a l r p =
-    let y : Answer ℕ = withinOn 32 (seen 4 ws) (total.walk 4 ws a l) a l in
+pub within-below : (F : Family) (ws : List ℕ) (a l : ℕ) (r : Total)
+    → r ≡ totalled (withinOn (width F) (seen (levels F) ws) (total.walk (levels F) ws a l) a l)
+    → Below (λ m. totalled (withinAnswer m))
+    (λ m. withinAnswer m ≡ withinOn (width F) (seen (levels F) ws) (total.walk (levels F) ws a l) a l) r
+within-below F ws a l r p =
+    let y : Answer ℕ = withinOn (width F) (seen (levels F) ws) (total.walk (levels F) ws a l) a l in
     let e = inside-back y in
     record { answer = asInside y; told = p ∙ ap totalled (sym e); promise = e }
 
 -- ---- toggleash_announce, toggleash_withdraw
 
-pub update-below : (ws vs : List ℕ) (u : Update) (r : Updated) → HasUpdated ws vs u r
-    → Below (λ m. updated (saidReply m)) (update.HasUpdated 4 ws vs u) r
-update-below ws vs u r p =
-    let y : Reply = answerOn 32 (seen 4 ws) u in
+pub update-below : (F : Family) (ws vs : List ℕ) (u : Update) (r : Updated) → HasUpdated F ws vs u r
+    → Below (λ m. updated (saidReply m)) (update.HasUpdated (levels F) ws vs u) r
+update-below F ws vs u r p =
+    let y : Reply = answerOn (width F) (seen (levels F) ws) u in
     let e = said-back y in
     record {
       answer = replyOf y;
@@ -131,7 +134,7 @@ update-below ws vs u r p =
       };
     }
   where
-    kept : (y : Reply) → answerOn 32 (seen 4 ws) u ≡ y → isRefused y ≡ true → vs ≡ ws
+    kept : (y : Reply) → answerOn (width F) (seen (levels F) ws) u ≡ y → isRefused y ≡ true → vs ≡ ws
     kept (done h c) e q = absurd (false≢true q)
     kept (found h l k) e q = absurd (false≢true q)
     kept (none k) e q = absurd (false≢true q)
@@ -148,26 +151,29 @@ size-back (gives n) = refl
 size-back (refuses n) = refl
 
 -- two calls stand below it: the count, and the fill
-pub write-below : (ws b c : List ℕ) (r : Written) → HasWritten ws b c r
+pub write-below : (F : Family) (ws b c : List ℕ) (r : Written) → HasWritten F ws b c r
     → Below (λ t. wrote (countAnswer t))
-    (λ t. (countAnswer t ≡ countOn v4 (seen 4 ws) (length b)) × HasFilled v4 (seen 4 ws) b (r .bytes) c) r
-write-below ws b c r p =
-    let e = size-back (countOn v4 (seen 4 ws) (length b)) in
+    (λ t. (countAnswer t ≡ countOn F (seen (levels F) ws) (length b)) × HasFilled F (seen (levels F) ws) b (r .bytes) c) r
+write-below F ws b c r p =
+    let e = size-back (countOn F (seen (levels F) ws) (length b)) in
     record {
-      answer = asSize (countOn v4 (seen 4 ws) (length b));
+      answer = asSize (countOn F (seen (levels F) ws) (length b));
       told = p .answer ∙ ap wrote (sym e);
       promise = (
         e,
-        record { count = many; list = p .front ∙ ap (λ (n : ℕ). frontOn v4 (seen 4 ws) (length b) ++ drop n b) (sym many) },
+        record { count = many; list = p .front ∙ ap (λ (n : ℕ). front ++ drop n b) (sym many) },
       );
     }
   where
-    long : (a : Answer ℕ) → countOn v4 (seen 4 ws) (length b) ≡ a → wrote a .bytes ≡ length (frontOn v4 (seen 4 ws) (length b))
-    long (gives n) e = sym (front-length v4 (seen 4 ws) (length b) n e)
-    long (refuses n) e = sym (ap length (front-none v4 (seen 4 ws) (length b) n e))
+    front : List ℕ
+    front = frontOn F (seen (levels F) ws) (length b)
 
-    many : r .bytes ≡ length (frontOn v4 (seen 4 ws) (length b))
-    many = ap (λ (x : Written). x .bytes) (p .answer) ∙ long (countOn v4 (seen 4 ws) (length b)) refl
+    long : (a : Answer ℕ) → countOn F (seen (levels F) ws) (length b) ≡ a → wrote a .bytes ≡ length front
+    long (gives n) e = sym (front-length F (seen (levels F) ws) (length b) n e)
+    long (refuses n) e = sym (ap length (front-none F (seen (levels F) ws) (length b) n e))
+
+    many : r .bytes ≡ length front
+    many = ap (λ (x : Written). x .bytes) (p .answer) ∙ long (countOn F (seen (levels F) ws) (length b)) refl
 
 -- ---- toggleash_run
 
@@ -179,18 +185,18 @@ ran-back : (a : Answer Report) → feed.runAnswer (asRan a) ≡ a
 ran-back (gives p) = refl
 ran-back (refuses n) = refl
 
-pub run-below : (ws bytes b vs c : List ℕ) (r : Fields) → HasRun ws bytes b vs c r
-    → Below (λ t. ran (feed.runAnswer t)) (feed.HasRun v4 ws bytes b vs c) r
-run-below ws bytes b vs c r p =
-    let e = ran-back (feed.reported (runOn v4 (seen 4 ws) bytes b)) in
+pub run-below : (F : Family) (ws bytes b vs c : List ℕ) (r : Fields) → HasRun F ws bytes b vs c r
+    → Below (λ t. ran (feed.runAnswer t)) (feed.HasRun F ws bytes b vs c) r
+run-below F ws bytes b vs c r p =
+    let e = ran-back (feed.reported (runOn F (seen (levels F) ws) bytes b)) in
     record {
-      answer = asRan (feed.reported (runOn v4 (seen 4 ws) bytes b));
+      answer = asRan (feed.reported (runOn F (seen (levels F) ws) bytes b));
       told = p .answer ∙ ap ran (sym e);
       promise = record {
         answer = e;
         list = p .list;
         replies = p .replies;
-        kept = λ n q. p .kept n (unfit (runOn v4 (seen 4 ws) bytes b) n q);
+        kept = λ n q. p .kept n (unfit (runOn F (seen (levels F) ws) bytes b) n q);
         series = p .series;
       };
     }

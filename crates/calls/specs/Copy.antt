@@ -1,5 +1,5 @@
--- The copy over the calls of the C face: a table written out, and a copy built from the bytes in as many words as they need,
--- which answers every address as the table does, but for the block. Assumes nothing.
+-- The copy over the calls of the C face: a table of IPv4 written out, and a copy built from the bytes in as many words as they
+-- need, which answers every address as the table does, but for the block. Assumes nothing.
 --
 --     words ── write_out ──▶ bytes ── copy_need ──▶ how many words to lend
 --       │                      └───── copy_build ─▶ copy, its words on the card ── copy_lookup ──▶ match
@@ -49,7 +49,7 @@ pub record Carried : Type 0 where
   pub buffer : List ℕ
   pub buffer′ : List ℕ
   pub wrote : Written
-  pub writes : HasWritten words buffer buffer′ wrote
+  pub writes : HasWritten v4 words buffer buffer′ wrote
   pub taken : wrote .refusal ≡ 0
   -- the bytes of the list
   pub bytes : List ℕ
@@ -89,7 +89,7 @@ record Out (ws bs : List ℕ) : Type 0 where
   table : seen 4 ws ≡ table arrays list
   bytes : bs ≡ written v4 list
 
-out : (ws b c : List ℕ) (r : Written) → HasWritten ws b c r → r .refusal ≡ 0 → Out ws (take (r .bytes) c)
+out : (ws b c : List ℕ) (r : Written) → HasWritten v4 ws b c r → r .refusal ≡ 0 → Out ws (take (r .bytes) c)
 out ws b c r w z = go (seen 4 ws) refl
   where
     number : (n : ℕ) → r ≡ wrote (refuses n) → n ≡ 0
@@ -131,7 +131,7 @@ module _ (t : Carried) where
 
   is-listed : listedIn (t .bytes) ≡ listed rs
   is-listed =
-      let h = held (o .arrays) cs (t .words) (o .table) in
+      let h = held v4 (o .arrays) cs (t .words) (o .table) in
       let f = no-misfit-fits (length (t .words)) (h .size) in
       ap listedIn (t .front ∙ o .bytes) ∙ written-listed cs (h .list) (omega (arith, h .room, h .arrays, f .high))
 
@@ -158,7 +158,7 @@ module _ (t : Carried) where
 
   pub as-table : AsTable t
   as-table =
-      let h = held (o .arrays) cs (t .words) (o .table) in
+      let h = held v4 (o .arrays) cs (t .words) (o .table) in
       record {
         needs = ap (λ (x : Needed). x .refusal) is-needed;
         builds = ap (λ (x : Built). x .refusal) is-built;

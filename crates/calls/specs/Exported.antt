@@ -1,5 +1,6 @@
 -- Calls of the C face one after the other on lent words, each known by its promise alone: how a caller reads their numbers as
--- replies, and that they make a series of the Rattle calls below them. Assumes nothing.
+-- replies, and that they make a series of the Rattle calls below them. The names are those of IPv4, and IPv6's calls,
+-- toggleash_v6_clear and so on, are meant as well. Assumes nothing.
 --
 --     toggleash_clear ──▶ words ── toggleash_announce ──▶ . ── toggleash_lookup ──▶ . ── toggleash_withdraw ──▶ words′
 --           0                      refusal, hop, cells         refusal, found, ..
@@ -13,6 +14,7 @@ use lib.ListN.{length}
 use borrow.Author.Tests.{ne-eqb}
 use Rattle.logic.specs.Cases.{bool}
 use Rattle.sizes.specs.Sizes.{arrayWords}
+use Rattle.routes.specs.Family.{Family, levels, width}
 use Rattle.routes.specs.Answers.{Reply, done, found, none, refused}
 use Rattle.candidates.specs.Answers.{Update, Record, update, lookup}
 use Rattle.candidates.specs.Seen.{table, misfits, lookupOn}
@@ -61,30 +63,32 @@ lookup-read (refused n) p = rw (ne-eqb n 0 (λ e. omega arith))
 -- ---- calls
 
 -- toggleash_clear took words of A arrays, and left these
-pub record Cleared (A : ℕ) (words : List ℕ) : Type 0 where
+pub record Cleared (F : Family) (A : ℕ) (words : List ℕ) : Type 0 where
   pub lent : List ℕ
   pub size : length lent ≡ arrayWords * (A + 1)
-  pub clears : HasCleared lent words 0
+  pub clears : HasCleared F lent words 0
 
 -- the call of a record on the words ws: its numbers say y, and it left vs, as its contract allows
-pub data Asked (ws : List ℕ) : Record → Reply → List ℕ → Type 0 where
-  updated : {u : Update} {vs : List ℕ} (r : Updated) → HasUpdated ws vs u r → Asked ws (update u) (saidUpdate r) vs
-  looked : {a : ℕ} (r : Found) → r ≡ face.looked (lookupOn 32 (seen 4 ws) (walk 4 ws a) a) → Asked ws (lookup a) (saidLookup r) ws
+pub data Asked (F : Family) (ws : List ℕ) : Record → Reply → List ℕ → Type 0 where
+  updated : {u : Update} {vs : List ℕ} (r : Updated) → HasUpdated F ws vs u r → Asked F ws (update u) (saidUpdate r) vs
+  looked : {a : ℕ} (r : Found) → r ≡ face.looked (lookupOn (width F) (seen (levels F) ws) (walk (levels F) ws a) a)
+      → Asked F ws (lookup a) (saidLookup r) ws
 
 -- several, in order
-pub data Series : List ℕ → List Record → List Reply → List ℕ → Type 0 where
-  nothing : {ws : List ℕ} → Series ws [] [] ws
+pub data Series (F : Family) : List ℕ → List Record → List Reply → List ℕ → Type 0 where
+  nothing : {ws : List ℕ} → Series F ws [] [] ws
   more : {ws vs us : List ℕ} {x : Record} {xs : List Record} {y : Reply} {ys : List Reply}
-      → Asked ws x y vs → Series vs xs ys us → Series ws (x ∷ xs) (y ∷ ys) us
+      → Asked F ws x y vs → Series F vs xs ys us → Series F ws (x ∷ xs) (y ∷ ys) us
 
 -- ---- and the calls below them
 
 -- clear, not refused
-pub clear-done : {A : ℕ} {words : List ℕ} (c : Cleared A words) → audit.HasCleared 4 (c .lent) words answer.Done
-clear-done {A} {words} c = let b = clear-below (c .lent) words 0 (c .clears) in of (b .answer) (b .told) (b .promise)
+pub clear-done : {F : Family} {A : ℕ} {words : List ℕ} (c : Cleared F A words)
+    → audit.HasCleared (levels F) (c .lent) words answer.Done
+clear-done {F} {A} {words} c = let b = clear-below F (c .lent) words 0 (c .clears) in of (b .answer) (b .told) (b .promise)
   where
     Took : Answer → Type 0
-    Took r = audit.HasCleared 4 (c .lent) words r
+    Took r = audit.HasCleared (levels F) (c .lent) words r
 
     of : (r : Answer) → 0 ≡ refusal (audit.clearAnswer r) → Took r → Took answer.Done
     of answer.Done e p = p
@@ -94,20 +98,21 @@ clear-done {A} {words} c = let b = clear-below (c .lent) words 0 (c .clears) in 
         (λ d. absurd (given-refused (sym (rw d at (p .answer)))))
 
 -- words that were cleared are a table that holds nothing
-pub cleared : {A : ℕ} {words : List ℕ} → Cleared A words → seen 4 words ≡ table A []
-cleared {A} {words} c = cleared-done A (c .lent) words (c .size) (clear-done c)
+pub cleared : {F : Family} {A : ℕ} {words : List ℕ} → Cleared F A words → seen (levels F) words ≡ table A []
+cleared {F} {A} {words} c = cleared-done F A (c .lent) words (c .size) (clear-done c)
 
-pub asked-below : {ws vs : List ℕ} {x : Record} {y : Reply} → Asked ws x y vs → rattle.Asked 4 ws x y vs
-asked-below {ws} {vs} (updated {u} r p) =
-    let b = update-below ws vs u r p in
+pub asked-below : {F : Family} {ws vs : List ℕ} {x : Record} {y : Reply} → Asked F ws x y vs → rattle.Asked (levels F) ws x y vs
+asked-below {F} {ws} {vs} (updated {u} r p) =
+    let b = update-below F ws vs u r p in
     let e : saidUpdate r ≡ saidReply (b .answer) =
-    ap saidUpdate (p .answer) ∙ update-read _ (answer-made (seen 4 ws) u) ∙ sym (b .promise .answer) in
+    ap saidUpdate (p .answer) ∙ update-read _ (answer-made F (seen (levels F) ws) u) ∙ sym (b .promise .answer) in
     rw e (rattle.updated (b .answer) (b .promise))
-asked-below {ws} (looked {a} r p) =
-    let b = lookup-below ws a r p in
-    let e : saidLookup r ≡ saidReply (b .answer) = ap saidLookup p ∙ lookup-read _ (lookup-looks ws a) ∙ sym (b .promise) in
+asked-below {F} {ws} (looked {a} r p) =
+    let b = lookup-below F ws a r p in
+    let e : saidLookup r ≡ saidReply (b .answer) = ap saidLookup p ∙ lookup-read _ (lookup-looks F ws a) ∙ sym (b .promise) in
     rw e (rattle.looked (b .answer) (b .promise))
 
-pub series-below : {ws vs : List ℕ} {xs : List Record} {ys : List Reply} → Series ws xs ys vs → rattle.Series 4 ws xs ys vs
+pub series-below : {F : Family} {ws vs : List ℕ} {xs : List Record} {ys : List Reply} → Series F ws xs ys vs
+    → rattle.Series (levels F) ws xs ys vs
 series-below nothing = rattle.nothing
 series-below (more a s) = rattle.more (asked-below a) (series-below s)

@@ -4,6 +4,7 @@
 use mathlib.Core.Path.{_≡_}
 use mathlib.Core.List.{List}
 use Prim.Native.Nat.{ℕ}
+use Rattle.routes.specs.Family.{Family, levels, width}
 use Rattle.routes.specs.Answers.{Reply}
 use Rattle.candidates.specs.Candidate.{Candidate}
 use Rattle.candidates.specs.Answers.{Update, records}
@@ -22,21 +23,22 @@ use Rattle.calls.specs.ExportedSwapped.{LaterAlike, later-below, RunOf, 
 
 -- the updates us sent one by one to a table of A arrays that stands for cs, each call as its contract allows, and what their
 -- numbers say
-pub record Sent (A : ℕ) (cs : List Candidate) (us : List Update) : Type 0 where
+pub record Sent (F : Family) (A : ℕ) (cs : List Candidate) (us : List Update) : Type 0 where
   pub words : List ℕ
-  pub table : seen 4 words ≡ table A cs
+  pub table : seen (levels F) words ≡ table A cs
   pub replies : List Reply
   pub words′ : List ℕ
-  pub calls : Series words (records us) replies words′
+  pub calls : Series F words (records us) replies words′
 
 -- the same answers in another order, and words that no later calls tell apart
-pub record Alike {A : ℕ} {cs : List Candidate} {us vs : List Update} (s : Sent A cs us) (t : Sent A cs vs) : Type 0 where
+pub record Alike {F : Family} {A : ℕ} {cs : List Candidate} {us vs : List Update}
+    (s : Sent F A cs us) (t : Sent F A cs vs) : Type 0 where
   pub answers : Reordered (told us (s .replies)) (told vs (t .replies))
-  pub list : seen 4 (s .words′) ≡ seen 4 (t .words′)
-  pub later : LaterAlike (s .words′) (t .words′)
+  pub list : seen (levels F) (s .words′) ≡ seen (levels F) (t .words′)
+  pub later : LaterAlike F (s .words′) (t .words′)
 
 -- the calls below
-abbrev under : {A : ℕ} {cs : List Candidate} {us : List Update} → Sent A cs us → rattle.Sent A cs us
+abbrev under : {F : Family} {A : ℕ} {cs : List Candidate} {us : List Update} → Sent F A cs us → rattle.Sent F A cs us
 under s =
     record {
       words = s .words;
@@ -46,8 +48,8 @@ under s =
       calls = series-below (s .calls);
     }
 
-pub moved-exported : {A : ℕ} {cs : List Candidate} {us vs : List Update} → Moves 32 A cs us vs
-    → (s : Sent A cs us) (t : Sent A cs vs) → Alike s t
+pub moved-exported : {F : Family} {A : ℕ} {cs : List Candidate} {us vs : List Update} → Moves (width F) A cs us vs
+    → (s : Sent F A cs us) (t : Sent F A cs vs) → Alike s t
 moved-exported m s t =
     let e = rattle.moved-sent m (under s) (under t) in
     record { answers = e .answers; list = e .list; later = later-below (e .later) }
@@ -55,22 +57,23 @@ moved-exported m s t =
 -- ---- as feeds
 
 -- a log of the updates us, run as a feed
-pub record Logged (A : ℕ) (cs : List Candidate) (us : List Update) : Type 0 where
+pub record Logged (F : Family) (A : ℕ) (cs : List Candidate) (us : List Update) : Type 0 where
   pub sent : List Bytes
   pub meant : meanings sent ≡ records us
-  pub ran : RunOf A cs sent
+  pub ran : RunOf F A cs sent
 
-pub record LogsAlike {A : ℕ} {cs : List Candidate} {us vs : List Update} (p : Logged A cs us) (q : Logged A cs vs) : Type 0 where
+pub record LogsAlike {F : Family} {A : ℕ} {cs : List Candidate} {us vs : List Update}
+    (p : Logged F A cs us) (q : Logged F A cs vs) : Type 0 where
   pub answers : Reordered (told us (readBack us (p .ran .reply′))) (told vs (readBack vs (q .ran .reply′)))
-  pub list : seen 4 (p .ran .words′) ≡ seen 4 (q .ran .words′)
-  pub later : LaterAlike (p .ran .words′) (q .ran .words′)
+  pub list : seen (levels F) (p .ran .words′) ≡ seen (levels F) (q .ran .words′)
+  pub later : LaterAlike F (p .ran .words′) (q .ran .words′)
 
 -- the run below
-abbrev logged : {A : ℕ} {cs : List Candidate} {us : List Update} → Logged A cs us → runs.Logged A cs us
+abbrev logged : {F : Family} {A : ℕ} {cs : List Candidate} {us : List Update} → Logged F A cs us → runs.Logged F A cs us
 logged p = record { sent = p .sent; meant = p .meant; ran = runUnder (p .ran) }
 
-pub moved-run-exported : {A : ℕ} {cs : List Candidate} {us vs : List Update} → Moves 32 A cs us vs
-    → (p : Logged A cs us) (q : Logged A cs vs) → LogsAlike p q
+pub moved-run-exported : {F : Family} {A : ℕ} {cs : List Candidate} {us vs : List Update} → Moves (width F) A cs us vs
+    → (p : Logged F A cs us) (q : Logged F A cs vs) → LogsAlike p q
 moved-run-exported m p q =
     let e = runs.moved-run m (logged p) (logged q) in
     record { answers = e .answers; list = e .list; later = later-below (e .later) }

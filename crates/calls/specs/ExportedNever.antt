@@ -5,7 +5,7 @@ use mathlib.Core.Logic.{_≢_}
 use mathlib.Core.List.{List, _∷_, _++_}
 use Prim.Native.Nat.{ℕ}
 use lib.ListN.{take}
-use Rattle.routes.specs.Family.{v4}
+use Rattle.routes.specs.Family.{Family}
 use Rattle.routes.specs.Answers.{Reply, refused}
 use Rattle.routes.specs.Bytes.{repliesBytes}
 use Rattle.feed.specs.Runs.{runAnswer}
@@ -22,9 +22,9 @@ counts : (t : Ran) → ran (runAnswer t) .written ≡ writtenBy t
 counts (Stopped p) = refl
 counts (Refused n) = refl
 
-pub never-exported : (ws feed b vs c : List ℕ) (r : Fields) → HasRun ws feed b vs c r
+pub never-exported : (F : Family) (ws feed b vs c : List ℕ) (r : Fields) → HasRun F ws feed b vs c r
     → (xs ys : List Reply) → take (r .written) c ≢ repliesBytes (xs ++ (refused 2 ∷ ys))
-never-exported ws feed b vs c r p xs ys =
-    let t = run-below ws feed b vs c r p in
+never-exported F ws feed b vs c r p xs ys =
+    let t = run-below F ws feed b vs c r p in
     let e : r .written ≡ writtenBy (t .answer) = ap (λ (x : Fields). x .written) (t .told) ∙ counts (t .answer) in
-    rw e (never v4 ws feed b vs c (t .answer) (t .promise) xs ys)
+    rw e (never F ws feed b vs c (t .answer) (t .promise) xs ys)

@@ -1,5 +1,5 @@
--- Document 01's small cases said of the C face: whatever numbers toggleash_clear, the updates, the call and toggleash_check of a
--- row may answer by their contracts, they say what the row says. Assumes nothing.
+-- Document 01's small cases, of IPv4, said of the C face: whatever numbers toggleash_clear, the updates, the call and
+-- toggleash_check of a row may answer by their contracts, they say what the row says. Assumes nothing.
 --
 --     toggleash_clear ──▶ the row's updates ──▶ the row's call ──▶ toggleash_check
 --            0                                  what it gives      0, the routes, the arrays
@@ -7,6 +7,7 @@ use mathlib.Core.Path.{_≡_, ap, _∙_}
 use mathlib.Core.List.{List, [], _∷_}
 use Prim.Native.Nat.{ℕ}
 use lib.ListN.{length}
+use Rattle.routes.specs.Family.{v4}
 use Rattle.routes.specs.Answers.{Reply}
 use Rattle.candidates.specs.Answers.{records}
 use Rattle.candidates.specs.Seen.{checkOn}
@@ -22,13 +23,13 @@ use Rattle.calls.specs.Exported.{Cleared, Asked, Series, clear-done, ask
 -- the calls of a row on cleared words of its arrays, each as its contract allows
 pub record Played (c : Case) : Type 0 where
   pub words : List ℕ
-  pub cleared : Cleared (c .room) words
+  pub cleared : Cleared v4 (c .room) words
   pub ready : List ℕ
   pub earlier : List Reply
-  pub took : Series words (records (c .before)) earlier ready
+  pub took : Series v4 words (records (c .before)) earlier ready
   pub left : List ℕ
   pub told : Reply
-  pub asked : Asked ready (c .call) told left
+  pub asked : Asked v4 ready (c .call) told left
   pub counts : Counted
   pub checks : counts ≡ counted (checkOn 32 (seen 4 left))
 
@@ -51,14 +52,14 @@ under p =
       left = p .left;
       told = p .told;
       asked = asked-below (p .asked);
-      counts = check-below (p .left) (p .counts) (p .checks) .answer;
-      checks = check-below (p .left) (p .counts) (p .checks) .promise;
+      counts = check-below v4 (p .left) (p .counts) (p .checks) .answer;
+      checks = check-below v4 (p .left) (p .counts) (p .checks) .promise;
     }
 
 as-said : (c : Case) → ((p : rattle.Played c) → rattle.AsSaid c p) → (p : Played c) → AsSaid c p
 as-said c f p =
     let s = f (under p) in
-    record { answer = s .answer; counts = check-below (p .left) (p .counts) (p .checks) .told ∙ ap counted (s .arrays) }
+    record { answer = s .answer; counts = check-below v4 (p .left) (p .counts) (p .checks) .told ∙ ap counted (s .arrays) }
 
 each : (cs : List Case) → Each (λ c. (p : rattle.Played c) → rattle.AsSaid c p) cs → Each (λ c. (p : Played c) → AsSaid c p) cs
 each [] f = tt

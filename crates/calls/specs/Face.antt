@@ -4,7 +4,7 @@ use mathlib.Core.Path.{_≡_, sym, _∙_}
 use mathlib.Core.List.{List}
 use Prim.Native.Nat.{ℕ}
 use lib.ListN.{length}
-use Rattle.routes.specs.Family.{v4}
+use Rattle.routes.specs.Family.{Family, levels, width}
 use Rattle.routes.specs.Route.{Route}
 use Rattle.routes.specs.Answers.{Reply, refused}
 use Rattle.routes.specs.Seen.{Answer, refuses}
@@ -33,9 +33,9 @@ use Rattle.toggleash.specs.declared.copies.Built.{Built}
 use Rattle.toggleash.specs.declared.copies.Matched.{Matched}
 
 -- one answer, one view of the words left, and one content of them where the call refused
-pub record Agree {T : Type 0} (Refused : Type 0) (vs vs′ : List ℕ) (r r′ : T) : Type 0 where
+pub record Agree (F : Family) {T : Type 0} (Refused : Type 0) (vs vs′ : List ℕ) (r r′ : T) : Type 0 where
   pub answer : r ≡ r′
-  pub seen : seen 4 vs ≡ seen 4 vs′
+  pub seen : seen (levels F) vs ≡ seen (levels F) vs′
   pub words : Refused → vs ≡ vs′
 
 -- refused with some number
@@ -47,40 +47,44 @@ pub record ByReply (y : Reply) : Type 0 where
   pub number : ℕ
   pub is : y ≡ refused number
 
-pub clear-agrees : (ws vs vs′ : List ℕ) (r r′ : ℕ) → HasCleared ws vs r → HasCleared ws vs′ r′
-    → Agree (By (clearOn (length ws))) vs vs′ r r′
-clear-agrees ws vs vs′ r r′ p q = record {
+pub clear-agrees : (F : Family) (ws vs vs′ : List ℕ) (r r′ : ℕ) → HasCleared F ws vs r → HasCleared F ws vs′ r′
+    → Agree F (By (clearOn (length ws))) vs vs′ r r′
+clear-agrees F ws vs vs′ r r′ p q = record {
   answer = p .answer ∙ sym (q .answer);
   seen = p .left ∙ sym (q .left);
   words = λ b. p .kept (b .number) (b .is) ∙ sym (q .kept (b .number) (b .is));
 }
 
-pub check-agrees : (ws : List ℕ) (r r′ : Counted) → r ≡ counted (checkOn 32 (seen 4 ws))
-    → r′ ≡ counted (checkOn 32 (seen 4 ws)) → r ≡ r′
-check-agrees ws r r′ p q = p ∙ sym q
+pub check-agrees : (F : Family) (ws : List ℕ) (r r′ : Counted) → r ≡ counted (checkOn (width F) (seen (levels F) ws))
+    → r′ ≡ counted (checkOn (width F) (seen (levels F) ws)) → r ≡ r′
+check-agrees F ws r r′ p q = p ∙ sym q
 
-pub lookup-agrees : (ws : List ℕ) (a : ℕ) (r r′ : Found) → r ≡ looked (lookupOn 32 (seen 4 ws) (walk 4 ws a) a)
-    → r′ ≡ looked (lookupOn 32 (seen 4 ws) (walk 4 ws a) a) → r ≡ r′
-lookup-agrees ws a r r′ p q = p ∙ sym q
+pub lookup-agrees : (F : Family) (ws : List ℕ) (a : ℕ) (r r′ : Found)
+    → r ≡ looked (lookupOn (width F) (seen (levels F) ws) (walk (levels F) ws a) a)
+    → r′ ≡ looked (lookupOn (width F) (seen (levels F) ws) (walk (levels F) ws a) a) → r ≡ r′
+lookup-agrees F ws a r r′ p q = p ∙ sym q
 
-pub within-agrees : (ws : List ℕ) (a l : ℕ) (r r′ : Total) → r ≡ totalled (withinOn 32 (seen 4 ws) (total.walk 4 ws a l) a l)
-    → r′ ≡ totalled (withinOn 32 (seen 4 ws) (total.walk 4 ws a l) a l) → r ≡ r′
-within-agrees ws a l r r′ p q = p ∙ sym q
+pub within-agrees : (F : Family) (ws : List ℕ) (a l : ℕ) (r r′ : Total)
+    → r ≡ totalled (withinOn (width F) (seen (levels F) ws) (total.walk (levels F) ws a l) a l)
+    → r′ ≡ totalled (withinOn (width F) (seen (levels F) ws) (total.walk (levels F) ws a l) a l) → r ≡ r′
+within-agrees F ws a l r r′ p q = p ∙ sym q
 
-pub update-agrees : (ws : List ℕ) (u : Update) (vs vs′ : List ℕ) (r r′ : Updated) → HasUpdated ws vs u r → HasUpdated ws vs′ u r′
-    → Agree (ByReply (answerOn 32 (seen 4 ws) u)) vs vs′ r r′
-update-agrees ws u vs vs′ r r′ p q = record {
+pub update-agrees : (F : Family) (ws : List ℕ) (u : Update) (vs vs′ : List ℕ) (r r′ : Updated) → HasUpdated F ws vs u r
+    → HasUpdated F ws vs′ u r′
+    → Agree F (ByReply (answerOn (width F) (seen (levels F) ws) u)) vs vs′ r r′
+update-agrees F ws u vs vs′ r r′ p q = record {
   answer = p .answer ∙ sym (q .answer);
   seen = p .list ∙ sym (q .list);
   words = λ b. p .kept (b .number) (b .is) ∙ sym (q .kept (b .number) (b .is));
 }
 
-pub write-out-agrees : (ws b c c′ : List ℕ) (r r′ : Written) → HasWritten ws b c r → HasWritten ws b c′ r′ → (r ≡ r′) × (c ≡ c′)
-write-out-agrees ws b c c′ r r′ p q = (p .answer ∙ sym (q .answer), p .front ∙ sym (q .front))
+pub write-out-agrees : (F : Family) (ws b c c′ : List ℕ) (r r′ : Written) → HasWritten F ws b c r
+    → HasWritten F ws b c′ r′ → (r ≡ r′) × (c ≡ c′)
+write-out-agrees F ws b c c′ r r′ p q = (p .answer ∙ sym (q .answer), p .front ∙ sym (q .front))
 
-pub run-agrees : (ws bytes b vs vs′ c c′ : List ℕ) (r r′ : Fields) → HasRun ws bytes b vs c r → HasRun ws bytes b vs′ c′ r′
-    → Agree (By (runOn v4 (seen 4 ws) bytes b)) vs vs′ r r′ × (c ≡ c′)
-run-agrees ws bytes b vs vs′ c c′ r r′ p q = (
+pub run-agrees : (F : Family) (ws bytes b vs vs′ c c′ : List ℕ) (r r′ : Fields) → HasRun F ws bytes b vs c r
+    → HasRun F ws bytes b vs′ c′ r′ → Agree F (By (runOn F (seen (levels F) ws) bytes b)) vs vs′ r r′ × (c ≡ c′)
+run-agrees F ws bytes b vs vs′ c c′ r r′ p q = (
   record {
     answer = p .answer ∙ sym (q .answer);
     seen = p .list ∙ sym (q .list);

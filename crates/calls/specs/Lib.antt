@@ -22,3 +22,4 @@ pub mod Moved
 pub mod MovedRuns
 pub mod ExportedMoved
 pub mod ExportedSwapped
+pub mod ExportedWorked

@@ -9,12 +9,12 @@ use Prim.Native.Nat.{ℕ, _+_, _*_, _≤_}
 use lib.ListN.{length, take}
 use lib.Seq.{take-append-seam}
 use borrow.Author.Tests.{le-ltb}
-use Rattle.routes.specs.Family.{v4}
+use Rattle.routes.specs.Family.{Family, levels, width}
 use Rattle.routes.specs.Bytes.{repliesBytes}
 use Rattle.candidates.specs.Candidate.{Candidate}
 use Rattle.candidates.specs.Answers.{replies}
 use Rattle.candidates.specs.Bytes.{meanings, announced, written}
-use Rattle.candidates.specs.Seen.{Seen, table, frontOn}
+use Rattle.candidates.specs.Seen.{Seen, table, bytesFor, frontOn}
 use Rattle.encoded.specs.Round.{round-trip}
 use Rattle.words.specs.Table.{seen}
 use Rattle.audit.specs.Answer.{HasCleared}
@@ -26,51 +26,52 @@ use Rattle.feed.specs.declared.Ran.the-variants.{Stopped}
 use Rattle.calls.specs.Held.{held, cleared-alike, stopped}
 
 -- the calls, each as its contract allows
-pub record Trip (A : ℕ) (cs : List Candidate) : Type 0 where
+pub record Trip (F : Family) (A : ℕ) (cs : List Candidate) : Type 0 where
   pub words : List ℕ
-  pub table : seen 4 words ≡ table A cs
-  -- written out into a buffer that is large enough
+  pub table : seen (levels F) words ≡ table A cs
+  -- written out into a buffer that is large enough: 10 bytes a candidate of IPv4, 22 of IPv6, and the end
   pub buffer : List ℕ
-  pub fits : 10 * length cs + 1 ≤ length buffer
+  pub fits : (levels F + 6) * length cs + 1 ≤ length buffer
   pub front : List ℕ
-  pub wrote : front ≡ frontOn v4 (seen 4 words) (length buffer)
+  pub wrote : front ≡ frontOn F (seen (levels F) words) (length buffer)
   -- as many words, cleared
   pub lent : List ℕ
   pub same : length lent ≡ length words
   pub cleared : List ℕ
   pub answer : Cleared
-  pub clears : HasCleared 4 lent cleared answer
+  pub clears : HasCleared (levels F) lent cleared answer
   -- the front run on them, with reply room enough
   pub reply : List ℕ
   pub enough : 5 * length cs ≤ length reply
   pub words′ : List ℕ
   pub reply′ : List ℕ
   pub ran : Ran
-  pub runs : HasRun v4 cleared front reply words′ reply′ ran
+  pub runs : HasRun F cleared front reply words′ reply′ ran
 
 -- the same list, each of its records accepted, at an end
-pub record Again {A : ℕ} {cs : List Candidate} (t : Trip A cs) : Type 0 where
-  pub list : seen 4 (t .words′) ≡ seen 4 (t .words)
+pub record Again {F : Family} {A : ℕ} {cs : List Candidate} (t : Trip F A cs) : Type 0 where
+  pub list : seen (levels F) (t .words′) ≡ seen (levels F) (t .words)
   pub answer : t .ran ≡ Stopped (record {
     stop = 0;
-    consumed = 10 * length cs + 1;
-    written = length (repliesBytes (replies 32 A [] (meanings (announced cs))));
+    consumed = bytesFor F (length cs);
+    written = length (repliesBytes (replies (width F) A [] (meanings (announced cs))));
     accepted = length cs;
     refused = 0;
   })
 
-pub again : {A : ℕ} {cs : List Candidate} (t : Trip A cs) → Again t
-again {A} {cs} t =
-    let h = held A cs (t .words) (t .table) in
-    let e : seen 4 (t .cleared) ≡ table A [] =
-    cleared-alike A cs (t .words) (t .lent) (t .cleared) (t .answer) (t .table) (t .same) (t .clears) in
-    let f : t .front ≡ written v4 cs = t .wrote ∙ rw (t .table, le-ltb (length (t .buffer)) (10 * length cs + 1) (t .fits)) in
-    let o = round-trip v4 A cs (length (t .reply)) (h .list) (h .room) (t .enough) in
+pub again : {F : Family} {A : ℕ} {cs : List Candidate} (t : Trip F A cs) → Again t
+again {F} {A} {cs} t =
+    let h = held F A cs (t .words) (t .table) in
+    let e : seen (levels F) (t .cleared) ≡ table A [] =
+    cleared-alike F A cs (t .words) (t .lent) (t .cleared) (t .answer) (t .table) (t .same) (t .clears) in
+    let f : t .front ≡ written F cs = t .wrote ∙ rw (t .table, le-ltb (length (t .buffer)) (bytesFor F (length cs)) (t .fits)) in
+    let o = round-trip F A cs (length (t .reply)) (h .list) (h .room) (t .enough) in
     record {
       list = t .runs .list ∙ rw (e, f, o) (sym (t .table));
       answer = stopped (t .ran) _ (t .runs .answer ∙ rw (e, f, o));
     }
 
 -- the front is also what fill leaves at the start of the buffer
-pub filled-front : (s : Seen) (b : List ℕ) (n : ℕ) (c : List ℕ) → HasFilled v4 s b n c → take n c ≡ frontOn v4 s (length b)
-filled-front s b n c f = rw (f .list, f .count) (take-append-seam (frontOn v4 s (length b)) _)
+pub filled-front : (F : Family) (s : Seen) (b : List ℕ) (n : ℕ) (c : List ℕ) → HasFilled F s b n c
+    → take n c ≡ frontOn F s (length b)
+filled-front F s b n c f = rw (f .list, f .count) (take-append-seam (frontOn F s (length b)) _)

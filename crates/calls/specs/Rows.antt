@@ -1,5 +1,5 @@
--- Document 01's small cases said of the calls: whatever clear, the updates, the call and the check of a row may answer by their
--- contracts, it is what the row says. Each update is of feed 1 with preference 0. Assumes nothing.
+-- Document 01's small cases, of IPv4, said of the calls: whatever clear, the updates, the call and the check of a row may answer
+-- by their contracts, it is what the row says. Each update is of feed 1 with preference 0. Assumes nothing.
 --
 --     clear ──▶ the row's updates ──▶ the row's call ──▶ check
 --     Done                            what it gives      the arrays
@@ -8,6 +8,7 @@ use mathlib.Core.List.{List, [], _∷_}
 use Prim.Native.Nat.{ℕ, _+_, _*_}
 use lib.ListN.{length}
 use Rattle.sizes.specs.Sizes.{arrayWords}
+use Rattle.routes.specs.Family.{v4}
 use Rattle.routes.specs.Answers.{Reply}
 use Rattle.routes.specs.Seen.{gives}
 use Rattle.candidates.specs.Answers.{records}
@@ -44,7 +45,7 @@ pub record AsSaid (c : Case) (p : Played c) : Type 0 where
 
 as-said : (c : Case) → got c ≡ c → (p : Played c) → AsSaid c p
 as-said c e p =
-    let t = cleared-done (c .room) (p .lent) (p .cleared) (p .size) (p .clears) in
+    let t = cleared-done v4 (c .room) (p .lent) (p .cleared) (p .size) (p .clears) in
     let b = all-answered 4 (c .room) [] t (p .took) in
     let a = answered 4 (c .room) (listBefore c) (b .list) (p .asked) in
     record {

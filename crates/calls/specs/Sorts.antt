@@ -7,6 +7,7 @@ use native.Mathlib.Omega.{arith}
 use lib.Dec.{ltb, eqb}
 use Rattle.logic.specs.Cases.{bool}
 use Rattle.sizes.specs.Sizes.{hopBound}
+use Rattle.routes.specs.Family.{Family, levels, width}
 use Rattle.routes.specs.Route.{tooLong, stray, badHop}
 use Rattle.routes.specs.Match.{Match, longest}
 use Rattle.routes.specs.Match as best
@@ -53,13 +54,14 @@ walk-looks L ws x (suc n) a m =
     turn-looks (arrayCount ws) (8 * k) (bestsOf ws a i) (blocksOf ws a i) (arraysOf ws .link a i) m
     (walkFrom L ws x n) (walk-looks L ws x n)
 
-pub lookup-looks : (ws : List ℕ) (a : ℕ) → OfLookup (lookupOn 32 (seen 4 ws) (walk 4 ws a) a)
-lookup-looks ws a = go (seen 4 ws)
+pub lookup-looks : (F : Family) (ws : List ℕ) (a : ℕ)
+    → OfLookup (lookupOn (width F) (seen (levels F) ws) (walk (levels F) ws a) a)
+lookup-looks F ws a = go (seen (levels F) ws)
   where
-    go : (s : Seen) → OfLookup (lookupOn 32 s (walk 4 ws a) a)
+    go : (s : Seen) → OfLookup (lookupOn (width F) s (walk (levels F) ws a) a)
     go misfit = omega arith
-    go foreign = walk-looks 4 ws a 4 1 best.none
-    go (table A cs) = best-looks (longest 32 a (winners cs)) _
+    go foreign = walk-looks (levels F) ws a (levels F) 1 best.none
+    go (table A cs) = best-looks (longest (width F) a (winners cs)) _
 
 -- ---- an update
 
@@ -90,8 +92,8 @@ verdict-made W A cs (withdraw a l f) =
     refuse-made 7 (eqb (held cs a l f) 0) (done (held cs a l f) (reloaded W cs (changed (withdraw a l f) cs) a l))
     (omega arith) tt
 
-pub answer-made : (s : Seen) (u : Update) → OfUpdate (answerOn 32 s u)
+pub answer-made : (F : Family) (s : Seen) (u : Update) → OfUpdate (answerOn (width F) s u)
 unfolding answer
-answer-made misfit u = omega arith
-answer-made foreign u = faulty-made 32 u (refused 2) (omega arith)
-answer-made (table A cs) u = faulty-made 32 u (verdict 32 A cs u) (verdict-made 32 A cs u)
+answer-made F misfit u = omega arith
+answer-made F foreign u = faulty-made (width F) u (refused 2) (omega arith)
+answer-made F (table A cs) u = faulty-made (width F) u (verdict (width F) A cs u) (verdict-made (width F) A cs u)

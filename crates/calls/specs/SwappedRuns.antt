@@ -8,7 +8,7 @@ use mathlib.Core.Logic.{_≢_}
 use mathlib.Core.List.{List, _++_}
 use Prim.Native.Nat.{ℕ}
 use lib.ListN.{length, drop}
-use Rattle.routes.specs.Family.{v4}
+use Rattle.routes.specs.Family.{Family, levels, width}
 use Rattle.candidates.specs.Candidate.{Candidate}
 use Rattle.candidates.specs.Answers.{Update, update}
 use Rattle.candidates.specs.Answers as answers
@@ -26,25 +26,25 @@ use Rattle.calls.specs.Swapped.{LaterAlike, later-alike, is-table}
 use Rattle.calls.specs.SwappedFeeds.{neighbours, FeedRun, outcome, FeedsSwapped, feeds-swapped}
 
 -- a run of the records ss on words that stand for cs, as its contract allows, which did not stop for want of reply room
-pub record RunOf (A : ℕ) (cs : List Candidate) (ss : List Sent) : Type 0 where
+pub record RunOf (F : Family) (A : ℕ) (cs : List Candidate) (ss : List Sent) : Type 0 where
   pub words : List ℕ
-  pub is : seen 4 words ≡ table A cs
-  pub fits : AllFit v4 ss
+  pub is : seen (levels F) words ≡ table A cs
+  pub fits : AllFit F ss
   pub rest : List ℕ
   pub closes : Closes rest
   pub reply : List ℕ
   pub words′ : List ℕ
   pub reply′ : List ℕ
   pub report : Report
-  pub runs : HasRun v4 words (bytes v4 ss rest) reply words′ reply′ (Stopped report)
+  pub runs : HasRun F words (bytes F ss rest) reply words′ reply′ (Stopped report)
   pub enough : report .stop ≢ 4
 
-module _ {A : ℕ} {cs : List Candidate} {ss : List Sent} (c : RunOf A cs ss) where
-  pub reported : c .report ≡ reportOf (run v4 A cs (bytes v4 ss (c .rest)) (length (c .reply)))
+module _ {F : Family} {A : ℕ} {cs : List Candidate} {ss : List Sent} (c : RunOf F A cs ss) where
+  pub reported : c .report ≡ reportOf (run F A cs (bytes F ss (c .rest)) (length (c .reply)))
   reported = given-one (rw (c .is) at (c .runs .answer))
 
   -- the run of the definitions
-  abbrev pub feedRun : FeedRun A cs ss
+  abbrev pub feedRun : FeedRun F A cs ss
   feedRun = record {
     fits = c .fits;
     rest = c .rest;
@@ -59,27 +59,28 @@ module _ {A : ℕ} {cs : List Candidate} {ss : List Sent} (c : RunOf A cs ss) wh
   pub run-replies : c .reply′ ≡ ranTo .end .replies ++ drop (length (ranTo .end .replies)) (c .reply)
   run-replies = rw (c .is) at (c .runs .replies)
 
-  pub run-list : seen 4 (c .words′) ≡ table A (ranTo .end .list)
+  pub run-list : seen (levels F) (c .words′) ≡ table A (ranTo .end .list)
   run-list = rw (c .is) at (c .runs .list)
 
 -- what the two runs come to: their replies as the definitions' runs have them, one list, and all later answers alike
-pub record RunsSwapped {A : ℕ} {cs : List Candidate} {ss ts : List Sent} (p : RunOf A cs ss) (q : RunOf A cs ts) : Type 0 where
+pub record RunsSwapped {F : Family} {A : ℕ} {cs : List Candidate} {ss ts : List Sent}
+    (p : RunOf F A cs ss) (q : RunOf F A cs ts) : Type 0 where
   pub feeds : FeedsSwapped (ranTo p) (ranTo q)
   pub one-replies : p .reply′ ≡ ranTo p .end .replies ++ drop (length (ranTo p .end .replies)) (p .reply)
   pub other-replies : q .reply′ ≡ ranTo q .end .replies ++ drop (length (ranTo q .end .replies)) (q .reply)
-  pub list : seen 4 (p .words′) ≡ seen 4 (q .words′)
-  pub later : LaterAlike (p .words′) (q .words′)
+  pub list : seen (levels F) (p .words′) ≡ seen (levels F) (q .words′)
+  pub later : LaterAlike F (p .words′) (q .words′)
 
-pub runs-swapped : {A : ℕ} {cs : List Candidate} (xs zs : List Sent) (u v : Update) (x y : Sent)
-    → Move 32 A (answers.leaves 32 A cs (meanings xs)) u v → means x ≡ update u → means y ≡ update v
-    → (p : RunOf A cs (neighbours xs x y zs)) (q : RunOf A cs (neighbours xs y x zs)) → RunsSwapped p q
-runs-swapped {A} {cs} xs zs u v x y m ex ey p q =
-    let f = feeds-swapped A cs xs zs u v x y (is-table A cs (p .words) (p .is)) m ex ey (feedRun p) (feedRun q) in
-    let e : seen 4 (p .words′) ≡ seen 4 (q .words′) = run-list p ∙ ap (table A) (f .list) ∙ sym (run-list q) in
+pub runs-swapped : {F : Family} {A : ℕ} {cs : List Candidate} (xs zs : List Sent) (u v : Update) (x y : Sent)
+    → Move (width F) A (answers.leaves (width F) A cs (meanings xs)) u v → means x ≡ update u → means y ≡ update v
+    → (p : RunOf F A cs (neighbours xs x y zs)) (q : RunOf F A cs (neighbours xs y x zs)) → RunsSwapped p q
+runs-swapped {F} {A} {cs} xs zs u v x y m ex ey p q =
+    let f = feeds-swapped F A cs xs zs u v x y (is-table F A cs (p .words) (p .is)) m ex ey (feedRun p) (feedRun q) in
+    let e : seen (levels F) (p .words′) ≡ seen (levels F) (q .words′) = run-list p ∙ ap (table A) (f .list) ∙ sym (run-list q) in
     record {
       feeds = f;
       one-replies = run-replies p;
       other-replies = run-replies q;
       list = e;
-      later = later-alike A (ranTo q .end .list) (p .words′) (q .words′) (e ∙ run-list q) (run-list q);
+      later = later-alike F A (ranTo q .end .list) (p .words′) (q .words′) (e ∙ run-list q) (run-list q);
     }

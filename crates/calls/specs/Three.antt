@@ -7,10 +7,10 @@
 use mathlib.Core.Path.{_≡_, ap, _∙_}
 use mathlib.Core.Logic.{_≢_}
 use mathlib.Core.List.{List, [], _++_}
-use Prim.Native.Nat.{ℕ, _+_, _*_, _≤_}
+use Prim.Native.Nat.{ℕ, _+_, _≤_}
 use lib.ListN.{length, drop}
 use borrow.Author.Tests.{le-ltb}
-use Rattle.routes.specs.Family.{v4}
+use Rattle.routes.specs.Family.{Family, levels, width}
 use Rattle.routes.specs.Answers.{Reply}
 use Rattle.routes.specs.Bytes.{repliesBytes}
 use Rattle.routes.specs.Seen.{gives}
@@ -18,26 +18,26 @@ use Rattle.candidates.specs.Candidate.{Candidate}
 use Rattle.candidates.specs.Answers.{Update, plains, lookedUp, records}
 use Rattle.candidates.specs.Bytes.{Sent, meanings, AllFit, written}
 use Rattle.candidates.specs.Runs.{Ran, run}
-use Rattle.candidates.specs.Seen.{table, lookupOn, checkOn, countOn, frontOn, runOn, ranOn, repliedOn}
+use Rattle.candidates.specs.Seen.{table, lookupOn, checkOn, bytesFor, countOn, frontOn, runOn, ranOn, repliedOn}
 use Rattle.laws.specs.Given.{given-one}
 use Rattle.words.specs.Table.{seen}
 use Rattle.weaves.specs.Feeds.{Weave, flip, heard, said, kept, keptBoth, Meets, Independent, Closes, bytes, readBack, Answered}
 use Rattle.weaves.specs.Fed.{read-said, Fed, answered, Together, demand-3-fed}
 
 -- what the run promises of the words ws, a feed and the reply bytes b, where it leaves vs and c and has the outcome o
-pub record Promise (ws feed b vs c : List ℕ) (o : Ran) : Type 0 where
-  pub answer : runOn v4 (seen 4 ws) feed b ≡ gives o
-  pub list : seen 4 vs ≡ ranOn v4 (seen 4 ws) feed b
-  pub replies : c ≡ repliedOn v4 (seen 4 ws) feed b
+pub record Promise (F : Family) (ws feed b vs c : List ℕ) (o : Ran) : Type 0 where
+  pub answer : runOn F (seen (levels F) ws) feed b ≡ gives o
+  pub list : seen (levels F) vs ≡ ranOn F (seen (levels F) ws) feed b
+  pub replies : c ≡ repliedOn F (seen (levels F) ws) feed b
 
 -- of words that are a table, the outcome is the run's of their list
-pub promise : {A : ℕ} {cs : List Candidate} {ws feed b vs c : List ℕ} → seen 4 ws ≡ table A cs
-    → seen 4 vs ≡ ranOn v4 (seen 4 ws) feed b → c ≡ repliedOn v4 (seen 4 ws) feed b
-    → Promise ws feed b vs c (run v4 A cs feed (length b))
-promise t l r = record { answer = rw t; list = l; replies = r }
+pub promise : (F : Family) {A : ℕ} {cs : List Candidate} {ws feed b vs c : List ℕ} → seen (levels F) ws ≡ table A cs
+    → seen (levels F) vs ≡ ranOn F (seen (levels F) ws) feed b → c ≡ repliedOn F (seen (levels F) ws) feed b
+    → Promise F ws feed b vs c (run F A cs feed (length b))
+promise F t l r = record { answer = rw t; list = l; replies = r }
 
 -- a call with the bytes of records that mean us, on a cleared table of A arrays
-pub record Call (A : ℕ) (us : List Update) : Type 0 where
+pub record Call (F : Family) (A : ℕ) (us : List Update) : Type 0 where
   pub words : List ℕ
   pub sent : List Sent
   pub rest : List ℕ
@@ -45,29 +45,29 @@ pub record Call (A : ℕ) (us : List Update) : Type 0 where
   pub words′ : List ℕ
   pub reply′ : List ℕ
   pub ran : Ran
-  pub cleared : seen 4 words ≡ table A []
+  pub cleared : seen (levels F) words ≡ table A []
   pub meant : meanings sent ≡ records us
-  pub fits : AllFit v4 sent
+  pub fits : AllFit F sent
   pub closes : Closes rest
-  pub runs : Promise words (bytes v4 sent rest) reply words′ reply′ ran
+  pub runs : Promise F words (bytes F sent rest) reply words′ reply′ ran
   pub enough : ran .stop ≢ 4
 
 -- ---- one call
 
 -- how it answers, the reply bytes, and the list that the words then stand for
-pub record Left {A : ℕ} {us : List Update} (c : Call A us) : Type 0 where
-  pub answer : Answered v4 A us (c .sent) (c .rest) (c .ran)
-  pub replies : c .reply′ ≡ repliesBytes (said 32 A us) ++ drop (length (repliesBytes (said 32 A us))) (c .reply)
-  pub list : seen 4 (c .words′) ≡ table A (kept 32 A us)
+pub record Left {F : Family} {A : ℕ} {us : List Update} (c : Call F A us) : Type 0 where
+  pub answer : Answered F A us (c .sent) (c .rest) (c .ran)
+  pub replies : c .reply′ ≡ repliesBytes (said (width F) A us) ++ drop (length (repliesBytes (said (width F) A us))) (c .reply)
+  pub list : seen (levels F) (c .words′) ≡ table A (kept (width F) A us)
 
-module _ {A : ℕ} {us : List Update} (c : Call A us) where
+module _ {F : Family} {A : ℕ} {us : List Update} (c : Call F A us) where
   abbrev o : Ran
-  o = run v4 A [] (bytes v4 (c .sent) (c .rest)) (length (c .reply))
+  o = run F A [] (bytes F (c .sent) (c .rest)) (length (c .reply))
 
   ran-is : o ≡ c .ran
   ran-is = given-one (rw (c .cleared) at (c .runs .answer))
 
-  abbrev fed : Fed v4 A us
+  abbrev fed : Fed F A us
   fed = record {
     sent = c .sent;
     meant = c .meant;
@@ -92,14 +92,14 @@ module _ {A : ℕ} {us : List Update} (c : Call A us) where
   abbrev pub replied : List Reply
   replied = readBack us (c .reply′)
 
-  replied-said : replied ≡ said 32 A us
-  replied-said = ap (readBack us) (left .replies) ∙ read-said v4 A us _
+  replied-said : replied ≡ said (width F) A us
+  replied-said = ap (readBack us) (left .replies) ∙ read-said F A us _
 
 -- ---- three calls
 
 -- the joint call j beside the calls f and s of its two feeds alone
-pub record Called {A : ℕ} {xs ys zs : List Update} (w : Weave xs ys zs)
-    (j : Call A zs) (f : Call A xs) (s : Call A ys) : Type 0 where
+pub record Called {F : Family} {A : ℕ} {xs ys zs : List Update} (w : Weave xs ys zs)
+    (j : Call F A zs) (f : Call F A xs) (s : Call F A ys) : Type 0 where
   pub joint : Left j
   pub first : Left f
   pub second : Left s
@@ -107,21 +107,22 @@ pub record Called {A : ℕ} {xs ys zs : List Update} (w : Weave xs ys zs)
   pub first-read : plains (heard w (replied j)) ≡ plains (replied f)
   pub second-read : plains (heard (flip w) (replied j)) ≡ plains (replied s)
   -- their answers are alike, and their lists joined are a union
-  pub independent : Independent 32 A w
+  pub independent : Independent (width F) A w
   pub accepted : j .ran .end .accepted ≡ f .ran .end .accepted + s .ran .end .accepted
   pub refused : j .ran .end .refused ≡ f .ran .end .refused + s .ran .end .refused
   -- the words stand for the join, and each call on them then answers by it
-  pub list : seen 4 (j .words′) ≡ table A (keptBoth 32 A xs ys)
-  pub lookups : (walked : Reply) (a : ℕ) → lookupOn 32 (seen 4 (j .words′)) walked a ≡ lookedUp 32 (keptBoth 32 A xs ys) a
-  pub check : checkOn 32 (seen 4 (j .words′)) ≡ checkOn 32 (table A (keptBoth 32 A xs ys))
-  pub count : (room : ℕ) → countOn v4 (seen 4 (j .words′)) room ≡ countOn v4 (table A (keptBoth 32 A xs ys)) room
-  pub front : (room : ℕ) → frontOn v4 (seen 4 (j .words′)) room ≡ frontOn v4 (table A (keptBoth 32 A xs ys)) room
-  pub out : (room : ℕ) → 10 * length (keptBoth 32 A xs ys) + 1 ≤ room
-      → frontOn v4 (seen 4 (j .words′)) room ≡ written v4 (keptBoth 32 A xs ys)
+  pub list : seen (levels F) (j .words′) ≡ table A (keptBoth (width F) A xs ys)
+  pub lookups : (walked : Reply) (a : ℕ)
+      → lookupOn (width F) (seen (levels F) (j .words′)) walked a ≡ lookedUp (width F) (keptBoth (width F) A xs ys) a
+  pub check : checkOn (width F) (seen (levels F) (j .words′)) ≡ checkOn (width F) (table A (keptBoth (width F) A xs ys))
+  pub count : (room : ℕ) → countOn F (seen (levels F) (j .words′)) room ≡ countOn F (table A (keptBoth (width F) A xs ys)) room
+  pub front : (room : ℕ) → frontOn F (seen (levels F) (j .words′)) room ≡ frontOn F (table A (keptBoth (width F) A xs ys)) room
+  pub out : (room : ℕ) → bytesFor F (length (keptBoth (width F) A xs ys)) ≤ room
+      → frontOn F (seen (levels F) (j .words′)) room ≡ written F (keptBoth (width F) A xs ys)
 
-pub demand-3-called : {A : ℕ} {xs ys zs : List Update} (w : Weave xs ys zs) → Meets 32 A xs ys
-    → (j : Call A zs) (f : Call A xs) (s : Call A ys) → Called w j f s
-demand-3-called {A} {xs} {ys} {zs} w m j f s =
+pub demand-3-called : {F : Family} {A : ℕ} {xs ys zs : List Update} (w : Weave xs ys zs) → Meets (width F) A xs ys
+    → (j : Call F A zs) (f : Call F A xs) (s : Call F A ys) → Called w j f s
+demand-3-called {F} {A} {xs} {ys} {zs} w m j f s =
     record {
       joint = left j;
       first = left f;
@@ -136,11 +137,11 @@ demand-3-called {A} {xs} {ys} {zs} w m j f s =
       check = rw l;
       count = λ room. rw l;
       front = λ room. rw l;
-      out = λ room h. rw (l, le-ltb room (10 * length (keptBoth 32 A xs ys) + 1) h);
+      out = λ room h. rw (l, le-ltb room (bytesFor F (length (keptBoth (width F) A xs ys))) h);
     }
   where
     t : Together w (fed j) (fed f) (fed s)
     t = demand-3-fed w m (fed j) (fed f) (fed s)
 
-    l : seen 4 (j .words′) ≡ table A (keptBoth 32 A xs ys)
+    l : seen (levels F) (j .words′) ≡ table A (keptBoth (width F) A xs ys)
     l = left j .list ∙ ap (table A) (t .independent .joined)

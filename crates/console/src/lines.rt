@@ -1,8 +1,12 @@
 // A line for each record replied to, from the bytes of the record and of its reply.
 ghost use Prim.Native.Nat.{_≤_, _<_};
 ghost use lib.ListN.{length};
+use crate::address::address;
+use crate::reads::byte_at;
+use crate::reads::two_at;
 use crate::text;
 use families::Family;
+use families::Role;
 
 // Before a record of the feed, before its reply, and before its line.
 struct Place {
@@ -12,7 +16,7 @@ struct Place {
 }
 
 // The lines of all records replied to, at the front of `out`. Hands back their length.
-pub(crate) fn lines(feed: &[u8], replies: &[u8], out: &mut [u8]) -> usize
+pub(crate) fn lines(family: Family, feed: &[u8], replies: &[u8], out: &mut [u8]) -> usize
     ensures { λ r. ⌜ r ≤ length (now (out .exit)) ⌝ }
 {
     let mut p = Place {
@@ -21,26 +25,26 @@ pub(crate) fn lines(feed: &[u8], replies: &[u8], out: &mut [u8]) -> usize
         to: 0,
     };
     while p.at < feed.len() && p.from < replies.len() {
-        p = p.line(feed, replies, out);
+        p = p.line(family, feed, replies, out);
     }
     p.to
 }
 
 impl Place {
     // The line of the record that is next.
-    fn line(self, feed: &[u8], replies: &[u8], out: &mut [u8]) -> Place
+    fn line(self, family: Family, feed: &[u8], replies: &[u8], out: &mut [u8]) -> Place
         requires { ⌜ (self .at < length (now feed)) × (self .from < length (now replies)) × (self .to ≤ length (now out)) ⌝ }
         ensures { λ r. ⌜ (self .at < r .at) × (r .at ≤ length (now (feed .entry))) × (r .from ≤ length (now (replies .entry)))
             × (r .to ≤ length (now (out .exit))) ⌝ }
     {
         let at = self.at;
         let from = self.from;
-        let p = subject(&feed[at..], out, self.to);
+        let role = families::role_of(family, feed[at]);
+        let p = subject(family, role, &feed[at..], out, self.to);
         let q = answer(&replies[from..], out, p);
         let to = text::byte(out, q, b'\n');
-        let role = families::role_of(Family::V4, feed[at]);
         Place {
-            at: past(at, feed::size(Family::V4, role), feed.len()),
+            at: past(at, feed::size(family, role), feed.len()),
             from: past(from, reply_size(replies[from]), replies.len()),
             to: to,
         }
@@ -66,39 +70,27 @@ fn reply_size(kind: u8) -> usize
 }
 
 // What the record asks for, with its prefix or address as sent.
-fn subject(record: &[u8], out: &mut [u8], at: usize) -> usize
+fn subject(family: Family, role: Role, record: &[u8], out: &mut [u8], at: usize) -> usize
     requires { ⌜ at ≤ length (now out) ⌝ }
     ensures { λ r. ⌜ r ≤ length (now (out .exit)) ⌝ }
 {
-    let kind = byte_at(record, 0);
-    if kind == 3 {
-        let p = text::word(out, at, b"lookup ");
-        return address(record, out, p);
+    let p = verb(role, out, at);
+    let q = address(family, record, out, p);
+    match role {
+        Role::Looking => q,
+        _ => text::field(out, q, b"/", byte_at(record, 1 + families::levels(family))),
     }
-    let p = verb(kind, out, at);
-    let q = address(record, out, p);
-    text::field(out, q, b"/", byte_at(record, 5))
 }
 
-fn verb(kind: u64, out: &mut [u8], at: usize) -> usize
+fn verb(role: Role, out: &mut [u8], at: usize) -> usize
     requires { ⌜ at ≤ length (now out) ⌝ }
     ensures { λ r. ⌜ r ≤ length (now (out .exit)) ⌝ }
 {
-    if kind == 1 || kind == 4 {
-        return text::word(out, at, b"announce ");
+    match role {
+        Role::Looking => text::word(out, at, b"lookup "),
+        Role::Announcing | Role::AnnouncingFor => text::word(out, at, b"announce "),
+        _ => text::word(out, at, b"withdraw "),
     }
-    text::word(out, at, b"withdraw ")
-}
-
-// The address of a record, written a.b.c.d.
-fn address(record: &[u8], out: &mut [u8], at: usize) -> usize
-    requires { ⌜ at ≤ length (now out) ⌝ }
-    ensures { λ r. ⌜ r ≤ length (now (out .exit)) ⌝ }
-{
-    let a = text::number(out, at, byte_at(record, 1));
-    let b = text::field(out, a, b".", byte_at(record, 2));
-    let c = text::field(out, b, b".", byte_at(record, 3));
-    text::field(out, c, b".", byte_at(record, 4))
 }
 
 fn answer(reply: &[u8], out: &mut [u8], at: usize) -> usize
@@ -119,23 +111,4 @@ fn answer(reply: &[u8], out: &mut [u8], at: usize) -> usize
         return text::field(out, q, b" block ", byte_at(reply, 4));
     }
     text::field(out, p, b" cells ", two_at(reply, 3))
-}
-
-fn two_at(bytes: &[u8], i: usize) -> u64
-    requires { ⌜ i < 8 ⌝ }
-{
-    byte_at(bytes, i) * 256 + byte_at(bytes, i + 1)
-}
-
-// A byte, 0 past the end.
-fn byte_at(bytes: &[u8], i: usize) -> u64
-    ensures { λ r. ⌜ r < 256 ⌝ }
-{
-    if i < bytes.len() { wide(bytes[i]) } else { 0 }
-}
-
-fn wide(b: u8) -> u64
-    ensures { λ r. ⌜ r < 256 ⌝ }
-{
-    b as u64
 }

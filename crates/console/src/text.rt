@@ -35,6 +35,16 @@ pub(crate) fn number(out: &mut [u8], at: usize, n: u64) -> usize
     word(out, at, &digits[..k])
 }
 
+// Lower-case hex digits, none of them a 0 in front of others.
+pub(crate) fn hex(out: &mut [u8], at: usize, n: u64) -> usize
+    requires { ⌜ at ≤ length (now out) ⌝ }
+    ensures { λ r. ⌜ r ≤ length (now (out .exit)) ⌝ }
+{
+    let mut digits = [0u8; 16];
+    let k = io::hex(n, 1, &mut digits);
+    word(out, at, &digits[..k])
+}
+
 // A name and a number, as ` via 1`.
 pub(crate) fn field(out: &mut [u8], at: usize, name: &[u8], n: u64) -> usize
     requires { ⌜ at ≤ length (now out) ⌝ }

@@ -8,11 +8,11 @@ use native.Mathlib.Nat.{zero-mul, one-mul}
 use native.Mathlib.Omega.{arith}
 use lib.Dec.{eqb}
 use lib.ListN.{length, drop}
-use Rattle.routes.specs.Family.{v4}
+use Rattle.routes.specs.Family.{Family, levels}
 use Rattle.routes.specs.Answers.{refused, isRefused}
 use Rattle.routes.specs.Seen.{Answer, gives, refuses}
 use Rattle.candidates.specs.Answers.{Update}
-use Rattle.candidates.specs.Seen.{countOn, frontOn}
+use Rattle.candidates.specs.Seen.{Seen, countOn, frontOn}
 use borrow.Author.Tests.{lt-ltb, le-ltb}
 use Rattle.logic.specs.Cases.{less, same}
 use Rattle.sizes.specs.Sizes.{hopBound}
@@ -70,15 +70,16 @@ module _ (e : End) where
       let l : 0 + e .best / hopBound ≡ e .best / hopBound = omega arith in
       rw (le-ltb 128 (e .block) h, t, o, one-mul (e .best / hopBound), l))
 
--- ---- the other calls
+-- ---- the other calls, of a family
 
-pub cleared : (ws vs : List ℕ) (r : Cleared) (n : ℕ) → Below 4 ws vs r → n ≡ refusal (clearAnswer r) → HasCleared ws vs n
-cleared ws vs r n b e =
+pub cleared : (F : Family) (ws vs : List ℕ) (r : Cleared) (n : ℕ) → Below (levels F) ws vs r → n ≡ refusal (clearAnswer r)
+    → HasCleared F ws vs n
+cleared F ws vs r n b e =
     record { answer = e ∙ ap refusal (b .answer); left = b .left; kept = λ m q. b .kept m (b .answer ∙ q) }
 
-pub made : (ws vs : List ℕ) (u : Update) (r : Reply) (x : Updated) → Made 4 ws vs u r → x ≡ updated (saidReply r)
-    → HasUpdated ws vs u x
-made ws vs u r x m e =
+pub made : (F : Family) (ws vs : List ℕ) (u : Update) (r : Reply) (x : Updated) → Made (levels F) ws vs u r
+    → x ≡ updated (saidReply r) → HasUpdated F ws vs u x
+made F ws vs u r x m e =
     record {
       answer = e ∙ ap updated (m .answer);
       list = m .list;
@@ -89,21 +90,24 @@ made ws vs u r x m e =
 
 -- ---- writing out
 
-module _ (ws b c : List ℕ) (n : ℕ) (f : HasFilled v4 (seen 4 ws) b n c) where
-  front : c ≡ frontOn v4 (seen 4 ws) (length b) ++ drop (length (frontOn v4 (seen 4 ws) (length b))) b
-  front = f .list ∙ ap (λ (k : ℕ). frontOn v4 (seen 4 ws) (length b) ++ drop k b) (f .count)
+module _ (F : Family) (ws b c : List ℕ) (n : ℕ) (f : HasFilled F (seen (levels F) ws) b n c) where
+  abbrev s : Seen
+  s = seen (levels F) ws
 
-  pub written-some : n ≢ 0 → HasWritten ws b c (record { refusal = 0; bytes = n })
-  written-some h = record { answer = go (countOn v4 (seen 4 ws) (length b)) refl; front = front }
+  front : c ≡ frontOn F s (length b) ++ drop (length (frontOn F s (length b))) b
+  front = f .list ∙ ap (λ (k : ℕ). frontOn F s (length b) ++ drop k b) (f .count)
+
+  pub written-some : n ≢ 0 → HasWritten F ws b c (record { refusal = 0; bytes = n })
+  written-some h = record { answer = go (countOn F s (length b)) refl; front = front }
     where
-      go : (a : Answer ℕ) → countOn v4 (seen 4 ws) (length b) ≡ a
-          → record { refusal = 0; bytes = n } ≡ wrote (countOn v4 (seen 4 ws) (length b))
-      go (gives m) e = let q : n ≡ m = f .count ∙ front-length v4 (seen 4 ws) (length b) m e in rw (e, q)
-      go (refuses m) e = absurd (h (f .count ∙ ap length (front-none v4 (seen 4 ws) (length b) m e)))
+      go : (a : Answer ℕ) → countOn F s (length b) ≡ a
+          → record { refusal = 0; bytes = n } ≡ wrote (countOn F s (length b))
+      go (gives m) e = let q : n ≡ m = f .count ∙ front-length F s (length b) m e in rw (e, q)
+      go (refuses m) e = absurd (h (f .count ∙ ap length (front-none F s (length b) m e)))
 
-  pub written-told : (r : Counted) (k : ℕ) (x : Written) → k ≡ length b → countAnswer r ≡ countOn v4 (seen 4 ws) k
-      → x ≡ wrote (countAnswer r) → HasWritten ws b c x
-  written-told r k x e t w = record { answer = w ∙ ap wrote (t ∙ ap (countOn v4 (seen 4 ws)) e); front = front }
+  pub written-told : (r : Counted) (k : ℕ) (x : Written) → k ≡ length b → countAnswer r ≡ countOn F s k
+      → x ≡ wrote (countAnswer r) → HasWritten F ws b c x
+  written-told r k x e t w = record { answer = w ∙ ap wrote (t ∙ ap (countOn F s) e); front = front }
 
 -- ---- the run
 
@@ -111,9 +115,9 @@ told-refused : (r : Outcome) (n : ℕ) → runAnswer r ≡ refuses n → r ≡ U
 told-refused (Stopped x) n e = absurd (given-refused e)
 told-refused (Unfit m) n e = ap Unfit (refused-one e)
 
-pub ran-so : (ws feed b vs c : List ℕ) (r : Outcome) (x : Fields) → Run v4 ws feed b vs c r → x ≡ ran (runAnswer r)
-    → HasRun ws feed b vs c x
-ran-so ws feed b vs c r x p e =
+pub ran-so : (F : Family) (ws feed b vs c : List ℕ) (r : Outcome) (x : Fields) → Run F ws feed b vs c r → x ≡ ran (runAnswer r)
+    → HasRun F ws feed b vs c x
+ran-so F ws feed b vs c r x p e =
     record {
       answer = e ∙ ap ran (p .answer);
       list = p .list;

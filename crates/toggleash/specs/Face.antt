@@ -1,9 +1,10 @@
--- What the C face's numbers say: the refusal's number, or 0 and the values; every field not meant is 0. Assumes nothing.
+-- What the C face's numbers say: the refusal's number, or 0 and the values; every field not meant is 0. A family's calls
+-- promise the same of its addresses. Assumes nothing.
 use mathlib.Core.Path.{_≡_}
 use mathlib.Core.List.{List, _++_}
 use Prim.Native.Nat.{ℕ, _≤_}
 use lib.ListN.{length, drop}
-use Rattle.routes.specs.Family.{v4}
+use Rattle.routes.specs.Family.{Family, levels, width}
 use Rattle.routes.specs.Answers.{Reply, done, found, none, refused}
 use Rattle.routes.specs.Seen.{Answer, gives, refuses, Counts}
 use Rattle.candidates.specs.Answers.{Update}
@@ -66,28 +67,28 @@ ran (refuses n) = record { refusal = n; stop = 0; consumed = 0; written = 0; acc
 
 -- ---- what the calls that write promise of the lent memory
 
-pub record HasCleared (ws vs : List ℕ) (r : ℕ) : Type 0 where
+pub record HasCleared (F : Family) (ws vs : List ℕ) (r : ℕ) : Type 0 where
   pub answer : r ≡ refusal (clearOn (length ws))
-  pub left : seen 4 vs ≡ clearedOn (length ws)
+  pub left : seen (levels F) vs ≡ clearedOn (length ws)
   pub kept : (n : ℕ) → clearOn (length ws) ≡ refuses n → vs ≡ ws
 
-pub record HasUpdated (ws vs : List ℕ) (u : Update) (r : Updated) : Type 0 where
-  pub answer : r ≡ updated (answerOn 32 (seen 4 ws) u)
-  pub list : seen 4 vs ≡ afterOn 32 (seen 4 ws) u
-  pub kept : (n : ℕ) → answerOn 32 (seen 4 ws) u ≡ refused n → vs ≡ ws
+pub record HasUpdated (F : Family) (ws vs : List ℕ) (u : Update) (r : Updated) : Type 0 where
+  pub answer : r ≡ updated (answerOn (width F) (seen (levels F) ws) u)
+  pub list : seen (levels F) vs ≡ afterOn (width F) (seen (levels F) ws) u
+  pub kept : (n : ℕ) → answerOn (width F) (seen (levels F) ws) u ≡ refused n → vs ≡ ws
   -- a candidate that is held already changes no word
-  pub still : seen 4 vs ≡ seen 4 ws → vs ≡ ws
+  pub still : seen (levels F) vs ≡ seen (levels F) ws → vs ≡ ws
   -- an array off the prefix's path has the same words, and where the prefix neither appears nor goes all but its own
-  pub frame : (c : ℕ) → 1 ≤ c → ¬ Touches 4 u ws vs c → Alike ws vs c
+  pub frame : (c : ℕ) → 1 ≤ c → ¬ Touches (levels F) u ws vs c → Alike ws vs c
 
-pub record HasWritten (ws b c : List ℕ) (r : Written) : Type 0 where
-  pub answer : r ≡ wrote (countOn v4 (seen 4 ws) (length b))
-  pub front : c ≡ frontOn v4 (seen 4 ws) (length b) ++ drop (length (frontOn v4 (seen 4 ws) (length b))) b
+pub record HasWritten (F : Family) (ws b c : List ℕ) (r : Written) : Type 0 where
+  pub answer : r ≡ wrote (countOn F (seen (levels F) ws) (length b))
+  pub front : c ≡ frontOn F (seen (levels F) ws) (length b) ++ drop (length (frontOn F (seen (levels F) ws) (length b))) b
 
-pub record HasRun (ws feed b vs c : List ℕ) (r : Fields) : Type 0 where
-  pub answer : r ≡ ran (reported (runOn v4 (seen 4 ws) feed b))
-  pub list : seen 4 vs ≡ ranOn v4 (seen 4 ws) feed b
-  pub replies : c ≡ repliedOn v4 (seen 4 ws) feed b
-  pub kept : (n : ℕ) → runOn v4 (seen 4 ws) feed b ≡ refuses n → vs ≡ ws
+pub record HasRun (F : Family) (ws feed b vs c : List ℕ) (r : Fields) : Type 0 where
+  pub answer : r ≡ ran (reported (runOn F (seen (levels F) ws) feed b))
+  pub list : seen (levels F) vs ≡ ranOn F (seen (levels F) ws) feed b
+  pub replies : c ≡ repliedOn F (seen (levels F) ws) feed b
+  pub kept : (n : ℕ) → runOn F (seen (levels F) ws) feed b ≡ refuses n → vs ≡ ws
   -- a call for each record taken: a lookup, and a record that is refused, leave every word
-  pub series : Series 4 ws (recordsOn v4 (seen 4 ws) feed b) (answersOn v4 (seen 4 ws) feed b) vs
+  pub series : Series (levels F) ws (recordsOn F (seen (levels F) ws) feed b) (answersOn F (seen (levels F) ws) feed b) vs

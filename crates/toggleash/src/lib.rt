@@ -1,7 +1,9 @@
 // The C face: each call of the library with plain numbers, exported under the names of bindings/c/toggleash.h. A slice passes as
 // a pointer and a length. No call asks anything of its caller, since nothing would check it.
 pub mod copies; // the copy's calls
+pub mod six; // the IPv6 calls
 
+use families::Family;
 use replies::Reply;
 use sizes::HOP_BOUND;
 ghost use mathlib.Core.Path.{_≡_};
@@ -9,6 +11,8 @@ ghost use mathlib.Core.Bool.{cond};
 ghost use Prim.Native.Nat.{_≤_};
 ghost use lib.Dec.{eqb};
 ghost use lib.ListN.{length};
+ghost use Rattle.routes.specs.Family.{v4};
+ghost use Rattle.families.specs.Said.{saidFamily};
 ghost use Rattle.candidates.specs.Answers.{announce as announced, withdraw as withdrawn};
 ghost use Rattle.candidates.specs.Seen.{lookupOn, checkOn};
 ghost use Rattle.words.specs.Table.{seen};
@@ -210,6 +214,21 @@ fn report(answer: feed::Ran) -> Ran
     }
 }
 
+// Writes a family's list out. One check suffices where there is something to write: nothing is written exactly where the count
+// refuses.
+fn write_out(words: &[u32], family: Family, buffer: &mut [u8]) -> Written
+    ensures { λ r. ⌜ HasWritten (saidFamily family) (now (words .entry)) (now (buffer .entry)) (now (buffer .exit)) r ⌝ }
+{
+    let n = writing::fill_of(words, family, buffer);
+    if n != 0 {
+        return Written {
+            refusal: 0,
+            bytes: n as u64,
+        };
+    }
+    size(writing::count_of(words, family, buffer.len()))
+}
+
 // ---- the calls
 
 // The version is in the name, so that a caller made for another one does not link (bindings/c/toggleash.h). It rises with any
@@ -223,7 +242,7 @@ pub extern "C" fn toggleash_version_4() -> u32
 
 #[no_mangle]
 pub extern "C" fn toggleash_clear(words: &mut [u32]) -> u32
-    ensures { λ r. ⌜ HasCleared (now (words .entry)) (now (words .exit)) r ⌝ }
+    ensures { λ r. ⌜ HasCleared v4 (now (words .entry)) (now (words .exit)) r ⌝ }
 {
     number(audit::clear(words))
 }
@@ -259,7 +278,7 @@ pub extern "C" fn toggleash_announce(
     feed: u32,
     preference: u8,
 ) -> Updated
-    ensures { λ r. ⌜ HasUpdated (now (words .entry)) (now (words .exit)) (announced address length hop feed preference) r ⌝ }
+    ensures { λ r. ⌜ HasUpdated v4 (now (words .entry)) (now (words .exit)) (announced address length hop feed preference) r ⌝ }
 {
     change(update::announce(words, address, length, hop, feed, preference))
 }
@@ -271,30 +290,22 @@ pub extern "C" fn toggleash_withdraw(
     length: u32,
     feed: u32,
 ) -> Updated
-    ensures { λ r. ⌜ HasUpdated (now (words .entry)) (now (words .exit)) (withdrawn address length feed) r ⌝ }
+    ensures { λ r. ⌜ HasUpdated v4 (now (words .entry)) (now (words .exit)) (withdrawn address length feed) r ⌝ }
 {
     change(update::withdraw(words, address, length, feed))
 }
 
 #[no_mangle]
 pub extern "C" fn toggleash_write_out(words: &[u32], buffer: &mut [u8]) -> Written
-    ensures { λ r. ⌜ HasWritten (now (words .entry)) (now (buffer .entry)) (now (buffer .exit)) r ⌝ }
+    ensures { λ r. ⌜ HasWritten v4 (now (words .entry)) (now (buffer .entry)) (now (buffer .exit)) r ⌝ }
 {
-    // One check suffices where there is something to write: nothing is written exactly where the count refuses.
-    let n = writing::fill(words, buffer);
-    if n != 0 {
-        return Written {
-            refusal: 0,
-            bytes: n as u64,
-        };
-    }
-    size(writing::count(words, buffer.len()))
+    write_out(words, Family::V4, buffer)
 }
 
 #[no_mangle]
 pub extern "C" fn toggleash_run(words: &mut [u32], feed: &[u8], reply: &mut [u8]) -> Ran
     ensures { λ r.
-        ⌜ HasRun (now (words .entry)) (now (feed .entry)) (now (reply .entry)) (now (words .exit)) (now (reply .exit)) r ⌝ }
+        ⌜ HasRun v4 (now (words .entry)) (now (feed .entry)) (now (reply .entry)) (now (words .exit)) (now (reply .exit)) r ⌝ }
 {
     report(feed::run(words, feed, reply))
 }

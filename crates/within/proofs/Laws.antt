@@ -9,14 +9,15 @@ use lib.Dec.{eqb, ltb}
 use lib.ListN.{length}
 use borrow.Author.Tests.{eq-eqb, ne-eqb, lt-ltb, le-ltb}
 use Rattle.logic.specs.Cases.{bool}
-use Rattle.sizes.specs.Sizes.{lastSlot}
+use Rattle.sizes.specs.Sizes.{lastSlot, levelBound}
 use Rattle.routes.specs.Route.{tooLong, stray}
 use Rattle.routes.specs.Room.{level}
 use Rattle.routes.specs.Seen.{Answer, gives, refuses, misfits}
 use Rattle.numbers.specs.Front.{byteOf, value}
 use Rattle.address.specs.Address.{prefixFault, Stands, stands-level}
 use Rattle.words.specs.Words.{arraysOf, arrayCount, totalsOf}
-use Rattle.within.specs.Walk.{readAt, walkFrom, walk, walked}
+use Rattle.within.specs.Walk.{readAt, walkFrom, walk, walked, withinSeen}
+use Rattle.within.specs.Counted.{within-seen}
 
 -- ---- the total at the end
 
@@ -79,3 +80,10 @@ module _ (L : ℕ) (ws : List ℕ) (x l : ℕ) where
       (λ z. rw (y, z) (let g = stands-level L x l k d v p in
       let h : l - 8 * k ≡ d = omega (arith, p .whole) in
       rw (g, h, ← (p .bits), ← q) w))))
+
+-- ---- the whole
+
+-- the walk's answer is what the words are seen to give
+pub both : (L : ℕ) (ws : List ℕ) (x l : ℕ) (t : Answer ℕ) → 1 ≤ L → L < levelBound → x < 2 ^ (8 * L) → t ≡ walked L ws x l
+    → (t ≡ withinSeen L ws x l) × (t ≡ walked L ws x l)
+both L ws x l t some levels b e = (e ∙ within-seen L ws x l some levels b, e)

@@ -14,7 +14,8 @@ use Rattle.routes.specs.Seen.{Answer, gives, refuses, misfits}
 use Rattle.numbers.specs.Front.{byteOf, value}
 use Rattle.tree.specs.Arrays.{depthOf}
 use Rattle.words.specs.Words.{arraysOf, arrayCount, totalsOf}
-use Rattle.inside.specs.Seen.{asked}
+use Rattle.words.specs.Table.{seen}
+use Rattle.inside.specs.Seen.{asked, withinOn}
 
 -- the total of slot s of array a: no more than the arrays have slots
 abbrev pub readAt : List ℕ → ℕ → ℕ → Answer ℕ
@@ -36,3 +37,7 @@ walk L ws x l = walkFrom L ws x (2 ^ depthOf l + value L x (level l) (depthOf l)
 -- words of any size
 abbrev pub walked : ℕ → List ℕ → ℕ → ℕ → Answer ℕ
 walked L ws x l = cond (misfits (length ws)) (refuses 1) (asked (8 * L) x l (walk L ws x l))
+
+-- what is answered: by what the words are seen to be
+abbrev pub withinSeen : ℕ → List ℕ → ℕ → ℕ → Answer ℕ
+withinSeen L ws x l = withinOn (8 * L) (seen L ws) (walk L ws x l) x l

@@ -10,7 +10,7 @@ ghost use Rattle.numbers.specs.Number.{number};
 ghost use Rattle.words.specs.Words.{totalsOf, arrayCount};
 ghost use Rattle.words.specs.Table.{seen};
 ghost use Rattle.words.specs.CheckReflects.{Fits};
-ghost use Rattle.within.specs.Walk.{readAt, walkFrom, walk, walked};
+ghost use Rattle.within.specs.Walk.{readAt, walkFrom, walk, walked, withinSeen};
 ghost use Rattle.within.specs.Answer.{withinAnswer};
 
 pub enum Inside {
@@ -56,7 +56,9 @@ fn descend(words: &[u32], address: &[u8], k: usize, s: usize) -> Inside
 // How many prefixes lie inside the one of an address's first bits: refused with the first of 1, 3, 4 and 2 that applies.
 pub fn within_of(words: &[u32], address: &[u8], length: u32) -> Inside
     requires { ⌜ (1 ≤ size (now address)) × (size (now address) < levelBound) ⌝ }
-    ensures { λ r. ⌜ withinAnswer r ≡ walked (size (now (address .entry))) (now (words .entry))
+    ensures { λ r. ⌜ withinAnswer r ≡ withinSeen (size (now (address .entry))) (now (words .entry))
+        (number (now (address .entry))) length ⌝ }
+    ensures any_words { λ r. ⌜ withinAnswer r ≡ walked (size (now (address .entry))) (now (words .entry))
         (number (now (address .entry))) length ⌝ }
 {
     if words::size::misfit(words.len()) {

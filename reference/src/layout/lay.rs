@@ -10,7 +10,7 @@ use crate::memory::ARRAY_WORDS;
 
 /// Lays the list out in a table of `arrays` arrays. The arrays but the root, in the order of level and head, get the
 /// numbers in turn, which must be distinct, from 2 to `arrays`, and enough.
-pub fn lay(list: &CandidateList, arrays: usize, numbers: &[usize]) -> Vec<u32> {
+pub fn lay<A: Address>(list: &CandidateList<A>, arrays: usize, numbers: &[usize]) -> Vec<u32> {
     let mut words = vec![0; ARRAY_WORDS * (arrays + 1)];
     words[ARRAY_WORDS] = ROOT_TAG;
     let numbered = number(list.winners(), numbers);
@@ -33,11 +33,11 @@ pub fn lay(list: &CandidateList, arrays: usize, numbers: &[usize]) -> Vec<u32> {
 }
 
 /// The number of each array below the root, by its level and head.
-fn number(list: &RouteList, numbers: &[usize]) -> BTreeMap<(u32, u32), usize> {
+fn number<A: Address>(list: &RouteList<A>, numbers: &[usize]) -> BTreeMap<(u32, A), usize> {
     let mut heads = BTreeMap::new();
     for route in list.routes() {
         for level in 1..=route.prefix.level() {
-            heads.insert((level, route.prefix.address & u32::mask(8 * level)), 0);
+            heads.insert((level, route.prefix.address & A::mask(8 * level)), 0);
         }
     }
     assert!(heads.len() <= numbers.len(), "fewer numbers than arrays");
@@ -47,22 +47,21 @@ fn number(list: &RouteList, numbers: &[usize]) -> BTreeMap<(u32, u32), usize> {
     heads
 }
 
-fn parent(level: u32, head: u32) -> (u32, u32) {
-    (level - 1, head & u32::mask(8 * (level - 1)))
+fn parent<A: Address>(level: u32, head: A) -> (u32, A) {
+    (level - 1, head & A::mask(8 * (level - 1)))
 }
 
 /// Links array `a` from its parent and tags it. Parents come first in the order of levels, so theirs is set already.
-fn hang(words: &mut [u32], parent: usize, a: usize, level: u32, head: u32) {
+fn hang<A: Address>(words: &mut [u32], parent: usize, a: usize, level: u32, head: A) {
     let cell = head.byte(level - 1);
     words[ARRAY_WORDS * parent + CELLS + cell] = Cell { hop: 0, length: 0, end: End::Link(a as u32) }.word();
     words[ARRAY_WORDS * a] = tag_below(parent, cell, words[ARRAY_WORDS * parent]);
 }
 
 /// The number of a prefix's slot in its array.
-pub fn slot(prefix: Prefix) -> usize {
+pub fn slot<A: Address>(prefix: Prefix<A>) -> usize {
     let bits = prefix.length - 8 * prefix.level();
-    let value = u64::from(prefix.address - prefix.head()) >> (32 - prefix.length);
-    (1 << bits) + value as usize
+    (1 << bits) + (prefix.address.byte(prefix.level()) >> (8 - bits))
 }
 
 /// Bests and blocks, where the links stand already.

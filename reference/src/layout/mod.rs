@@ -27,8 +27,6 @@ pub const TOTALS: usize = 2304;
 pub const UNUSED: usize = 2816;
 /// The tag of the root, which is array 1.
 pub const ROOT_TAG: u32 = 1;
-/// The levels, one for each byte of an address.
-pub const LEVELS: u32 = 4;
 
 /// Words of a right size, seen as arrays.
 #[derive(Clone, Copy)]

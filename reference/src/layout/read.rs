@@ -2,32 +2,33 @@
 
 use super::slot::{candidate, is_right};
 use super::totals::totals_right;
-use super::{cells, tag_below, winners, Arrays, CELLS, LEVELS, ROOT_TAG, SLOT, TOTALS, UNUSED};
+use super::{cells, tag_below, winners, Arrays, CELLS, ROOT_TAG, SLOT, TOTALS, UNUSED};
+use crate::address::Address;
 use crate::candidates::{Candidate, CandidateList};
 use crate::list::Prefix;
 use crate::memory::{Counts, Memory, ARRAY_WORDS};
 use crate::refusal::Refusal;
 
-/// The words as a size and, where they are a table, its list.
-pub fn read(words: &[u32]) -> Memory {
-    let list = Arrays::new(words).filter(is_table).map(|arrays| {
+/// The words as a size and, where they are a table of the family, its list.
+pub fn read<A: Address>(words: &[u32]) -> Memory<A> {
+    let list = Arrays::new(words).filter(|arrays| is_table(arrays, A::LEVELS)).map(|arrays| {
         let mut found = Vec::new();
-        collect(&arrays, 1, 0, 0, &mut found);
+        collect(&arrays, 1, 0, A::default(), &mut found);
         CandidateList::from(found)
     });
     Memory::new(words.len(), list)
 }
 
 /// The answer of the check.
-pub fn check(words: &[u32]) -> Result<Counts, Refusal> {
-    read(words).check()
+pub fn check<A: Address>(words: &[u32]) -> Result<Counts, Refusal> {
+    read::<A>(words).check()
 }
 
-fn is_table(arrays: &Arrays) -> bool {
+fn is_table(arrays: &Arrays, levels: u32) -> bool {
     let all = 1..=arrays.count();
     header_right(arrays)
         && arrays.tag(1) == ROOT_TAG
-        && all.clone().all(|a| free_is_zero(arrays, a) && tag_right(arrays, a) && links_right(arrays, a))
+        && all.clone().all(|a| free_is_zero(arrays, a) && tag_right(arrays, a) && links_right(arrays, a, levels))
         && all.clone().all(|a| arrays.tag(a) == 0 || used_right(arrays, a))
 }
 
@@ -65,12 +66,12 @@ fn tag_right(arrays: &Arrays, a: usize) -> bool {
 }
 
 /// Each link leads to an array whose tag names that cell, one level down, and none leaves the last level.
-fn links_right(arrays: &Arrays, a: usize) -> bool {
+fn links_right(arrays: &Arrays, a: usize, levels: u32) -> bool {
     let tag = arrays.tag(a);
     (0..256).all(|cell| match arrays.below(a, cell) {
         None => true,
         Some(number) => match arrays.held(number) {
-            Some(below) => tag % 32 < LEVELS && arrays.tag(below) == tag_below(a, cell, tag),
+            Some(below) => tag % 32 < levels && arrays.tag(below) == tag_below(a, cell, tag),
             None => false,
         },
     })
@@ -88,7 +89,7 @@ fn cells_right(arrays: &Arrays, a: usize) -> bool {
 }
 
 /// Adds the candidates of array `a`, whose head is `head`, and of all that hangs below it.
-fn collect(arrays: &Arrays, a: usize, level: u32, head: u32, found: &mut Vec<Candidate>) {
+fn collect<A: Address>(arrays: &Arrays, a: usize, level: u32, head: A, found: &mut Vec<Candidate<A>>) {
     for slot in 1..512_usize {
         let prefix = prefix_of(slot, level, head);
         for (feed, &word) in (1..).zip(arrays.slot(a, slot)) {
@@ -96,18 +97,16 @@ fn collect(arrays: &Arrays, a: usize, level: u32, head: u32, found: &mut Vec<Can
             found.extend(candidate);
         }
     }
-    for cell in 0..256 {
-        if let Some(below) = arrays.below(a, cell).and_then(|number| arrays.held(number)) {
-            collect(arrays, below, level + 1, head | (cell as u32) << (24 - 8 * level), found);
+    for cell in 0..=255 {
+        if let Some(below) = arrays.below(a, cell.into()).and_then(|number| arrays.held(number)) {
+            collect(arrays, below, level + 1, head | A::with_byte(cell, level), found);
         }
     }
 }
 
 /// The prefix that a slot of the array at this level, with this head, stands for.
-fn prefix_of(slot: usize, level: u32, head: u32) -> Prefix {
+fn prefix_of<A: Address>(slot: usize, level: u32, head: A) -> Prefix<A> {
     let bits = slot.ilog2();
-    let value = slot as u32 - (1 << bits);
-    let length = 8 * level + bits;
-    let address = (u64::from(value) << (32 - length)) as u32;
-    Prefix { address: head | address, length }
+    let value = slot - (1 << bits);
+    Prefix { address: head | A::with_byte((value << (8 - bits)) as u8, level), length: 8 * level + bits }
 }

@@ -1,6 +1,6 @@
 //! The lookup's walk over any words of a right size.
 
-use super::{Arrays, End, LEVELS, MOST};
+use super::{Arrays, End, MOST};
 use crate::address::Address;
 use crate::refusal::Refusal;
 
@@ -26,16 +26,16 @@ pub enum Odd {
 }
 
 /// Follows the links by the bytes of the address, keeping the last best that it meets.
-pub fn walk(words: &[u32], address: u32) -> Result<Walked, Refusal> {
+pub fn walk<A: Address>(words: &[u32], address: A) -> Result<Walked, Refusal> {
     let arrays = Arrays::new(words).ok_or(Refusal::WordCount)?;
     trace(&arrays, address).map_err(|_| Refusal::NotATable)
 }
 
 /// The walk, or what it meets that no table has, and the level of that.
-pub fn trace(arrays: &Arrays, address: u32) -> Result<Walked, (Odd, u32)> {
+pub fn trace<A: Address>(arrays: &Arrays, address: A) -> Result<Walked, (Odd, u32)> {
     let mut found = None;
     let mut a = 1;
-    for level in 0..LEVELS {
+    for level in 0..A::LEVELS {
         let odd = |odd| (odd, level);
         let cell = arrays.cell(a, address.byte(level));
         if cell.length > MOST {
@@ -47,7 +47,7 @@ pub fn trace(arrays: &Arrays, address: u32) -> Result<Walked, (Odd, u32)> {
         match cell.end {
             End::Block(block @ 0..=MOST) => return Ok(Walked { found, block: 8 * level + block }),
             End::Block(_) => return Err(odd(Odd::Block)),
-            End::Link(_) if level + 1 == LEVELS => return Err(odd(Odd::Array)),
+            End::Link(_) if level + 1 == A::LEVELS => return Err(odd(Odd::Array)),
             End::Link(number) => a = arrays.held(number).ok_or(odd(Odd::Array))?,
         }
     }

@@ -20,7 +20,7 @@ pub enum OddTotal {
 }
 
 /// The total that the walk leads to, for words, an address and a length of any kind.
-pub fn within(words: &[u32], address: u32, length: u32) -> Result<u32, Refusal> {
+pub fn within<A: Address>(words: &[u32], address: A, length: u32) -> Result<u32, Refusal> {
     let arrays = Arrays::new(words).ok_or(Refusal::WordCount)?;
     let prefix = well_formed(address, length)?;
     trace_total(&arrays, prefix).map_err(|_| Refusal::NotATable)
@@ -28,7 +28,7 @@ pub fn within(words: &[u32], address: u32, length: u32) -> Result<u32, Refusal> 
 
 /// Follows the links to the prefix's own array, and reads its slot's total there; where a link is missing nothing lies inside.
 /// Or what the walk meets that no table has, and the level of that.
-pub fn trace_total(arrays: &Arrays, prefix: Prefix) -> Result<u32, (OddTotal, u32)> {
+pub fn trace_total<A: Address>(arrays: &Arrays, prefix: Prefix<A>) -> Result<u32, (OddTotal, u32)> {
     let mut a = 1;
     for level in 0..prefix.level() {
         let Some(number) = arrays.below(a, prefix.address.byte(level)) else { return Ok(0) };

@@ -4,8 +4,8 @@ use borrow.Author.Needs.{needs}
 use Rattle.console.proofs.output.Statement.{statement}
 use Rattle.console.proofs.output.Tie as tie
 
-run-requires : tie.Need-run-requires
-run-requires c κs = search needs
+run-of-requires : tie.Need-run-of-requires
+run-of-requires c κs = search needs
 
 enum-known-n : tie.Need-enum-known-n
 enum-known-n c = search needs
@@ -18,14 +18,14 @@ enum-known-r c = search needs
 
 slice-reshare-prefix-lines : tie.Need-slice-reshare-prefix-lines
 slice-reshare-prefix-lines c =
-    let run = c .before .before .before .before .before .before .before .run in
-    inside _ _ _ _ _ (run .result) _ (run .ensures) (c .before .r .given .1) (run .kept .1 .1 .0)
+    let ran = c .before .before .before .before .before .before .before .run-of in
+    inside _ _ _ _ _ _ (ran .result) _ (ran .ensures) (c .before .r .given .1) (ran .kept .1 .1 .1 .0)
 
 slice-aggregate-lines : tie.Need-slice-aggregate-lines
 slice-aggregate-lines c =
-    let run = c .before .before .before .before .before .before .before .before .run in
+    let ran = c .before .before .before .before .before .before .before .before .run-of in
     let r = c .before .before .r in
-    front _ _ _ _ _ (run .result) _ (run .ensures) (r .given .1) (run .kept .1 .1 .0)
+    front _ _ _ _ _ _ (ran .result) _ (ran .ensures) (r .given .1) (ran .kept .1 .1 .1 .0)
 
 lines-requires : tie.Need-lines-requires
 lines-requires c κs = search needs
@@ -64,7 +64,7 @@ pub output-spec : {M : Type 1} → statement M
 output-spec =
     tie.close
     (tie.spec
-    run-requires
+    run-of-requires
     enum-known-n
     refused-requires
     enum-known-r

@@ -42,7 +42,7 @@ array-share-prefix-out c = search needs
 slice-aggregate-write-all-2 : tie.Need-slice-aggregate-write-all-2
 slice-aggregate-write-all-2 c =
     let output = c .before .before .before .before .before .before .output in
-    sym (length-take-le (output .result) (output .last .1 .1 .1 .0) (omega arith))
+    sym (length-take-le (output .result) (output .last .1 .1 .1 .1 .0) (omega arith))
 
 write-all-requires-2 : tie.Need-write-all-requires-2
 write-all-requires-2 c κs = search needs

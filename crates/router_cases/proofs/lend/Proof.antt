@@ -12,8 +12,8 @@ array-borrow-prefix-space c = search needs
 slice-aggregate-lent : tie.Need-slice-aggregate-lent
 slice-aggregate-lent c = sym (length-take-le (c .before .args .words) _ (search needs))
 
-clear-requires : tie.Need-clear-requires
-clear-requires c κs = search needs
+clear-any-requires : tie.Need-clear-any-requires
+clear-any-requires c κs = search needs
 
 array-borrow-prefix-replies : tie.Need-array-borrow-prefix-replies
 array-borrow-prefix-replies c = search needs
@@ -33,7 +33,7 @@ lend-spec =
     (tie.spec
     array-borrow-prefix-space
     slice-aggregate-lent
-    clear-requires
+    clear-any-requires
     array-borrow-prefix-replies
     slice-aggregate-show
     show-requires

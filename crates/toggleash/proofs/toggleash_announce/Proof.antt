@@ -1,4 +1,5 @@
 -- `toggleash::toggleash_announce` meets its contract, from what the announcement promises. Assumes nothing.
+use Rattle.routes.specs.Family.{v4}
 use Rattle.toggleash.proofs.Laws.{made}
 use borrow.Author.Needs.{needs}
 use Rattle.toggleash.proofs.toggleash_announce.Statement.{statement}
@@ -14,7 +15,7 @@ same-length : tie.Need-same-length
 same-length c = search needs
 
 returns : tie.Need-returns
-returns c = made _ _ _ (c .before .before .before .announce .result) _ (c .before .before .before .announce .ensures) (c .change .ensures)
+returns c = made v4 _ _ _ (c .before .before .before .announce .result) _ (c .before .before .before .announce .ensures) (c .change .ensures)
 
 pub toggleash-announce-spec : {M : Type 1} → statement M
 toggleash-announce-spec =

@@ -1,4 +1,5 @@
 -- `toggleash::toggleash_run` meets its contract, from what the run promises. Assumes nothing.
+use Rattle.routes.specs.Family.{v4}
 use Rattle.toggleash.proofs.Laws.{ran-so}
 use borrow.Author.Needs.{needs}
 use Rattle.toggleash.proofs.toggleash_run.Statement.{statement}
@@ -19,7 +20,7 @@ same-length-2 c = search needs
 returns : tie.Need-returns
 returns c =
     let run = c .before .before .before .before .before .run in
-    ran-so _ _ _ _ _ (run .result) _ (run .ensures) (c .report .ensures)
+    ran-so v4 _ _ _ _ _ (run .result) _ (run .ensures) (c .report .ensures)
 
 pub toggleash-run-spec : {M : Type 1} → statement M
 toggleash-run-spec =

@@ -1,4 +1,5 @@
 -- `toggleash::toggleash_withdraw` meets its contract, from what the withdrawal promises. Assumes nothing.
+use Rattle.routes.specs.Family.{v4}
 use Rattle.toggleash.proofs.Laws.{made}
 use borrow.Author.Needs.{needs}
 use Rattle.toggleash.proofs.toggleash_withdraw.Statement.{statement}
@@ -14,7 +15,7 @@ same-length : tie.Need-same-length
 same-length c = search needs
 
 returns : tie.Need-returns
-returns c = made _ _ _ (c .before .before .before .withdraw .result) _ (c .before .before .before .withdraw .ensures) (c .change .ensures)
+returns c = made v4 _ _ _ (c .before .before .before .withdraw .result) _ (c .before .before .before .withdraw .ensures) (c .change .ensures)
 
 pub toggleash-withdraw-spec : {M : Type 1} → statement M
 toggleash-withdraw-spec =

@@ -1,11 +1,9 @@
--- `within::within` lends the four bytes of an IPv4 address; that the walk's answer is what the words are seen to give is a law.
--- Assumes nothing.
+-- `within::within`: the four bytes lent are the address. Assumes nothing.
 use mathlib.Core.Path.{_≡_, ap, _∙_}
 use native.Mathlib.Omega.{arith}
 use lib.ListN.{length}
 use Rattle.numbers.specs.Number.{number}
 use Rattle.numbers.specs.Four.{four-number}
-use Rattle.within.specs.Counted.{within-seen}
 use borrow.Author.Needs.{needs}
 use Rattle.within.proofs.within.Statement.{statement}
 use Rattle.within.proofs.within.Tie as tie
@@ -25,8 +23,7 @@ returns c =
     let a = f .before .before .args in
     let e : length (f .four-of .result) ≡ 4 = search needs in
     let v : number (f .four-of .result) ≡ a .address = ap number (f .four-of .ensures) ∙ four-number (a .address) (omega arith) in
-    let w = rw (e, v) at (c .within-of .ensures) in
-    (w ∙ within-seen 4 (a .words .now) (a .address) (a .length) (omega arith) (omega arith) (omega arith), w)
+    rw (e, v) at (c .within-of .ensures)
 
 pub within-spec : {M : Type 1} → statement M
 within-spec =

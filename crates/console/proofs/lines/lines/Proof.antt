@@ -9,10 +9,10 @@ use Rattle.console.proofs.lines.lines.Statement.{statement}
 use Rattle.console.proofs.lines.lines.Tie as tie
 
 abbrev Inv-loop : tie.InvT-loop
-Inv-loop feed replies out₀ p₀ out p = (length out ≡ length out₀) × (p .to ≤ length out)
+Inv-loop family feed replies out₀ p₀ out p = (length out ≡ length out₀) × (p .to ≤ length out)
 
 abbrev μ-loop : tie.MeasureT-loop
-μ-loop feed replies out₀ p₀ out p = length feed - p .at
+μ-loop family feed replies out₀ p₀ out p = length feed - p .at
 
 loop-holds : tie.Need-loop-holds Inv-loop μ-loop
 loop-holds c = (refl, omega arith)

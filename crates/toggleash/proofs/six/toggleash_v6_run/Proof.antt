@@ -1,0 +1,27 @@
+-- `toggleash_v6_run` meets its contract, from what the run promises. Assumes nothing.
+use Rattle.routes.specs.Family.{v6}
+use Rattle.toggleash.proofs.Laws.{ran-so}
+use borrow.Author.Needs.{needs}
+use Rattle.toggleash.proofs.six.toggleash_v6_run.Statement.{statement}
+use Rattle.toggleash.proofs.six.toggleash_v6_run.Tie as tie
+
+run-of-requires : tie.Need-run-of-requires
+run-of-requires c κs = search needs
+
+report-requires : tie.Need-report-requires
+report-requires c κs = search needs
+
+same-length : tie.Need-same-length
+same-length c = search needs
+
+same-length-2 : tie.Need-same-length-2
+same-length-2 c = search needs
+
+returns : tie.Need-returns
+returns c =
+    let run = c .before .before .before .before .before .run-of in
+    ran-so v6 _ _ _ _ _ (run .result) _ (run .ensures) (c .report .ensures)
+
+pub toggleash-v6-run-spec : {M : Type 1} → statement M
+toggleash-v6-run-spec =
+    tie.close (tie.spec run-of-requires report-requires same-length same-length-2 returns)
