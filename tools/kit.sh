@@ -1,6 +1,10 @@
 # shellcheck shell=sh disable=SC2154
 # For scripts to source, with `root` set to the repository's folder: the Rattle kit, proving, and a stop in one line.
 
+# The archives. Of CRATE:PART libtoggleashPART.a is made from the crate, with bindings/c/toggleashPART.h and tools/facePART.c.
+# shellcheck disable=SC2034 # for the scripts
+archives='toggleash: resolver:_resolve packing:_packed'
+
 # Ends the script with one line on standard error.
 stop() {
     echo "$(basename "$0"): $*" >&2

@@ -1,4 +1,4 @@
-/* What the C faces share: a slice and an answer as the kit's module has them. Included by tools/face.c and tools/face_resolve.c. */
+/* What the C faces share: a slice and an answer as the kit's module has them. Included by the faces, tools/face*.c. */
 #ifndef TOGGLEASH_SLICE_H
 #define TOGGLEASH_SLICE_H
 

@@ -8,6 +8,7 @@ mod copies;
 mod insides;
 mod lists;
 mod lpm;
+mod packs;
 mod runs;
 mod six;
 mod trie;
@@ -43,9 +44,12 @@ struct Scale {
 }
 
 fn main() {
+    if std::env::args().any(|word| word == "--packed") {
+        return packs::alone();
+    }
     let full = Scale { addresses: 10_000_000, rounds: 5 };
     let words: Vec<String> = std::env::args().skip(1).collect();
-    assert!(words.iter().all(|word| WORDS.contains(&word.as_str())), "usage: bench/run [--quick] [--runs | --six]");
+    assert!(words.iter().all(|word| WORDS.contains(&word.as_str())), "usage: bench/run [--quick] [--runs | --six | --packed]");
     let told = |word: &str| words.iter().any(|told| told == word);
     let scale = if told("--quick") { Scale { addresses: 500_000, rounds: 3 } } else { full };
     let (runs, six) = (!told("--six"), !told("--runs"));
@@ -76,10 +80,12 @@ fn calls(random: &mut Random, scale: &Scale, lpm: Option<&Lpm>) {
         updates(random, scale, &load, ARRAYS, lpm);
         whole(scale, &load);
         copies::whole(scale, &load);
+        packs::whole(scale, &load);
     }
     let most = lists::dense(random, ARRAYS, MOST);
     lookups(random, scale, &most, lpm);
     insides::counts(random, scale, &most);
+    packs::whole(scale, &most);
     for arrays in [7, 64] {
         updates(random, scale, &lists::sparse(&mut Random::for_case(1, "small", 0), arrays), arrays, None);
     }

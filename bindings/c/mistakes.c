@@ -1,7 +1,7 @@
 /* With MISTAKE 0 this compiles, in C11 and C++17; with each other number it must not (must-not-compile, the script). */
-#include "toggleash.h"
+#include "toggleash_packed.h"
 
-static uint32_t words[TOGGLEASH_WORDS(1)], odd[TOGGLEASH_WORDS(1) + 1], card[1040];
+static uint32_t words[TOGGLEASH_WORDS(1)], odd[TOGGLEASH_WORDS(1) + 1], card[1040], fewer[2048];
 static uint8_t bytes[TOGGLEASH_WORDS(1)], list[1];
 
 uint32_t lent(uint32_t parameter[TOGGLEASH_WORDS(1)], const uint32_t *constant);
@@ -11,10 +11,12 @@ uint32_t lent(uint32_t parameter[TOGGLEASH_WORDS(1)], const uint32_t *constant) 
     toggleash_v6_table six = TOGGLEASH_V6_TABLE(words);
     toggleash_ipv6 address = {{0}};
     toggleash_copy copy = TOGGLEASH_COPY(card);
+    toggleash_packed_table packed = TOGGLEASH_PACKED_TABLE(fewer);
     uint32_t *pointer = parameter;
     uint32_t refusal = toggleash_table_clear(table) + toggleash_copy_make(copy, list, sizeof list).refusal;
     refusal += toggleash_table_announce(table, 0, 0, 1, 1, 0).refusal + toggleash_table_withdraw(table, 0, 0, 1).refusal;
     refusal += toggleash_v6_table_clear(six) + toggleash_v6_table_find(six, address).refusal;
+    refusal += toggleash_packed_table_make(packed, table).refusal + toggleash_packed_table_find(packed, 1).refusal;
     (void)pointer, (void)constant, (void)odd, (void)bytes;
 #if MISTAKE == 0
     return refusal;
@@ -67,6 +69,25 @@ uint32_t lent(uint32_t parameter[TOGGLEASH_WORDS(1)], const uint32_t *constant) 
     return refusal + toggleash_v6_table_clear(TOGGLEASH_V6_TABLE(pointer));
 #elif MISTAKE == 24 /* a refusal that nobody sees */
     toggleash_v6_table_clear(six);
+    return refusal;
+#elif MISTAKE == 25 /* neither a table nor a copy is a compressed table */
+    return refusal + toggleash_packed_table_find(table, 1).hop;
+#elif MISTAKE == 26
+    return refusal + toggleash_packed_table_find(copy, 1).hop;
+#elif MISTAKE == 27 /* which is none of them */
+    return refusal + toggleash_table_find(packed, 1).hop;
+#elif MISTAKE == 28
+    return refusal + toggleash_copy_find(packed, 1).hop;
+#elif MISTAKE == 29 /* the two the other way round */
+    return refusal + toggleash_packed_table_make(table, packed).refusal;
+#elif MISTAKE == 30 /* a table of IPv6 */
+    return refusal + toggleash_packed_table_make(packed, six).refusal;
+#elif MISTAKE == 31 /* a pointer has no number of words */
+    return refusal + toggleash_packed_table_make(TOGGLEASH_PACKED_TABLE(pointer), table).refusal;
+#elif MISTAKE == 32 /* a number of bytes for one of words */
+    return refusal + toggleash_packed_table_find(toggleash_packed_table_at(fewer, sizeof fewer), 1).hop;
+#elif MISTAKE == 33 /* a refusal that nobody sees */
+    toggleash_packed_table_make(packed, table);
     return refusal;
 #endif
 }

@@ -1,22 +1,13 @@
-/* Resolves from C, or from C++, and compares each field, so that the header and the archive are known to agree; both archives
+/* Resolves from C, or from C++, and compares each field, so that the header and the archive are known to agree; all archives
  * are linked into it. Prints what differs and returns 1 on any difference. */
-#include <stdio.h>
 #include <string.h>
+#include "fields.h"
 #include "toggleash_resolve.h"
 
 #define IP(a, b, c, d) ((uint32_t)(a) << 24 | (uint32_t)(b) << 16 | (uint32_t)(c) << 8 | (uint32_t)(d))
 
 static uint32_t words[TOGGLEASH_WORDS(7)];
 static toggleash_hop many[TOGGLEASH_MOST_ENTRIES + 1];
-static unsigned compared, differing;
-
-static void same(const char *what, uint32_t expected, uint32_t got) {
-    compared++;
-    if (expected != got) {
-        differing++;
-        printf("%s: expected %u, got %u\n", what, expected, got);
-    }
-}
 
 static void route(const char *what, toggleash_route r, uint32_t refusal, uint32_t interface, uint32_t has_gateway,
                   uint32_t gateway) {
@@ -84,6 +75,5 @@ int main(void) {
     same("version", TOGGLEASH_VERSION, toggleash_resolve_version_4());
     same("text", 0, (uint32_t)strcmp(toggleash_resolve_text(22), "no interface after four lookups"));
     same("text of 1", 0, (uint32_t)strcmp(toggleash_resolve_text(1), toggleash_refusal_text(1)));
-    printf("%u fields compared, %u differ\n", compared, differing);
-    return differing != 0;
+    return told();
 }

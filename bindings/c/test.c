@@ -8,18 +8,6 @@
 
 static uint32_t words[ROOM];
 
-static void match(const char *what, toggleash_match m, uint32_t refusal, uint32_t found, uint32_t hop, uint32_t length) {
-    same(what, refusal, m.refusal);
-    same(what, found, m.found);
-    same(what, hop, m.hop);
-    same(what, length, m.length);
-}
-
-static void needed(const char *what, toggleash_needed d, uint32_t refusal, uint64_t count) {
-    same(what, refusal, d.refusal);
-    same(what, count, d.words);
-}
-
 static void built(const char *what, toggleash_built b, uint32_t refusal, uint64_t routes, uint64_t markers) {
     same(what, refusal, b.refusal);
     same(what, routes, b.routes);

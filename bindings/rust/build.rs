@@ -1,5 +1,5 @@
-//! Links libtoggleash.a and libtoggleash_resolve.a: from TOGGLEASH_LIB_DIR where that is set, else from where `./build` writes them
-//! for the processor that this crate is compiled for. An archive that is missing, or is for another processor, is told in one line.
+//! Links the archives: from TOGGLEASH_LIB_DIR where that is set, else from where `./build` writes them for the processor that this
+//! crate is compiled for. An archive that is missing, or is for another processor, is told in one line.
 
 use std::env;
 use std::fs;
@@ -19,7 +19,7 @@ const TARGETS: [(&str, u16, bool, bool); 6] = [
 fn main() {
     println!("cargo:rerun-if-env-changed=TOGGLEASH_LIB_DIR");
     let target = target();
-    for library in ["toggleash_resolve", "toggleash"] {
+    for library in ["toggleash", "toggleash_resolve", "toggleash_packed"] {
         link(&target, library);
     }
 }

@@ -9,6 +9,8 @@ pub mod foreign;
 pub mod guard;
 pub mod insides;
 pub mod lists;
+pub mod packs;
+pub mod packs_damaged;
 pub mod pair;
 pub mod programs;
 pub mod random;

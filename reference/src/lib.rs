@@ -3,7 +3,7 @@
 //!
 //! Candidates and routes are plain sorted lists. All is over any [`Address`], of IPv4 or of IPv6, but copies and resolving,
 //! which are of IPv4. Nothing here knows the words of a table but [`layout`], which reads docs/LAYOUT.md, nor those of a copy
-//! but [`copy`], which reads docs/COPY.md.
+//! but [`copy`], which reads docs/COPY.md, nor those of a compressed table but [`packed`], which reads docs/PACKED.md.
 
 pub mod address;
 pub mod candidates;
@@ -12,6 +12,7 @@ pub mod feed;
 pub mod layout;
 pub mod list;
 pub mod memory;
+pub mod packed;
 pub mod program;
 pub mod refusal;
 pub mod resolve;

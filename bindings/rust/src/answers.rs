@@ -20,7 +20,8 @@ pub enum Refusal {
     /// From [`copy::need`](crate::copy::need) and [`copy::build`](crate::copy::build): the bytes are not one whole list of
     /// a table, of any room, in records of kind 4 or of kind 1 alone. From [`copy::lookup`](crate::copy::lookup): the words
     /// are fewer than 1,024, or its walk meets a best match, the place of a hash table or the mark of an entry that no copy
-    /// has.
+    /// has. From [`packed::lookup`](crate::packed::lookup): its walk meets an entry outside the words, or a number that no
+    /// compressed table has.
     NotATable = 2,
     /// 3: the length is over 32, or of a prefix of IPv6 over 128.
     LengthOver = 3,
@@ -32,8 +33,8 @@ pub enum Refusal {
     NotHeld = 7,
     /// 8: the prefix has no candidate, and the list with it needs more arrays than the words have.
     NoRoom = 8,
-    /// 9: the buffer is too short for the written list; from [`copy::build`](crate::copy::build): the words are fewer
-    /// than the copy needs.
+    /// 9: the buffer is too short for the written list; from [`copy::build`](crate::copy::build) and
+    /// [`packed::build`](crate::packed::build): the words are fewer than the copy or the compressed table needs.
     BufferShort = 9,
     /// 10: the feed is not 1 to 4.
     FeedOutOfRange = 10,
@@ -87,13 +88,15 @@ impl fmt::Display for Refusal {
     fn fmt(&self, f: &mut fmt::Formatter<'_>) -> fmt::Result {
         let reason = match self {
             Refusal::WordCount => "the number of words is not a multiple of 3,072 from 6,144 to 12,585,984",
-            Refusal::NotATable => "the words are not a table or not a copy, or the bytes not a list",
+            Refusal::NotATable => "the words are not a table, a copy or a compressed table, or the bytes not a list",
             Refusal::LengthOver => "the length is over 32, or of a prefix of IPv6 over 128",
             Refusal::StrayBit => "a bit after the length is set",
             Refusal::HopOutOfRange => "the hop is 0 or over 65,535",
             Refusal::NotHeld => "the feed has no candidate for the prefix",
             Refusal::NoRoom => "the table has no room for the prefix",
-            Refusal::BufferShort => "the buffer is too short for the written list, or the words for the copy",
+            Refusal::BufferShort => {
+                "the buffer is too short for the written list, or the words for the copy or the compressed table"
+            }
             Refusal::FeedOutOfRange => "the feed is not 1 to 4",
             Refusal::NoRoute => "no route matches",
             Refusal::NoEntry => "more than 256 entries, or a hop without an entry, or with one out of range",

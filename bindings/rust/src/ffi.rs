@@ -95,11 +95,21 @@ pub struct Route {
     pub gateway: u32,
 }
 
+#[repr(C)]
+#[derive(Clone, Copy, Debug, Default, PartialEq, Eq)]
+pub struct Packed {
+    pub refusal: u32,
+    pub arrays: u32,
+    pub words: u64,
+}
+
 /// Kept in each program, so that an archive of another version does not link.
 #[used]
 static VERSION: unsafe extern "C" fn() -> u32 = toggleash_version_4;
 #[used]
 static RESOLVE_VERSION: unsafe extern "C" fn() -> u32 = toggleash_resolve_version_4;
+#[used]
+static PACKED_VERSION: unsafe extern "C" fn() -> u32 = toggleash_packed_version_4;
 
 extern "C" {
     pub fn toggleash_version_4() -> u32;
@@ -158,4 +168,12 @@ extern "C" {
 extern "C" {
     pub fn toggleash_resolve_version_4() -> u32;
     pub fn toggleash_resolve(words: *const u32, n: usize, entries: *const Hop, count: usize, address: u32) -> Route;
+}
+
+// of libtoggleash_packed.a; bindings/c/toggleash_packed.h says what they take and give
+extern "C" {
+    pub fn toggleash_packed_version_4() -> u32;
+    pub fn toggleash_packed_need(words: *const u32, n: usize) -> Needed;
+    pub fn toggleash_packed_build(words: *const u32, n: usize, packed: *mut u32, m: usize) -> Packed;
+    pub fn toggleash_packed_lookup(packed: *const u32, m: usize, address: u32) -> Match;
 }

@@ -31,10 +31,11 @@
 //! A table is of one family. For IPv6 there are [`Table6`], [`Prefix6`] and [`Record6`]; what is the same for both is said once,
 //! over the trait [`Family`] of their addresses, which has the calls on words too. Copies are of IPv4.
 //!
-//! [`resolve`] goes on from a hop of an IPv4 table to the interface that packets leave by.
+//! [`resolve`] goes on from a hop of an IPv4 table to the interface that packets leave by. [`Packed`] keeps the words of a
+//! compressed table, which is made from an IPv4 table and answers its lookups in fewer words.
 //!
-//! The archives libtoggleash.a and libtoggleash_resolve.a are looked for where `./build` of the repository writes them, or in
-//! the folder that the environment variable `TOGGLEASH_LIB_DIR` names while this crate is built.
+//! The archives libtoggleash.a, libtoggleash_resolve.a and libtoggleash_packed.a are looked for where `./build` of the repository
+//! writes them, or in the folder that the environment variable `TOGGLEASH_LIB_DIR` names while this crate is built.
 
 #![no_std]
 #![warn(missing_docs)]
@@ -47,6 +48,7 @@ pub mod copy;
 mod family;
 mod feed;
 pub mod ffi;
+pub mod packed;
 mod prefix;
 pub mod resolve;
 mod table;
@@ -56,6 +58,7 @@ pub use candidate::Candidate;
 pub use copy::ListCopy;
 pub use family::Family;
 pub use feed::{records, replies, Record, Record6, RecordOf, Records, Replies, Reply};
+pub use packed::Packed;
 pub use prefix::{Prefix, Prefix6, PrefixError, PrefixOf};
 pub use resolve::{Hop, Route};
 pub use table::{Table, Table6, TableOf};
@@ -85,7 +88,7 @@ pub const fn written_bytes(routes: usize) -> usize {
     Record::written_bytes(routes)
 }
 
-// SAFETY of all calls in `family`, in `copy` and in `resolve`: a slice's pointer is aligned and leads to as many elements as
+// SAFETY of all calls in `family`, `copy`, `packed` and `resolve`: a slice's pointer is aligned and leads to as many elements as
 // its length says, alone if the slice is mutable, and the calls stay inside that. An empty slice's pointer leads nowhere, but
 // with length 0 the calls follow no pointer.
 
@@ -265,7 +268,8 @@ fn updated(update: ffi::Update) -> Result<Update, Refusal> {
     Ok(Update { hop: update.hop, cells: update.cells })
 }
 
-/// Counts are at most the length of a slice; what a copy needs is below 2^32, as its list needs at most 4,096 arrays.
+/// Counts are at most the length of a slice; what a copy or a compressed table needs is below 2^32, as its list needs at most
+/// 4,096 arrays.
 fn count(number: u64) -> usize {
     usize::try_from(number).expect("a count is at most a slice's length, or below 2^32")
 }

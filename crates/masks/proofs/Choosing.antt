@@ -2,16 +2,15 @@
 use mathlib.Core.Path.{_≡_, refl, ap, _∙_}
 use mathlib.Core.Bool.{Bool, true, false, cond, _&&_}
 use mathlib.Core.List.{List}
-use Prim.Native.Nat.{ℕ, suc, _+_, _-_, _*_, _/_, _%_, _^_, _≤_, _<_}
+use Prim.Native.Nat.{ℕ, _+_, _*_, _%_, _^_, _≤_, _<_}
 use native.Mathlib.Numerals.{add-one}
 use native.Mathlib.Omega.{arith}
 use lib.Dec.{ltb}
 use lib.Count.{ones, ones-le}
-use lib.Pow.{pow-pos, pow-mono, shr-shr}
+use lib.Pow.{pow-pos}
 use borrow.Author.Tests.{lt-ltb, le-ltb}
 use Rattle.sizes.specs.Sizes.{slotEnd}
 use Rattle.masks.specs.Mask.{freeB, pick, maskOf, chosen}
-use Rattle.masks.specs.Index.{joined, gather, index, gather-lt, gather-small}
 use Rattle.masks.specs.On.{fits}
 use Rattle.masks.specs.Top.{top}
 use Rattle.masks.specs.Entry.{mapped, entry}
@@ -58,33 +57,6 @@ pub sized : (m : ℕ) → m < 256
 sized m h =
     let p = byte-power (ones m) (ones-le 8 m h) in
     (omega arith, omega (arith, pow-pos (ones m)), omega arith)
-
--- ---- the index: the bits from i on are taken, highest first
-
-abbrev pub taken : ℕ → ℕ → ℕ → ℕ
-taken m y i = gather (8 - i) (m / 2 ^ i) (y / 2 ^ i)
-
-pub taken-none : (m y : ℕ) → 0 ≡ taken m y 8
-unfolding gather
-taken-none m y = refl
-
-pub taken-more : (m y i : ℕ) → 1 ≤ i → i ≤ 8
-    → joined (taken m y i) (m / 2 ^ (i - 1)) (y / 2 ^ (i - 1)) ≡ taken m y (i - 1)
-unfolding gather
-taken-more m y i h l =
-    let a : 8 - (i - 1) ≡ suc (8 - i) = omega arith in
-    let b : i - 1 + 1 ≡ i = omega arith in
-    rw (a, shr-shr m (i - 1) 1, shr-shr y (i - 1) 1, b)
-
-pub taken-lt : (m y i : ℕ) → i ≤ 8 → taken m y i < 256
-taken-lt m y i h = omega (arith, gather-small (8 - i) (m / 2 ^ i) (y / 2 ^ i), pow-mono {i = 8 - i} {j = 8} (omega arith))
-
-pub taken-last : (m y i r : ℕ) → m < 256 → r ≡ taken m y i → i ≡ 0 → (r ≡ index m y) × (r < 2 ^ ones m) × (r < 256)
-taken-last m y i r h q e =
-    let a : m / 1 ≡ m = omega arith in
-    let b : y / 1 ≡ y = omega arith in
-    let w : r ≡ index m y = q ∙ rw (e, a, b) in
-    (w, rw w (gather-lt 8 m y h), rw w (gather-small 8 m y))
 
 -- ---- the entry
 

@@ -6,19 +6,17 @@
 use mathlib.Core.Path.{_≡_, sym, ap, _∙_}
 use mathlib.Core.Logic.{_≢_, ⊎-elim}
 use mathlib.Core.Bool.{Bool, true, cond, _&&_, true≢false, false≢true}
-use Prim.Native.Nat.{ℕ, _^_, _≤_, _<_, min}
+use Prim.Native.Nat.{ℕ, _≤_, _<_, min}
 use native.Mathlib.Omega.{arith}
-use lib.Dec.{eqb}
-use lib.Bits.{bitAnd, bitXor, and-le-l, and-le-r}
-use lib.Count.{ones}
-use borrow.Author.Tests.{eqb-true, eq-eqb, le-leb}
+use lib.Bits.{bitAnd, bitXor, and-le-r}
+use borrow.Author.Tests.{eqb-true, eq-eqb}
 use Rattle.logic.specs.Cases.{bool, same}
 use Rattle.logic.specs.Bools.{and-to, and-from}
 use Rattle.sizes.specs.Sizes.{slotEnd}
-use Rattle.masks.specs.Bits.{bit, bit-lt, and-bit, xor-bit, differ-same, no-bits, same-bits, inside-to, high-bit}
-use Rattle.masks.specs.Prefix.{spare, value, reach, parted, added, apart, has, parted-lt, reach-lt}
+use Rattle.masks.specs.Bits.{bit, bit-lt, and-bit, xor-bit, differ-same, no-bits, inside-to}
+use Rattle.masks.specs.Prefix.{value, reach, parted, added, apart, has, parted-lt, reach-lt}
 use Rattle.masks.specs.Mask.{Free}
-use Rattle.masks.specs.Index.{index, gather-lt, index-to, index-from, scatter, gather-scatter}
+use Rattle.masks.specs.Index.{index, gather-lt, index-to, scatter, gather-scatter}
 use Rattle.masks.specs.On.{On, masked, on-reflects, fits, both-set, asked, asks, has-on, fits-on, has-fits}
 use Rattle.masks.specs.Top.{top, top-ge, top-case, top-is, top-none, top-bound, top-one, top-same}
 

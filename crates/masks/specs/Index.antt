@@ -1,9 +1,9 @@
 -- The index of a byte under a mask: its bits at the set bits of the mask, as a number; and back. Assumes nothing.
 --
 --     mask 00110000    byte 01111000    index 11 = 3         index 3 put back under the mask: 00110000
-use mathlib.Core.Path.{_≡_, refl, sym, ap, _∙_}
+use mathlib.Core.Path.{_≡_, refl, sym, _∙_}
 use mathlib.Core.Bool.{true, cond}
-use Prim.Native.Nat.{ℕ, zero, suc, _+_, _-_, _*_, _/_, _%_, _^_, _≤_, _<_}
+use Prim.Native.Nat.{ℕ, zero, suc, _+_, _*_, _/_, _%_, _^_, _<_}
 use native.Mathlib.Nat.{pow-succ'}
 use native.Mathlib.Omega.{arith}
 use lib.Arith.{lt-one}
@@ -35,13 +35,13 @@ scatter (suc k) m v = cond (eqb (m % 2) 0) (scatter k (m / 2) v * 2) (scatter k 
 
 -- ---- by cases on the mask's lowest bit
 
-half-lt : (k m : ℕ) → m < 2 ^ suc k → m / 2 < 2 ^ k
+pub half-lt : (k m : ℕ) → m < 2 ^ suc k → m / 2 < 2 ^ k
 half-lt k m h = omega (arith, pow-succ' 2 k)
 
-ones-even : (m : ℕ) → m % 2 ≡ 0 → ones m ≡ ones (m / 2)
+pub ones-even : (m : ℕ) → m % 2 ≡ 0 → ones m ≡ ones (m / 2)
 ones-even m q = ones-step m ∙ rw q (omega arith)
 
-ones-odd : (m : ℕ) → m % 2 ≡ 1 → ones m ≡ suc (ones (m / 2))
+pub ones-odd : (m : ℕ) → m % 2 ≡ 1 → ones m ≡ suc (ones (m / 2))
 ones-odd m q = let s = ones-step m in omega arith
 
 -- ---- its range

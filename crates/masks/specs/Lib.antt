@@ -2,9 +2,11 @@ pub mod Bits
 pub mod Prefix
 pub mod Mask
 pub mod Index
+pub mod Steps
 pub mod Spread
 pub mod On
 pub mod Top
 pub mod Entry
+pub mod Exact
 pub mod Sieve
 pub mod Worked

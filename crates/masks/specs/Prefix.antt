@@ -4,7 +4,7 @@
 --     slot 22 = 2 ^ 4 + 6       0110xxxx    spare 4     value 01100000     reach 11110000
 --     slot 376 = 2 ^ 8 + 120    01111000    spare 0     value 01111000     reach 11111111
 --     parted 00010000, so a mask must have bit 4 (property 1); were it 0, the mask would need all of added 00001111 (property 2)
-use mathlib.Core.Path.{_≡_, refl, sym, ap, _∙_}
+use mathlib.Core.Path.{_≡_, refl, _∙_}
 use mathlib.Core.Bool.{Bool, true, cond, not, _&&_}
 use Prim.Native.Nat.{ℕ, _+_, _-_, _*_, _^_, _≤_, _<_}
 use native.Mathlib.Nat.{mod-eq-of-lt}

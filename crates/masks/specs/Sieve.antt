@@ -3,10 +3,10 @@
 --
 --     0110xxxx, 01111000, 11001101      X: 00010000, 10100000, 10110101      Y: 0
 --     a mask passes if it meets each difference in X and has all bits of Y
-use mathlib.Core.Path.{_≡_, refl, sym, ap, _∙_}
+use mathlib.Core.Path.{_≡_, refl, sym}
 use mathlib.Core.Bool.{Bool, true, false, not, _&&_, _||_}
 use mathlib.Core.List.{List}
-use Prim.Native.Nat.{ℕ, _≤_, _<_, max}
+use Prim.Native.Nat.{ℕ, _<_}
 use native.Mathlib.Omega.{arith}
 use lib.Dec.{leb, eqb}
 use lib.ListN.{length, getD, set}
@@ -17,7 +17,7 @@ use Rattle.logic.specs.Cases.{same}
 use Rattle.logic.specs.Bools.{and-to, and-from, or-right}
 use Rattle.logic.specs.Every.{allB}
 use Rattle.logic.specs.Reflects.{all-to, all-from}
-use Rattle.masks.specs.Bits.{bit, or-bit, inside-to, inside-from}
+use Rattle.masks.specs.Bits.{or-bit, inside-to, inside-from}
 
 -- the prefixes of an array as 512 flags: slot s from 1 on is held if word s is not 0
 unfoldable pub heldIn : List ℕ → ℕ → Bool

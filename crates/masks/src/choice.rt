@@ -1,4 +1,5 @@
 // The mask of an array, and how many entries it leaves.
+use super::FULL_MASK;
 use super::sieve::passes;
 use super::sieve::products;
 ghost use mathlib.Core.Path.{_≡_};
@@ -16,8 +17,8 @@ pub fn mask(held: &[u32]) -> u32
 {
     let mut xs = [0; 256];
     let y = products(held, &mut xs[..]);
-    let mut best: u32 = 255;
-    for m in 0..255 {
+    let mut best = FULL_MASK;
+    for m in 0..FULL_MASK {
         if u32::count_ones(m) < u32::count_ones(best) {
             if passes(&xs[..], y, m) {
                 best = m;

@@ -1,32 +1,37 @@
 // The index of a byte under a mask, and a byte of each index.
+use super::FULL_MASK;
 ghost use mathlib.Core.Path.{_≡_};
-ghost use Prim.Native.Nat.{_^_, _<_};
+ghost use Prim.Native.Nat.{_^_, _<_, _≤_};
 ghost use lib.Count.{ones};
 ghost use Rattle.sizes.specs.Sizes.{cellCount};
-ghost use Rattle.masks.specs.Index.{joined as joinedTo, index as indexOf, scatter};
+ghost use Rattle.masks.specs.Index.{index as indexOf, scatter};
+ghost use Rattle.masks.specs.Steps.{placed as placedAt};
 ghost use Rattle.masks.specs.Spread.{low as lowOf, left as leftOf};
 
-// One bit more at the low end, if the mask has it.
-fn joined(r: usize, m: u32, y: u32) -> usize
-    requires { ⌜ r < cellCount ⌝ }
-    ensures { λ n. ⌜ n ≡ joinedTo r m y ⌝ }
+// The place p, if the byte has the bit b.
+fn placed(y: u32, b: u32, p: usize) -> usize
+    ensures { λ r. ⌜ (r ≡ placedAt y b p) × (r ≤ p) ⌝ }
 {
-    if m % 2 == 0 {
-        return r;
-    }
-    r * 2 + (y % 2) as usize
+    if y & b == 0 { 0 } else { p }
 }
 
-// The bits of a byte at the set bits of a mask, as a number.
+// The bits of a byte at the set bits of a mask, as a number. The mask of all bits, that of the first array, gives the byte
+// itself; else the set bits are gone through, the lowest first, as most masks have few.
 pub fn index(m: u32, y: u32) -> usize
-    requires { ⌜ m < cellCount ⌝ }
+    requires { ⌜ (m < cellCount) × (y < cellCount) ⌝ }
     ensures { λ r. ⌜ (r ≡ indexOf m y) × (r < 2 ^ ones m) × (r < cellCount) ⌝ }
 {
+    if m == FULL_MASK {
+        return y as usize;
+    }
+    let mut left = m;
     let mut r: usize = 0;
-    let mut i: u32 = 8;
-    while i > 0 {
-        i -= 1;
-        r = joined(r, m >> i, y >> i);
+    let mut p: usize = 1;
+    while left != 0 {
+        let rest = left & (left - 1);
+        r += placed(y, left ^ rest, p);
+        p = p * 2;
+        left = rest;
     }
     r
 }

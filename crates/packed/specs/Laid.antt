@@ -13,7 +13,7 @@ use native.Mathlib.Omega.{arith}
 use lib.ListN.{length, getD}
 use lib.Dec.{leb, eqb}
 use lib.Count.{ones}
-use borrow.Author.Tests.{eq-eqb, ne-eqb, le-leb, leb-true}
+use borrow.Author.Tests.{ne-eqb, le-leb, leb-true}
 use Rattle.logic.specs.Cases.{same}
 use Rattle.logic.specs.Bools.{and-to}
 use Rattle.sizes.specs.Sizes.{cellSlots}
@@ -126,3 +126,25 @@ module _ (t : Arrays) where
   pub inside : (A a v : ℕ) → 1 ≤ a → a ≤ A → 1 ≤ t .tag a → v < 2 ^ ones (maskAt t a)
       → placeOf t a + entryWords * v + entryWords ≤ neededFor t A
   inside A a v h l u b = omega (arith, entries-end a h u, entries-le a A l)
+
+-- ---- what it hangs on
+
+-- the four words of an entry
+pub entry-kept : (t : Arrays) (us vs : List ℕ) (w a s : ℕ) → ((i : ℕ) → w ≤ i → i < w + entryWords → getD vs i 0 ≡ getD us i 0)
+    → IsEntry t us w a s → IsEntry t vs w a s
+entry-kept t us vs w a s e q = record {
+  slot = e w (omega arith) (omega arith) ∙ q .slot;
+  best = e (w + 1) (omega arith) (omega arith) ∙ q .best;
+  place = e (w + 2) (omega arith) (omega arith) ∙ q .place;
+  mask = e (w + 3) (omega arith) (omega arith) ∙ q .mask;
+}
+
+-- the words that are needed, whatever stands past them
+pub laid-front : (t : Arrays) (A : ℕ) (us vs : List ℕ) → neededFor t A ≤ length vs
+    → ((i : ℕ) → i < neededFor t A → getD vs i 0 ≡ getD us i 0) → Laid t A us → Laid t A vs
+laid-front t A us vs h e l = record {
+  room = h;
+  entries = λ a v x y u b.
+      entry-kept t us vs (placeOf t a + entryWords * v) a _ (λ i p q. e i (omega (arith, inside t A a v x y u b)))
+      (l .entries a v x y u b);
+}

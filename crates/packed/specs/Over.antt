@@ -15,7 +15,7 @@ use Rattle.logic.specs.Bools.{and-to}
 use Rattle.logic.specs.Every.{allB}
 use Rattle.logic.specs.Reflects.{all-to}
 use Rattle.sizes.specs.Sizes.{slotEnd, cellSlots, cellCount}
-use Rattle.masks.specs.Bits.{bit, bit-shift, same-bits, high-bit}
+use Rattle.masks.specs.Bits.{bit-shift, same-bits, high-bit}
 use Rattle.masks.specs.Prefix.{spare, value, has, slot}
 use Rattle.masks.specs.On.{has-on}
 

@@ -5,30 +5,29 @@
 --     the masks' walk       entry of the byte's index ── best, place ──▶ array below          level by level the same
 use mathlib.Core.Path.{_≡_, refl, sym, ap, _∙_}
 use mathlib.Core.Logic.{⊎-elim}
-use mathlib.Core.Bool.{Bool, true, false, cond, not, _&&_, true≢false, false≢true}
+use mathlib.Core.Bool.{true, false, cond, true≢false, false≢true}
 use mathlib.Core.List.{List}
-use Prim.Native.Nat.{ℕ, zero, suc, _+_, _-_, _*_, _/_, _%_, _^_, _≤_, _<_}
+use Prim.Native.Nat.{ℕ, zero, suc, _+_, _-_, _*_, _/_, _^_, _≤_, _<_}
 use native.Mathlib.Omega.{arith}
 use lib.ListN.{length, getD}
 use lib.Dec.{ltb, eqb}
 use lib.Count.{ones}
-use borrow.Author.Tests.{eq-eqb, ne-eqb, le-ltb}
+use borrow.Author.Tests.{le-ltb}
 use Rattle.logic.specs.Cases.{bool, same}
-use Rattle.sizes.specs.Sizes.{slotEnd, lastSlot, cellSlots, hopBound, levelBound}
+use Rattle.sizes.specs.Sizes.{slotEnd, lastSlot, hopBound}
 use Rattle.numbers.specs.Front.{byteOf}
 use Rattle.routes.specs.Match.{Match, none, found, longest}
 use Rattle.routes.specs.Block.{block}
 use Rattle.routes.specs.Answers.{Reply, refused, isRefused, matched}
 use Rattle.routes.specs.Answers as answers
-use Rattle.routes.specs.Seen.{Answer, gives, refuses}
+use Rattle.routes.specs.Seen.{Answer, gives}
 use Rattle.candidates.specs.Winners.{winners}
 use Rattle.masks.specs.Prefix.{has}
 use Rattle.masks.specs.Index.{index, gather-lt}
-use Rattle.masks.specs.Entry.{entry, entryAt, found-at, entry-lt}
-use Rattle.array.specs.Page.{bestOf}
+use Rattle.masks.specs.Entry.{entry, found-at, entry-lt}
 use Rattle.tree.specs.Arrays.{Arrays}
 use Rattle.tree.specs.Shape.{Child}
-use Rattle.words.specs.Words.{arraysOf, arrayCount, slotsOf, bestsOf, blocksOf}
+use Rattle.words.specs.Words.{arraysOf, arrayCount, bestsOf, blocksOf}
 use Rattle.words.specs.Table.{listOf}
 use Rattle.words.specs.TableBut.{Table}
 use Rattle.words.specs.View.{table-fits, fits-no-misfit, seen-table}
@@ -36,7 +35,7 @@ use Rattle.lookup.specs.Walk.{deeper}
 use Rattle.lookup.specs.Walk as table
 use Rattle.lookup.specs.Longest.{walked-seen}
 use Rattle.packed.specs.Byte.{coverOf, belowOf, Holds, best-by-entry, link-by-entry}
-use Rattle.packed.specs.Layout.{entryWords, fullMask, headerWords, gets, turn, walkFrom, walk}
+use Rattle.packed.specs.Layout.{entryWords, fullMask, gets, turn, walkFrom, walk}
 use Rattle.packed.specs.Laid.{heldOf, maskAt, placeOf, IsEntry, Laid, heldBy-holds, mask-first, mask-fit, mask-free, inside}
 use Rattle.packed.specs.Laid.{placeBelow, maskBelow, entriesTo}
 

@@ -1,4 +1,5 @@
 // Looking an address up in a table compressed by masks: the layout's walk, an entry of four words a level.
+use masks::FULL_MASK;
 use masks::index::index;
 use masks::prefix::spare;
 use replies::Match;
@@ -6,29 +7,18 @@ use sizes::HOP_BOUND;
 use sizes::LAST_SLOT;
 ghost use mathlib.Core.Path.{_≡_};
 ghost use mathlib.Core.Bool.{cond};
-ghost use mathlib.Core.List.{List};
-ghost use Prim.Native.Nat.{ℕ, _+_, _*_, _<_, _≤_};
+ghost use Prim.Native.Nat.{_+_, _*_, _<_, _≤_};
 ghost use lib.Dec.{eqb};
-ghost use lib.ListN.{length};
 ghost use Rattle.sizes.specs.Sizes.{slotEnd, cellCount, hopBound, bestBound};
-ghost use Rattle.routes.specs.Match.{longest};
-ghost use Rattle.routes.specs.Seen.{gives};
-ghost use Rattle.candidates.specs.Winners.{winners};
-ghost use Rattle.words.specs.Words.{arraysOf, arrayCount};
-ghost use Rattle.words.specs.Table.{listOf};
-ghost use Rattle.words.specs.TableBut.{Table};
 ghost use Rattle.replies.specs.Said.{saidMatch};
 ghost use Rattle.lookup.specs.Walk.{hopOf};
 ghost use Rattle.packed.specs.Layout.{gets as getsOf, walk};
-ghost use Rattle.packed.specs.Laid.{Laid};
 ghost use Rattle.packed.specs.Ended.{astray, ended};
 
 // The words before the first array.
 pub const HEADER_WORDS: usize = 1024;
 // The words of an entry.
 pub const ENTRY_WORDS: usize = 4;
-// The mask of the first array.
-pub const FULL_MASK: u32 = 255;
 // One past the bests of an entry, whose in-array lengths are at most 8.
 const BEST_BOUND: u32 = 589824;
 // A walk that met a number out of its range: one past the bests of an address, whose lengths are at most 32.
@@ -111,11 +101,10 @@ fn told(end: u32) -> Match
     Match::Found(hop, end / HOP_BOUND)
 }
 
-// The longest match of an address: on any words what the layout's walk gives, and on a table laid out that of the table.
+// The longest match of an address: on any words what the layout's walk gives. That on a table laid out this is the table's own is
+// a law (`walk-longest`).
 pub fn lookup(words: &[u32], address: u32) -> Match
     ensures { λ r. ⌜ saidMatch r ≡ walk 4 (now (words .entry)) address ⌝ }
-    ensures of_a_table { λ r. ⌜ ((ts : List ℕ) → Table 4 ts → Laid (arraysOf ts) (arrayCount ts) (now (words .entry))
-        → saidMatch r ≡ gives (longest 32 address (winners (listOf 4 ts)))) ⌝ }
 {
     told(descend(words, address))
 }

@@ -1,7 +1,7 @@
 -- One array laid out: what its entries are by its page and the map, word by word. Assumes nothing.
 --
 --     page ── flags ── entry of each index ──▶ slot | its cover by the page | place and mask of the array below by the map
-use mathlib.Core.Path.{_≡_, refl, sym, ap, _∙_}
+use mathlib.Core.Path.{_≡_, refl, _∙_}
 use mathlib.Core.Logic.{_⊎_, _≢_, inl, inr, ⊎-elim}
 use mathlib.Core.Bool.{cond}
 use mathlib.Core.List.{List}

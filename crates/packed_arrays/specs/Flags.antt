@@ -1,6 +1,6 @@
 -- The prefixes of a page as flags, a word for each slot. Assumes nothing.
-use mathlib.Core.Path.{_≡_, refl, sym, ap, _∙_}
-use mathlib.Core.Bool.{Bool, true, false, cond, not, _&&_, _||_}
+use mathlib.Core.Path.{_≡_, ap, _∙_}
+use mathlib.Core.Bool.{Bool, true, false, cond, not, _&&_}
 use mathlib.Core.List.{List}
 use Prim.Native.Nat.{ℕ, _+_, _-_, _≤_, _<_}
 use native.Mathlib.Omega.{arith}
@@ -9,7 +9,7 @@ use lib.ListN.{length, getD, set, length-set}
 use lib.Seq.{getD-set-same, getD-set-other}
 use borrow.Author.Tests.{le-leb}
 use Rattle.logic.specs.Cases.{bool, same}
-use Rattle.sizes.specs.Sizes.{slotEnd, cellSlots, cellCount}
+use Rattle.sizes.specs.Sizes.{slotEnd, cellSlots}
 use Rattle.masks.specs.Mask.{maskOf, mask-same}
 use Rattle.masks.specs.Top.{top-same}
 use Rattle.masks.specs.Entry.{mapped, entry}

@@ -2,23 +2,23 @@
 -- Assumes nothing.
 use mathlib.Core.Path.{_≡_, refl, sym, ap, _∙_}
 use mathlib.Core.Logic.{_⊎_, _≢_, inl, inr, ⊎-elim}
-use mathlib.Core.Bool.{true, false, cond, not, _&&_, _||_, true≢false, false≢true}
+use mathlib.Core.Bool.{true, false, not, _&&_, _||_, false≢true}
 use mathlib.Core.List.{List}
 use Prim.Native.Nat.{ℕ, zero, suc, _+_, _-_, _*_, _^_, _≤_, _<_}
-use native.Mathlib.Nat.{mul-comm, pow-succ', mul-le-mul-right}
+use native.Mathlib.Nat.{pow-succ', mul-le-mul-right}
 use native.Mathlib.Omega.{arith}
-use lib.Dec.{leb, ltb, eqb}
+use lib.Dec.{leb, eqb}
 use lib.ListN.{length, getD}
 use lib.Count.{ones}
 use lib.Pow.{pow-pos}
-use borrow.Author.Tests.{eq-eqb, ne-eqb, le-leb, lt-leb}
-use Rattle.logic.specs.Cases.{bool, same, less, most}
+use borrow.Author.Tests.{eq-eqb, lt-leb}
+use Rattle.logic.specs.Cases.{same, less, most}
 use Rattle.logic.specs.Bools.{and-to}
-use Rattle.sizes.specs.Sizes.{slotEnd, cellSlots, cellCount, hopBound}
+use Rattle.sizes.specs.Sizes.{slotEnd, cellSlots}
 use Rattle.masks.specs.Prefix.{spare, slot}
 use Rattle.masks.specs.Index.{scatter}
-use Rattle.masks.specs.Entry.{entry, entryAt, entry-lt, entry-held}
-use Rattle.array.specs.Page.{slots, bests, links, bestOf}
+use Rattle.masks.specs.Entry.{entryAt, entry-lt, entry-held}
+use Rattle.array.specs.Page.{links}
 use Rattle.array.specs.Frame.{pageOf}
 use Rattle.array.specs.Best.{best-some}
 use Rattle.tree.specs.Arrays.{Arrays}
@@ -29,6 +29,7 @@ use Rattle.words.specs.Lent.{lent-slot, lent-link, lent-best}
 use Rattle.packed.specs.Layout.{headerWords, entryWords}
 use Rattle.packed.specs.Byte.{coverOf, belowOf}
 use Rattle.packed.specs.Laid.{heldOf, maskAt, entriesIn, entriesTo, placeOf, neededFor, IsEntry, Laid, inside, entries-end}
+use Rattle.packed.specs.Laid.{entry-kept}
 use Rattle.packed_arrays.specs.Flags.{heldOn, entry-ext, held-page}
 use Rattle.packed_arrays.specs.Mapped.{Mapped, entries-free, placeIn, maskIn, mapped-place, mapped-mask}
 use Rattle.packed_arrays.specs.Filled.{ownOf, Filled, slotFor}
@@ -114,15 +115,6 @@ pub record LaidTo (t : Arrays) (ws us : List ℕ) (n : ℕ) : Type 0 where
 
 pub laid-none : (t : Arrays) (ws : List ℕ) → LaidTo t ws ws 0
 laid-none t ws = record { size = refl; entries = λ a v h l. absurd (omega arith); rest = λ i c. refl }
-
-entry-kept : (t : Arrays) (us vs : List ℕ) (w a s : ℕ) → ((i : ℕ) → w ≤ i → i < w + entryWords → getD vs i 0 ≡ getD us i 0)
-    → IsEntry t us w a s → IsEntry t vs w a s
-entry-kept t us vs w a s e q = record {
-  slot = e w (omega arith) (omega arith) ∙ q .slot;
-  best = e (w + 1) (omega arith) (omega arith) ∙ q .best;
-  place = e (w + 2) (omega arith) (omega arith) ∙ q .place;
-  mask = e (w + 3) (omega arith) (omega arith) ∙ q .mask;
-}
 
 module _ (t : Arrays) (ws us : List ℕ) (a : ℕ) (low : 1 ≤ a) (p : LaidTo t ws us (a - 1)) where
   pub laid-free : t .tag a ≡ 0 → LaidTo t ws us a

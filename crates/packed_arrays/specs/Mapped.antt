@@ -4,7 +4,6 @@
 --     mask      255        12         0                      255      256 * 256 + 12      260 * 256
 --     before    0          256        260
 use mathlib.Core.Path.{_≡_, refl, sym, ap, _∙_}
-use mathlib.Core.Logic.{_≢_}
 use mathlib.Core.Bool.{cond}
 use mathlib.Core.List.{List}
 use Prim.Native.Nat.{ℕ, zero, suc, _+_, _-_, _*_, _/_, _%_, _^_, _≤_, _<_}
@@ -14,11 +13,10 @@ use lib.ListN.{length, getD, set, length-set}
 use lib.Seq.{getD-set-same, getD-set-other}
 use lib.Count.{ones, ones-le}
 use lib.Pow.{pow-mono}
-use borrow.Author.Tests.{eq-eqb, ne-eqb}
 use Rattle.logic.specs.Cases.{same}
 use Rattle.tree.specs.Arrays.{Arrays}
 use Rattle.packed.specs.Layout.{headerWords, entryWords}
-use Rattle.packed.specs.Laid.{maskAt, entriesIn, entriesTo, entries-end, placeOf, placeBelow, maskBelow, mask-fit}
+use Rattle.packed.specs.Laid.{maskAt, entriesTo, entries-end, placeBelow, maskBelow, mask-fit}
 
 -- the words of the map: array 0 has one too
 abbrev pub mapWords : ℕ

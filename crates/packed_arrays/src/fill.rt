@@ -44,10 +44,10 @@ fn below(page: &[u32], s: usize) -> usize
     requires { ⌜ (length (now page) ≡ arrayWords) × (s < slotEnd) ⌝ }
     ensures { λ r. ⌜ (r ≡ belowOf (links (now (page .entry))) s) × (r ≤ mostArrays) ⌝ }
 {
-    if s < CELL_SLOTS {
-        return 0;
+    if s >= CELL_SLOTS {
+        return link_in(page[CELLS_AT + (s - CELL_SLOTS)]);
     }
-    link_in(page[CELLS_AT + (s - CELL_SLOTS)])
+    0
 }
 
 fn put(words: &mut [u32], at: usize, slot: u32, best: u32, place: u32, mask: u32)

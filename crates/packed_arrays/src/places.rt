@@ -1,9 +1,9 @@
 // The mask of each array of a table, and how many entries stand before it, in a map with a word for each array.
 use super::flags::flag_all;
+use masks::FULL_MASK;
 use masks::choice::entries;
 use masks::choice::mask;
 use packed::ENTRY_WORDS;
-use packed::FULL_MASK;
 use packed::HEADER_WORDS;
 use sizes::SLOT_END;
 use words::part::page;

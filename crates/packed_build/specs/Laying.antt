@@ -1,15 +1,16 @@
 -- What is asked before all arrays are laid out, and what the returns of the calls come to. Assumes nothing.
-use mathlib.Core.Path.{_≡_, refl, sym, ap, _∙_}
+use mathlib.Core.Path.{_≡_, refl, ap, _∙_}
 use mathlib.Core.Logic.{inl, inr}
-use mathlib.Core.Bool.{Bool, true, false}
+use mathlib.Core.Bool.{true, false}
 use mathlib.Core.List.{List}
 use Prim.Native.Nat.{ℕ, _+_, _-_, _*_, _^_, _≤_, _<_}
 use native.Mathlib.Omega.{arith}
 use lib.ListN.{length, getD}
 use lib.Count.{ones}
 use borrow.Author.Tests.{lt-ltb, le-ltb, ne-eqb}
-use Rattle.logic.specs.Reflects.{Reflects}
+use Rattle.routes.specs.Route.{Route}
 use Rattle.routes.specs.Seen.{misfits, gives, refuses}
+use Rattle.candidates.specs.Winners.{winners}
 use Rattle.array.specs.Frame.{pageOf}
 use Rattle.tree.specs.Arrays.{Arrays}
 use Rattle.words.specs.Words.{arraysOf, arrayCount}
@@ -18,39 +19,52 @@ use Rattle.words.specs.TableBut.{Table}
 use Rattle.words.specs.CheckReflects.{table-reflects}
 use Rattle.words.specs.View.{no-misfit-fits, seen-misfit, seen-foreign, seen-table}
 use Rattle.words.specs.Stock.{table-need}
-use Rattle.packed.specs.Layout.{headerWords, entryWords}
-use Rattle.packed.specs.Laid.{entriesTo, entries-end, entries-le, maskAt, placeOf}
+use Rattle.packed.specs.Layout.{entryWords}
+use Rattle.packed.specs.Laid.{entriesTo, entries-end, entries-le, maskAt, placeOf, neededFor, Laid, laid-front}
+use Rattle.packed.specs.Walked.{walk-longest}
 use Rattle.packed_arrays.specs.Mapped.{Mapped, placeIn, maskIn, mapped-place, mapped-mask}
 use Rattle.packed_arrays.specs.Filled.{Filled}
-use Rattle.packed_arrays.specs.Laying.{LaidTo, laid-all, laid-none, laid-used, laid-free, entry-is}
-use Rattle.packed_build.specs.Answer.{needOf, needOn, buildOn, Leaves, LeavesOn}
+use Rattle.packed_arrays.specs.Laying.{LaidTo, laid-all, laid-used, laid-free, entry-is}
+use Rattle.packed_build.specs.Need.{wordsFor}
+use Rattle.packed_build.specs.Listed.{table-words}
+use Rattle.packed_build.specs.Answer.{needOn, buildOn, Compressed, LeavesOn}
+
+-- the words that a table's arrays need
+abbrev pub arraysNeed : List ℕ → ℕ
+arraysNeed ts = neededFor (arraysOf ts) (arrayCount ts)
 
 -- the table's arrays are to be laid out by a map that is right, and there are words enough
 pub record Lays (ts map ws : List ℕ) : Type 0 where
   pub table : Table 4 ts
   pub mapped : Mapped (arraysOf ts) map (arrayCount ts)
-  pub room : needOf ts ≤ length ws
+  pub room : arraysNeed ts ≤ length ws
+
+-- arrays laid out are a compressed table of the list
+pub laid-compressed : (ts us : List ℕ) → Table 4 ts → Laid (arraysOf ts) (arrayCount ts) us
+    → Compressed (winners (listOf 4 ts)) us
+laid-compressed ts us o l vs c a h =
+    let e = table-words 4 ts o in
+    walk-longest 4 ts o vs
+    (laid-front (arraysOf ts) (arrayCount ts) us vs (rw e (c .long)) (λ i k. c .same i (rw (← e) k)) l) a h
 
 module _ (ts : List ℕ) where
   -- ---- refused with 1
 
   module _ (m : misfits (length ts) ≡ true) where
-    pub need-misfit : refuses 1 ≡ needOn (seen 4 ts) (needOf ts)
+    pub need-misfit : refuses 1 ≡ needOn (seen 4 ts)
     need-misfit = rw (seen-misfit 4 ts m)
 
-    pub build-misfit : (ws : List ℕ)
-        → (refuses 1 ≡ buildOn (seen 4 ts) (needOf ts) (length ws)) × LeavesOn (seen 4 ts) ts ws ws
+    pub build-misfit : (ws : List ℕ) → (refuses 1 ≡ buildOn (seen 4 ts) (length ws)) × LeavesOn (seen 4 ts) ws ws
     build-misfit ws = rw (seen-misfit 4 ts m) (refl, refl)
 
   module _ (m : misfits (length ts) ≡ false) where
     -- ---- refused with 2
 
     module _ (b : tableB 4 ts ≡ false) where
-      pub need-foreign : refuses 2 ≡ needOn (seen 4 ts) (needOf ts)
+      pub need-foreign : refuses 2 ≡ needOn (seen 4 ts)
       need-foreign = rw (seen-foreign 4 ts m b)
 
-      pub build-foreign : (ws : List ℕ)
-          → (refuses 2 ≡ buildOn (seen 4 ts) (needOf ts) (length ws)) × LeavesOn (seen 4 ts) ts ws ws
+      pub build-foreign : (ws : List ℕ) → (refuses 2 ≡ buildOn (seen 4 ts) (length ws)) × LeavesOn (seen 4 ts) ws ws
       build-foreign ws = rw (seen-foreign 4 ts m b) (refl, refl)
 
     -- ---- a table
@@ -59,19 +73,24 @@ module _ (ts : List ℕ) where
     is-table b = table-reflects 4 ts (omega arith) (omega arith) (no-misfit-fits (length ts) m) .to b
 
   module _ (o : Table 4 ts) (n : ℕ) (e : n ≡ entriesTo (arraysOf ts) (arrayCount ts)) where
-    pub need-table : gives (1024 + 4 * n) ≡ needOn (seen 4 ts) (needOf ts)
-    need-table = rw (seen-table 4 ts o, e)
+    abbrev rs : List Route
+    rs = winners (listOf 4 ts)
+
+    words-are : 1024 + 4 * n ≡ wordsFor 32 rs
+    words-are = rw e (table-words 4 ts o)
+
+    pub need-table : gives (1024 + 4 * n) ≡ needOn (seen 4 ts)
+    need-table = rw (seen-table 4 ts o) (ap gives words-are)
 
     module _ (ws : List ℕ) where
-      pub build-short : length ws < 1024 + 4 * n
-          → (refuses 9 ≡ buildOn (seen 4 ts) (needOf ts) (length ws)) × LeavesOn (seen 4 ts) ts ws ws
+      pub build-short : length ws < 1024 + 4 * n → (refuses 9 ≡ buildOn (seen 4 ts) (length ws)) × LeavesOn (seen 4 ts) ws ws
       build-short h =
-          let l : length ws < needOf ts = rw e at h in
+          let l : length ws < wordsFor 32 rs = rw (← words-are) h in
           rw (seen-table 4 ts o) (
-            rw (lt-ltb (length ws) (needOf ts) l),
+            rw (lt-ltb (length ws) (wordsFor 32 rs) l),
             record {
               refused = λ _. refl;
-              laid = λ k. absurd (omega arith);
+              built = λ k. absurd (omega arith);
               long = refl;
               header = λ i k. refl;
               past = λ i k. refl;
@@ -79,24 +98,25 @@ module _ (ts : List ℕ) where
           )
 
       module _ (h : 1024 + 4 * n ≤ length ws) where
+        enough : wordsFor 32 rs ≤ length ws
+        enough = rw (← words-are) h
+
         pub lays : (map : List ℕ) → Mapped (arraysOf ts) map (arrayCount ts) → Lays ts map ws
         lays map p = record { table = o; mapped = p; room = rw e at h }
 
-        pub build-answer : gives (record { arrays = getD ts 0 0; words = 1024 + 4 * n })
-            ≡ buildOn (seen 4 ts) (needOf ts) (length ws)
+        pub build-answer : gives (record { arrays = getD ts 0 0; words = 1024 + 4 * n }) ≡ buildOn (seen 4 ts) (length ws)
         build-answer =
-            let l : needOf ts ≤ length ws = rw e at h in
-            rw (seen-table 4 ts o, le-ltb (length ws) (needOf ts) l, table-need 4 ts o, e)
+            rw (seen-table 4 ts o, le-ltb (length ws) (wordsFor 32 rs) enough, table-need 4 ts o, words-are)
 
-        pub build-laid : (us : List ℕ) → LaidTo (arraysOf ts) ws us (arrayCount ts) → LeavesOn (seen 4 ts) ts ws us
+        pub build-laid : (us : List ℕ) → LaidTo (arraysOf ts) ws us (arrayCount ts) → LeavesOn (seen 4 ts) ws us
         build-laid us p =
-            let l : needOf ts ≤ length ws = rw e at h in
+            let w = table-words 4 ts o in
             rw (seen-table 4 ts o) (record {
-              refused = λ k. absurd (omega arith);
-              laid = λ k. laid-all (arraysOf ts) (arrayCount ts) ws us k p;
+              refused = λ k. absurd (omega (arith, enough));
+              built = λ k. laid-compressed ts us o (laid-all (arraysOf ts) (arrayCount ts) ws us (rw w enough) p);
               long = p .size;
               header = λ i k. p .rest i (inl k);
-              past = λ i k. p .rest i (inr k);
+              past = λ i k. p .rest i (inr (rw w k));
             })
 
 -- ---- one array more

@@ -42,7 +42,7 @@ shr-y : tie.Need-shr-y Inv-loop μ-loop
 shr-y c = omega arith
 
 index-requires : tie.Need-index-requires Inv-loop μ-loop
-index-requires c κs = omega arith
+index-requires c κs = (omega arith, omega arith)
 
 mul-at : tie.Need-mul-at Inv-loop μ-loop
 mul-at c = omega arith

@@ -1,48 +1,57 @@
--- `masks::index::index` takes the bits highest first. Assumes nothing.
-use mathlib.Core.Path.{_≡_, _∙_}
-use Prim.Native.Nat.{_≤_}
+-- `masks::index::index` gives the byte itself under the mask of all bits, and else goes through the set bits, the lowest first.
+-- Assumes nothing.
 use native.Mathlib.Omega.{arith}
-use Rattle.masks.proofs.Choosing.{taken, taken-none, taken-lt, taken-more, taken-last}
+use Rattle.masks.specs.Steps.{Stepped, index-whole, stepped-start, stepped-more, stepped-end, place-small, rest-lt}
+use borrow.Author.Needs.{needs}
 use Rattle.masks.proofs.index.index.Statement.{statement}
 use Rattle.masks.proofs.index.index.Tie as tie
 
 abbrev Inv-loop : tie.InvT-loop
-Inv-loop m y r₀ i₀ r i = (i ≤ 8) × (r ≡ taken m y i)
+Inv-loop m y left₀ r₀ p₀ left r p = Stepped m y left r p
 
 abbrev μ-loop : tie.MeasureT-loop
-μ-loop m y r₀ i₀ r i = i
+μ-loop m y left₀ r₀ p₀ left r p = left
+
+returns : tie.Need-returns Inv-loop μ-loop
+returns c = index-whole (c .before .args .m) (c .before .args .y) (c .if1 .taken) (c .before .pre .1)
 
 loop-holds : tie.Need-loop-holds Inv-loop μ-loop
-loop-holds c = (omega arith, taken-none (c .args .m) (c .args .y))
+loop-holds c = stepped-start (c .before .args .m) (c .before .args .y) (c .before .pre .0)
 
-sub-i : tie.Need-sub-i Inv-loop μ-loop
-sub-i c = omega arith
+sub-rest : tie.Need-sub-rest Inv-loop μ-loop
+sub-rest c = omega arith
 
-shr-joined : tie.Need-shr-joined Inv-loop μ-loop
-shr-joined c = omega arith
+placed-requires : tie.Need-placed-requires Inv-loop μ-loop
+placed-requires c κs = search needs
 
-shr-joined-2 : tie.Need-shr-joined-2 Inv-loop μ-loop
-shr-joined-2 c = omega arith
+add-r : tie.Need-add-r Inv-loop μ-loop
+add-r c =
+    let l = c .before .before .loop in
+    let b = c .before .before .before .before in
+    let h = place-small (b .args .m) (b .args .y) (l .left) (l .r) (l .p) (l .inv) (b .pre .0) in
+    omega (arith, l .inv .less, c .placed .ensures .1)
 
-joined-requires : tie.Need-joined-requires Inv-loop μ-loop
-joined-requires c κs =
-    let l = c .before .loop in
-    rw (l .inv .1) (taken-lt (c .before .before .args .m) (c .before .before .args .y) (l .i) (l .inv .0))
+mul-p : tie.Need-mul-p Inv-loop μ-loop
+mul-p c =
+    let l = c .before .before .loop in
+    let b = c .before .before .before .before in
+    let h = place-small (b .args .m) (b .args .y) (l .left) (l .r) (l .p) (l .inv) (b .pre .0) in
+    omega arith
 
 loop-less : tie.Need-loop-less Inv-loop μ-loop
-loop-less c = omega arith
+loop-less c = rest-lt (c .before .before .loop .left) (omega arith)
 
 loop-again : tie.Need-loop-again Inv-loop μ-loop
 loop-again c =
     let l = c .before .before .loop in
-    let a = c .before .before .before .args in
-    (omega arith, c .joined .ensures ∙ rw (l .inv .1) (taken-more (a .m) (a .y) (l .i) (omega arith) (omega arith)))
+    let b = c .before .before .before .before in
+    rw (c .placed .ensures .0) (stepped-more (b .args .m) (b .args .y) (l .left) (l .r) (l .p) (l .inv) (omega arith))
 
-returns : tie.Need-returns Inv-loop μ-loop
-returns c =
+returns-2 : tie.Need-returns-2 Inv-loop μ-loop
+returns-2 c =
     let l = c .before .loop in
-    let s = c .before .before in
-    taken-last (s .args .m) (s .args .y) (l .i) (l .r) (s .pre) (l .inv .1) (omega arith)
+    let b = c .before .before .before in
+    stepped-end (b .args .m) (b .args .y) (l .left) (l .r) (l .p) (l .inv) (b .pre .0) (omega arith)
 
 pub index-spec : {M : Type 1} → statement M
 index-spec =
@@ -50,11 +59,12 @@ index-spec =
     (tie.spec
     Inv-loop
     μ-loop
+    returns
     loop-holds
-    sub-i
-    shr-joined
-    shr-joined-2
-    joined-requires
+    sub-rest
+    placed-requires
+    add-r
+    mul-p
     loop-less
     loop-again
-    returns)
+    returns-2)

@@ -1,0 +1,122 @@
+// The calls of compressed tables for C: the words that a table needs compressed, the build, and the lookup in what was built.
+//
+//     words ── packed_need ──▶ how many words to lend
+//       └───── packed_build ─▶ packed, carried anywhere ── packed_lookup ──▶ match
+use replies::Match;
+ghost use mathlib.Core.Path.{_≡_};
+ghost use Rattle.words.specs.Table.{seen};
+ghost use Rattle.replies.specs.Said.{saidMatch};
+ghost use Rattle.packed.specs.Layout.{walk};
+ghost use Rattle.packed_build.specs.Answer.{needOn, needAnswer, buildAnswer};
+ghost use Rattle.packing.specs.Face.{needed, built, matched, HasBuilt};
+
+#[repr(C)]
+pub struct Needed {
+    pub refusal: u32,
+    pub words: u64,
+}
+
+#[repr(C)]
+pub struct Built {
+    pub refusal: u32,
+    pub arrays: u32,
+    pub words: u64,
+}
+
+#[repr(C)]
+pub struct Matched {
+    pub refusal: u32,
+    pub found: u32,
+    pub hop: u32,
+    pub length: u32,
+}
+
+// ---- answers in plain numbers
+
+fn size(answer: packed_build::Needs) -> Needed
+    ensures { λ r. ⌜ r ≡ needed (needAnswer answer) ⌝ }
+{
+    match answer {
+        packed_build::Needs::Words(n) => Needed {
+            refusal: 0,
+            words: n as u64,
+        },
+        packed_build::Needs::Refused(n) => Needed {
+            refusal: n,
+            words: 0,
+        },
+    }
+}
+
+fn counts(answer: packed_build::Built) -> Built
+    ensures { λ r. ⌜ r ≡ built (buildAnswer answer) ⌝ }
+{
+    match answer {
+        packed_build::Built::Counts(arrays, words) => Built {
+            refusal: 0,
+            arrays: arrays,
+            words: words as u64,
+        },
+        packed_build::Built::Refused(n) => Built {
+            refusal: n,
+            arrays: 0,
+            words: 0,
+        },
+    }
+}
+
+fn finding(answer: Match) -> Matched
+    ensures { λ r. ⌜ r ≡ matched (saidMatch answer) ⌝ }
+{
+    match answer {
+        Match::Found(hop, length) => Matched {
+            refusal: 0,
+            found: 1,
+            hop: hop,
+            length: length,
+        },
+        Match::Nothing => Matched {
+            refusal: 0,
+            found: 0,
+            hop: 0,
+            length: 0,
+        },
+        Match::Refused(n) => Matched {
+            refusal: n,
+            found: 0,
+            hop: 0,
+            length: 0,
+        },
+    }
+}
+
+// ---- the calls of bindings/c/toggleash_packed.h
+
+// The version of the table's words and of these calls, in the name: that of `toggleash`.
+#[no_mangle]
+pub extern "C" fn toggleash_packed_version_4() -> u32
+    ensures { λ r. ⌜ r ≡ 4 ⌝ }
+{
+    4
+}
+
+#[no_mangle]
+pub extern "C" fn toggleash_packed_need(words: &[u32]) -> Needed
+    ensures { λ r. ⌜ r ≡ needed (needOn (seen 4 (now (words .entry)))) ⌝ }
+{
+    size(packed_build::need(words))
+}
+
+#[no_mangle]
+pub extern "C" fn toggleash_packed_build(words: &[u32], packed: &mut [u32]) -> Built
+    ensures { λ r. ⌜ HasBuilt (now (words .entry)) (now (packed .entry)) (now (packed .exit)) r ⌝ }
+{
+    counts(packed_build::build(words, packed))
+}
+
+#[no_mangle]
+pub extern "C" fn toggleash_packed_lookup(packed: &[u32], address: u32) -> Matched
+    ensures { λ r. ⌜ r ≡ matched (walk 4 (now (packed .entry)) address) ⌝ }
+{
+    finding(packed::lookup(packed, address))
+}
