@@ -1,6 +1,6 @@
 //! Measures the library beside other ways of doing the same, all in one run: `bench/run`, with `--runs` for the updates inside
-//! an IPv4 run alone, with `--six` for IPv6 alone, with `--quick` for a rough look. A line gives the median time of one call
-//! and how much of it the library takes.
+//! an IPv4 run alone, with `--six` for IPv6 alone, with `--packed` and `--shortest` for compressed tables and the shortest list alone,
+//! with `--quick` for a rough look. A line gives the median time of one call and how much of it the library takes.
 
 mod boxed;
 mod clock;
@@ -10,6 +10,7 @@ mod lists;
 mod lpm;
 mod packs;
 mod runs;
+mod shorts;
 mod six;
 mod trie;
 
@@ -27,7 +28,8 @@ use trie::Trie;
 
 const ARRAYS: usize = 4_096;
 const ROUTES: usize = 100_000;
-const WORDS: [&str; 3] = ["--quick", "--runs", "--six"];
+/// The parts that are measured alone where they are named.
+const PARTS: [&str; 4] = ["--runs", "--six", "--packed", "--shortest"];
 /// About as many as the internet's routers hold.
 const MOST: usize = 1_000_000;
 
@@ -44,26 +46,30 @@ struct Scale {
 }
 
 fn main() {
-    if std::env::args().any(|word| word == "--packed") {
-        return packs::alone();
-    }
-    let full = Scale { addresses: 10_000_000, rounds: 5 };
     let words: Vec<String> = std::env::args().skip(1).collect();
-    assert!(words.iter().all(|word| WORDS.contains(&word.as_str())), "usage: bench/run [--quick] [--runs | --six | --packed]");
-    let told = |word: &str| words.iter().any(|told| told == word);
-    let scale = if told("--quick") { Scale { addresses: 500_000, rounds: 3 } } else { full };
-    let (runs, six) = (!told("--six"), !told("--runs"));
+    let (parts, rest): (Vec<&str>, Vec<&str>) = words.iter().map(String::as_str).partition(|word| PARTS.contains(word));
+    let known = parts.len() < 2 && rest.iter().all(|&word| word == "--quick");
+    assert!(known, "usage: bench/run [--quick] [{}]", PARTS.join(" | "));
+    let (full, quick) = (Scale { addresses: 10_000_000, rounds: 5 }, Scale { addresses: 500_000, rounds: 3 });
+    let scale = if rest.is_empty() { full } else { quick };
+    let named = |part: &str| parts.is_empty() || parts == [part];
     let mut random = Random::for_case(1, "bench", 0);
     let lpm = Lpm::open(2 * MOST as u32, 2 * ARRAYS as u32);
     println!("one call, median of {} rounds; last column: the library's time over this one's", scale.rounds);
-    if runs && six {
+    if parts.is_empty() {
         calls(&mut random, &scale, lpm.as_ref());
     }
-    if runs {
+    if named("--runs") {
         runs::measure_all(&mut random, &scale, lpm.as_ref());
     }
-    if six {
+    if named("--six") {
         six::measure_all(&mut random, &scale);
+    }
+    if named("--shortest") {
+        shorts::measure_all(&mut random, &scale);
+    }
+    if parts == ["--packed"] {
+        packs::measure_all(&mut random, &scale);
     }
     if lpm.is_none() {
         println!("rte_lpm took no part: libdpdk-dev is not installed, or it did not start");

@@ -18,17 +18,12 @@ const PAPER_BITS: usize = 36;
 /// The routes of one of its tables.
 const PAPER_ROUTES: usize = 36_292;
 
-/// Compressed tables alone, of all lists: `bench/run --packed`, or `bench/run --packed --quick`.
-pub fn alone() {
-    let quick = std::env::args().any(|word| word == "--quick");
-    let (addresses, rounds) = if quick { (500_000, 3) } else { (10_000_000, 5) };
-    let scale = Scale { addresses, rounds };
-    let mut random = Random::for_case(1, "bench", 0);
-    println!("one call, median of {} rounds; last column: the library's time over this one's", scale.rounds);
-    for load in [lists::sparse(&mut random, ARRAYS), lists::dense(&mut random, ARRAYS, ROUTES), networks(&mut random)] {
-        whole(&scale, &load);
+/// Of four lists. A whole run has three of them beside the table's own calls.
+pub fn measure_all(random: &mut Random, scale: &Scale) {
+    for load in [lists::sparse(random, ARRAYS), lists::dense(random, ARRAYS, ROUTES), networks(random)] {
+        whole(scale, &load);
     }
-    whole(&scale, &lists::dense(&mut random, ARRAYS, MOST));
+    whole(scale, &lists::dense(random, ARRAYS, MOST));
 }
 
 /// Lookups, words, need and build of a list.
@@ -85,7 +80,7 @@ fn sizes(load: &Load, table: usize, packed: usize, arrays: usize) {
 
 /// As many routes as in one of the scheme's simulations, of lengths 16 to 24 as networks announce them, most of them 24, under as
 /// many heads of 16 bits as a table has arrays for.
-fn networks(random: &mut Random) -> Load {
+pub fn networks(random: &mut Random) -> Load {
     let mut growing = Growing::default();
     let first: Vec<u32> = (0..100).map(|_| random.word() & 0xFF00_0000).collect();
     let heads: Vec<u32> = (0..3_900).map(|_| random.pick(&first) | random.word() >> 8 & 0x00FF_0000).collect();

@@ -1,5 +1,6 @@
 /* With MISTAKE 0 this compiles, in C11 and C++17; with each other number it must not (must-not-compile, the script). */
 #include "toggleash_packed.h"
+#include "toggleash_shortest.h"
 
 static uint32_t words[TOGGLEASH_WORDS(1)], odd[TOGGLEASH_WORDS(1) + 1], card[1040], fewer[2048];
 static uint8_t bytes[TOGGLEASH_WORDS(1)], list[1];
@@ -17,6 +18,7 @@ uint32_t lent(uint32_t parameter[TOGGLEASH_WORDS(1)], const uint32_t *constant) 
     refusal += toggleash_table_announce(table, 0, 0, 1, 1, 0).refusal + toggleash_table_withdraw(table, 0, 0, 1).refusal;
     refusal += toggleash_v6_table_clear(six) + toggleash_v6_table_find(six, address).refusal;
     refusal += toggleash_packed_table_make(packed, table).refusal + toggleash_packed_table_find(packed, 1).refusal;
+    refusal += toggleash_table_shortest(table, TOGGLEASH_SCRATCH(odd), list, sizeof list).refusal;
     (void)pointer, (void)constant, (void)odd, (void)bytes;
 #if MISTAKE == 0
     return refusal;
@@ -89,5 +91,13 @@ uint32_t lent(uint32_t parameter[TOGGLEASH_WORDS(1)], const uint32_t *constant) 
 #elif MISTAKE == 33 /* a refusal that nobody sees */
     toggleash_packed_table_make(packed, table);
     return refusal;
+#elif MISTAKE == 34 /* the table for the scratch */
+    return refusal + toggleash_table_shortest(table, table, list, sizeof list).refusal;
+#elif MISTAKE == 35 /* a table of IPv6 */
+    return refusal + toggleash_table_shortest(six, TOGGLEASH_SCRATCH(odd), list, sizeof list).refusal;
+#elif MISTAKE == 36 /* a pointer has no number of words */
+    return refusal + toggleash_table_shortest(table, TOGGLEASH_SCRATCH(pointer), list, sizeof list).refusal;
+#elif MISTAKE == 37 /* a number of bytes for one of words */
+    return refusal + toggleash_table_shortest(table, odd, sizeof odd, list, sizeof list).refusal;
 #endif
 }

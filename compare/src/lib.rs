@@ -16,5 +16,6 @@ pub mod programs;
 pub mod random;
 pub mod resolves;
 pub mod rooms;
+pub mod shorts;
 pub mod tally;
 pub mod unlisted;

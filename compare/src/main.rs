@@ -95,6 +95,7 @@ fn compare_library(options: &Options) -> u64 {
     depths::<u128>(options, &mut tally);
     all_copies(options, &mut tally);
     damaged_copies(options, &mut tally);
+    compare::shorts::compare(|part, case| begin(options, part, case), options.times, &mut tally);
     compare::packs::compare(|part, case| begin(options, part, case), options.times, &mut tally);
     all_resolves(options, &mut tally);
     tally.answers::<u32>();

@@ -1,9 +1,10 @@
 //! A plain implementation of the rules that docs/FEED.md and docs/COPY.md give, written from the rules alone, to compare the
 //! proved one with.
 //!
-//! Candidates and routes are plain sorted lists. All is over any [`Address`], of IPv4 or of IPv6, but copies and resolving,
-//! which are of IPv4. Nothing here knows the words of a table but [`layout`], which reads docs/LAYOUT.md, nor those of a copy
-//! but [`copy`], which reads docs/COPY.md, nor those of a compressed table but [`packed`], which reads docs/PACKED.md.
+//! Candidates and routes are plain sorted lists. All is over any [`Address`], of IPv4 or of IPv6, but copies, resolving, compressed
+//! tables and the shortest list, which are of IPv4. Nothing here knows the words of a table but [`layout`], which reads
+//! docs/LAYOUT.md, nor those of a copy but [`copy`], which reads docs/COPY.md, nor those of a compressed table but [`packed`], which
+//! reads docs/PACKED.md.
 
 pub mod address;
 pub mod candidates;
@@ -17,6 +18,7 @@ pub mod program;
 pub mod refusal;
 pub mod resolve;
 pub mod rfc5952;
+pub mod shortest;
 
 pub use address::Address;
 pub use candidates::{Candidate, CandidateList, FEEDS};

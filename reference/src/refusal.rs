@@ -28,6 +28,10 @@ pub enum Refusal {
     NoEntry = 21,
     /// No interface after four lookups.
     NoInterface = 22,
+    /// No default route, for the shortest list.
+    NoDefault = 23,
+    /// A winning hop over 32, for the shortest list.
+    HighHop = 24,
 }
 
 impl Refusal {

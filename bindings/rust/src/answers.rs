@@ -3,14 +3,16 @@
 use core::error::Error;
 use core::fmt;
 
-/// Why a call refused. A refused call has changed nothing that was lent to it.
+/// Why a call refused. A refused call has changed nothing that was lent to it, but for the scratch of
+/// [`shortest`](crate::shortest) after 9.
 ///
-/// Where several apply, the first in this order is given: 1, 3, 4, 5, 10, 2, 7, 8 or 9. There is no 6. Those from 20 on are
-/// told by [`resolve`](crate::resolve) alone.
+/// Where several apply, the first in this order is given: 1, 3, 4, 5, 10, 2, 7, 8 or 9. There is no 6. Those from 20 to 22 are
+/// told by [`resolve`](crate::resolve) alone, 23 and 24 by [`shortest`](crate::shortest), before 9.
 #[derive(Clone, Copy, Debug, PartialEq, Eq, Hash)]
 #[repr(u8)]
 pub enum Refusal {
-    /// 1: the number of words is not a multiple of 3,072 from 6,144 to 12,585,984.
+    /// 1: the number of words is not a multiple of 3,072 from 6,144 to 12,585,984. From [`shortest`](crate::shortest) also: the
+    /// scratch has fewer words than the table.
     WordCount = 1,
     /// 2: the words are not a table. [`lookup`](crate::lookup) does not test that; it gives 2 where a cell on its walk has a
     /// length over 8, no link and a block over 8, or a link to an array that the words do not have, as any link has at the
@@ -44,6 +46,10 @@ pub enum Refusal {
     NoEntry = 21,
     /// 22: no interface after four lookups.
     NoInterface = 22,
+    /// 23: the table has no default route.
+    NoDefault = 23,
+    /// 24: the winning hop of a prefix is over 32.
+    HighHop = 24,
 }
 
 impl Refusal {
@@ -51,7 +57,7 @@ impl Refusal {
     #[allow(non_upper_case_globals)]
     pub const LengthOver32: Refusal = Refusal::LengthOver;
 
-    const ALL: [Refusal; 12] = [
+    const ALL: [Refusal; 14] = [
         Refusal::WordCount,
         Refusal::NotATable,
         Refusal::LengthOver,
@@ -64,9 +70,11 @@ impl Refusal {
         Refusal::NoRoute,
         Refusal::NoEntry,
         Refusal::NoInterface,
+        Refusal::NoDefault,
+        Refusal::HighHop,
     ];
 
-    /// The number, from 1 to 10 or 20 to 22, that replies and the calls of C give.
+    /// The number, from 1 to 10 or 20 to 24, that replies and the calls of C give.
     pub fn number(self) -> u8 {
         self as u8
     }
@@ -87,7 +95,9 @@ impl Refusal {
 impl fmt::Display for Refusal {
     fn fmt(&self, f: &mut fmt::Formatter<'_>) -> fmt::Result {
         let reason = match self {
-            Refusal::WordCount => "the number of words is not a multiple of 3,072 from 6,144 to 12,585,984",
+            Refusal::WordCount => {
+                "the number of words is not a multiple of 3,072 from 6,144 to 12,585,984, or the scratch has fewer"
+            }
             Refusal::NotATable => "the words are not a table, a copy or a compressed table, or the bytes not a list",
             Refusal::LengthOver => "the length is over 32, or of a prefix of IPv6 over 128",
             Refusal::StrayBit => "a bit after the length is set",
@@ -101,6 +111,8 @@ impl fmt::Display for Refusal {
             Refusal::NoRoute => "no route matches",
             Refusal::NoEntry => "more than 256 entries, or a hop without an entry, or with one out of range",
             Refusal::NoInterface => "no interface after four lookups",
+            Refusal::NoDefault => "the table has no default route",
+            Refusal::HighHop => "a winning hop is over 32",
         };
         write!(f, "refused {}: {reason}", self.number())
     }

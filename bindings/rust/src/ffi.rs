@@ -110,6 +110,8 @@ static VERSION: unsafe extern "C" fn() -> u32 = toggleash_version_4;
 static RESOLVE_VERSION: unsafe extern "C" fn() -> u32 = toggleash_resolve_version_4;
 #[used]
 static PACKED_VERSION: unsafe extern "C" fn() -> u32 = toggleash_packed_version_4;
+#[used]
+static SHORTEST_VERSION: unsafe extern "C" fn() -> u32 = toggleash_shortest_version_4;
 
 extern "C" {
     pub fn toggleash_version_4() -> u32;
@@ -176,4 +178,17 @@ extern "C" {
     pub fn toggleash_packed_need(words: *const u32, n: usize) -> Needed;
     pub fn toggleash_packed_build(words: *const u32, n: usize, packed: *mut u32, m: usize) -> Packed;
     pub fn toggleash_packed_lookup(packed: *const u32, m: usize, address: u32) -> Match;
+}
+
+// of libtoggleash_shortest.a; bindings/c/toggleash_shortest.h says what it takes and gives
+extern "C" {
+    pub fn toggleash_shortest_version_4() -> u32;
+    pub fn toggleash_shortest(
+        words: *const u32,
+        n: usize,
+        scratch: *mut u32,
+        s: usize,
+        buffer: *mut u8,
+        room: usize,
+    ) -> Written;
 }

@@ -32,10 +32,11 @@
 //! over the trait [`Family`] of their addresses, which has the calls on words too. Copies are of IPv4.
 //!
 //! [`resolve`] goes on from a hop of an IPv4 table to the interface that packets leave by. [`Packed`] keeps the words of a
-//! compressed table, which is made from an IPv4 table and answers its lookups in fewer words.
+//! compressed table, which is made from an IPv4 table and answers its lookups in fewer words. [`shortest`] writes the shortest list
+//! that forwards as an IPv4 table does.
 //!
-//! The archives libtoggleash.a, libtoggleash_resolve.a and libtoggleash_packed.a are looked for where `./build` of the repository
-//! writes them, or in the folder that the environment variable `TOGGLEASH_LIB_DIR` names while this crate is built.
+//! The archives, libtoggleash.a and those beside it, are looked for where `./build` of the repository writes them, or in the
+//! folder that the environment variable `TOGGLEASH_LIB_DIR` names while this crate is built.
 
 #![no_std]
 #![warn(missing_docs)]
@@ -51,6 +52,7 @@ pub mod ffi;
 pub mod packed;
 mod prefix;
 pub mod resolve;
+pub mod shortest;
 mod table;
 
 pub use answers::{Counts, Lookup, Match, Ran, Refusal, Stop, Update};

@@ -59,7 +59,7 @@ module _ (t u : Arrays) (tags : (c : ℕ) → 1 ≤ c → u .tag c ≡ t .tag c)
       ∙ sym (down-some t (node t (v / 256) k) (v % 256) h))))
 
 -- two slots that are one have one length and value
-slot-one : (d e x y : ℕ) → x < 2 ^ d → y < 2 ^ e → 2 ^ d + x ≡ 2 ^ e + y → (d ≡ e) × (x ≡ y)
+pub slot-one : (d e x y : ℕ) → x < 2 ^ d → y < 2 ^ e → 2 ^ d + x ≡ 2 ^ e + y → (d ≡ e) × (x ≡ y)
 slot-one d e x y h w q =
     tri d e
     (λ l _. absurd (omega (arith, pow-mono {i = suc d} {j = e} l)))

@@ -3,6 +3,7 @@
 
 mod cell;
 mod lay;
+mod places;
 mod read;
 mod slot;
 mod totals;
@@ -11,6 +12,7 @@ mod within;
 
 pub use cell::{Cell, End, LINKS, MOST};
 pub use lay::lay;
+pub use places::places;
 pub use read::{check, read};
 pub use slot::{winner, winners, word, HOPS, SLOT};
 pub use totals::fill_totals;

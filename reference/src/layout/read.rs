@@ -105,7 +105,7 @@ fn collect<A: Address>(arrays: &Arrays, a: usize, level: u32, head: A, found: &m
 }
 
 /// The prefix that a slot of the array at this level, with this head, stands for.
-fn prefix_of<A: Address>(slot: usize, level: u32, head: A) -> Prefix<A> {
+pub fn prefix_of<A: Address>(slot: usize, level: u32, head: A) -> Prefix<A> {
     let bits = slot.ilog2();
     let value = slot - (1 << bits);
     Prefix { address: head | A::with_byte((value << (8 - bits)) as u8, level), length: 8 * level + bits }

@@ -1,0 +1,16 @@
+pub mod Shortest
+pub mod HopSet
+pub mod Chosen
+pub mod Inside
+pub mod Least
+pub mod Given
+pub mod Lists
+pub mod Proved
+pub mod Alone
+pub mod Leaf
+pub mod Seen
+pub mod Answered
+pub mod Flat
+pub mod Found
+pub mod Room
+pub mod Worked

@@ -1,0 +1,5 @@
+pub mod Steps
+pub mod Seats
+pub mod Looked
+pub mod Kept
+pub mod Records

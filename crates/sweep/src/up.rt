@@ -1,0 +1,43 @@
+// The pass from below: the set of every prefix that has a slot, kept in the scratch at the slot's first word.
+use super::half::lower;
+use super::set::join;
+use super::set::price;
+use super::set::single;
+use super::set::under;
+use sizes::SLOT_WORDS;
+ghost use Rattle.sweep.specs.Asked.{KeepsSets, HasKept};
+
+// The set of a prefix, and for how many prefixes in it the halves have no hop in common.
+pub struct Part {
+    pub set: u32,
+    pub cost: usize,
+}
+
+// Keeps the sets of the prefix in `slot`, with some bits below it, and of all below it, where a hop comes from above.
+pub fn keep_sets(words: &[u32], slot: usize, bits: usize, above: u32, scratch: &mut [u32]) -> Part
+    requires { ⌜ KeepsSets (now words) slot bits above (now scratch) ⌝ }
+    ensures { λ r. ⌜ HasKept (now (words .entry)) slot bits above (now (scratch .entry))
+        (r .set) (r .cost) (now (scratch .exit)) ⌝ }
+{
+    let hop = under(slots::slot::hop_at(words, slot), above);
+    let low = lower(words, slot, bits);
+    if low == 0 {
+        let alone = single(hop);
+        scratch[slot] = alone;
+        return Part {
+            set: alone,
+            cost: 0,
+        };
+    }
+    let high = low + SLOT_WORDS;
+    let rest = bits - 1;
+    let x = keep_sets(words, low, rest, hop, scratch);
+    let y = keep_sets(words, high, rest, hop, scratch);
+    let set = join(x.set, y.set);
+    let cost = x.cost + y.cost + price(x.set, y.set);
+    scratch[slot] = set;
+    Part {
+        set: set,
+        cost: cost,
+    }
+}
