@@ -3,7 +3,7 @@
 
 # The archives. Of CRATE:PART libtoggleashPART.a is made from the crate, with bindings/c/toggleashPART.h and tools/facePART.c.
 # shellcheck disable=SC2034 # for the scripts
-archives='toggleash: resolver:_resolve packing:_packed shortener:_shortest'
+archives='toggleash: resolver:_resolve packing:_packed shortener:_shortest damper:_damp'
 
 # Ends the script with one line on standard error.
 stop() {

@@ -1,10 +1,11 @@
 //! Measures the library beside other ways of doing the same, all in one run: `bench/run`, with `--runs` for the updates inside
-//! an IPv4 run alone, with `--six` for IPv6 alone, with `--packed` and `--shortest` for compressed tables and the shortest list alone,
-//! with `--quick` for a rough look. A line gives the median time of one call and how much of it the library takes.
+//! an IPv4 run alone, with `--six` for IPv6 alone, with `--packed`, `--shortest` and `--fronts` for compressed tables, the shortest list
+//! and fronts alone, with `--quick` for a rough look. A line gives the median time of one call and how much of it the library takes.
 
 mod boxed;
 mod clock;
 mod copies;
+mod fronts;
 mod insides;
 mod lists;
 mod lpm;
@@ -29,7 +30,7 @@ use trie::Trie;
 const ARRAYS: usize = 4_096;
 const ROUTES: usize = 100_000;
 /// The parts that are measured alone where they are named.
-const PARTS: [&str; 4] = ["--runs", "--six", "--packed", "--shortest"];
+const PARTS: [&str; 5] = ["--runs", "--six", "--packed", "--shortest", "--fronts"];
 /// About as many as the internet's routers hold.
 const MOST: usize = 1_000_000;
 
@@ -67,6 +68,9 @@ fn main() {
     }
     if named("--shortest") {
         shorts::measure_all(&mut random, &scale);
+    }
+    if named("--fronts") {
+        fronts::measure_all(&mut random, &scale);
     }
     if parts == ["--packed"] {
         packs::measure_all(&mut random, &scale);

@@ -1,8 +1,10 @@
 /* With MISTAKE 0 this compiles, in C11 and C++17; with each other number it must not (must-not-compile, the script). */
+#include "toggleash_damp.h"
 #include "toggleash_packed.h"
 #include "toggleash_shortest.h"
 
-static uint32_t words[TOGGLEASH_WORDS(1)], odd[TOGGLEASH_WORDS(1) + 1], card[1040], fewer[2048];
+static uint32_t words[TOGGLEASH_WORDS(1)], odd[TOGGLEASH_WORDS(1) + 1], card[1040], fewer[2048],
+    held[TOGGLEASH_FRONT_WORDS];
 static uint8_t bytes[TOGGLEASH_WORDS(1)], list[1];
 
 uint32_t lent(uint32_t parameter[TOGGLEASH_WORDS(1)], const uint32_t *constant);
@@ -13,12 +15,14 @@ uint32_t lent(uint32_t parameter[TOGGLEASH_WORDS(1)], const uint32_t *constant) 
     toggleash_ipv6 address = {{0}};
     toggleash_copy copy = TOGGLEASH_COPY(card);
     toggleash_packed_table packed = TOGGLEASH_PACKED_TABLE(fewer);
+    toggleash_damper damper = TOGGLEASH_FRONT(held);
     uint32_t *pointer = parameter;
     uint32_t refusal = toggleash_table_clear(table) + toggleash_copy_make(copy, list, sizeof list).refusal;
     refusal += toggleash_table_announce(table, 0, 0, 1, 1, 0).refusal + toggleash_table_withdraw(table, 0, 0, 1).refusal;
     refusal += toggleash_v6_table_clear(six) + toggleash_v6_table_find(six, address).refusal;
     refusal += toggleash_packed_table_make(packed, table).refusal + toggleash_packed_table_find(packed, 1).refusal;
     refusal += toggleash_table_shortest(table, TOGGLEASH_SCRATCH(odd), list, sizeof list).refusal;
+    refusal += toggleash_damper_clear(damper) + toggleash_damper_tick(damper, table).refusal;
     (void)pointer, (void)constant, (void)odd, (void)bytes;
 #if MISTAKE == 0
     return refusal;
@@ -99,5 +103,15 @@ uint32_t lent(uint32_t parameter[TOGGLEASH_WORDS(1)], const uint32_t *constant) 
     return refusal + toggleash_table_shortest(table, TOGGLEASH_SCRATCH(pointer), list, sizeof list).refusal;
 #elif MISTAKE == 37 /* a number of bytes for one of words */
     return refusal + toggleash_table_shortest(table, odd, sizeof odd, list, sizeof list).refusal;
+#elif MISTAKE == 38 /* a front is no table, and a table no front */
+    return refusal + toggleash_damper_tick(table, damper).refusal;
+#elif MISTAKE == 39
+    return refusal + toggleash_table_clear(damper);
+#elif MISTAKE == 40 /* no front has so many words */
+    return refusal + toggleash_damper_clear(TOGGLEASH_FRONT(card));
+#elif MISTAKE == 41
+    return refusal + toggleash_damper_clear(TOGGLEASH_FRONT(pointer));
+#elif MISTAKE == 42 /* there is no front of IPv6 */
+    return refusal + toggleash_damper_tick(damper, six).refusal;
 #endif
 }

@@ -19,7 +19,7 @@ const TARGETS: [(&str, u16, bool, bool); 6] = [
 fn main() {
     println!("cargo:rerun-if-env-changed=TOGGLEASH_LIB_DIR");
     let target = target();
-    for library in ["toggleash", "toggleash_resolve", "toggleash_packed", "toggleash_shortest"] {
+    for library in ["toggleash", "toggleash_resolve", "toggleash_packed", "toggleash_shortest", "toggleash_damp"] {
         link(&target, library);
     }
 }

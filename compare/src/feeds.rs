@@ -220,7 +220,7 @@ impl<'a, A: Family> Source<'a, A> {
 }
 
 /// Any kind, mostly one that no record of a family has: that is for the two sides to say.
-fn any_kind(random: &mut Random) -> u8 {
+pub fn any_kind(random: &mut Random) -> u8 {
     match random.chance(70) {
         true => random.pick(&KINDS),
         false => random.byte(),
@@ -249,7 +249,7 @@ pub fn program_feed<A: Family>(random: &mut Random, arrays: usize, length: usize
 }
 
 /// The bytes of a record; a plain one names no feed, where it need not and a kind has none.
-fn encode<A: Family>(record: Record<A>, plain: bool, bytes: &mut Vec<u8>) {
+pub fn encode<A: Family>(record: Record<A>, plain: bool, bytes: &mut Vec<u8>) {
     let both = |named: Role, plain_role: Role, may: bool| match kind_of::<A>(plain_role).filter(|_| plain && may) {
         Some(kind) => (Some(kind), false),
         None => (kind_of::<A>(named), true),

@@ -2,9 +2,11 @@
 
 pub mod copies;
 pub mod damage;
+pub mod damps;
 pub mod face;
 pub mod family;
 pub mod feeds;
+pub mod flapping;
 pub mod foreign;
 pub mod guard;
 pub mod insides;

@@ -1,16 +1,19 @@
-//! Compares the library, through the bindings, with the reference on random input; or, with `--programs` or `--programs6`, the
-//! proved program of IPv4 or of IPv6 with the reference. Exits with status 1 on any difference.
+//! Compares the library, through the bindings, with the reference on random input; or, with `--programs`, `--programs6` or
+//! `--flaps`, the proved program of IPv4, of IPv6 or through a front with the reference. Exits with status 1 on any difference.
 
 use std::process::ExitCode;
 
 use compare::family::Family;
+use compare::feeds::{self, Terrain};
+use compare::flapping::Flock;
 use compare::pair::Same;
 use compare::random::Random;
 use compare::resolves::{self, Resolves};
 use compare::tally::Tally;
 use compare::{copies, damage, face, foreign, guard, programs, rooms, unlisted};
+use reference::CandidateList;
 
-const USAGE: &str = "usage: compare [--long] [--seed NUMBER] [--programs PROVED SECOND | --programs6 PROVED SECOND]";
+const USAGE: &str = "usage: compare [--long] [--seed NUMBER] [(--programs | --programs6 | --flaps) PROVED SECOND]";
 
 /// What a plain run does of a family's tables: records that the rooms take between them, the largest rooms, and memories that
 /// are damaged; and the feeds that its program takes.
@@ -39,6 +42,9 @@ const SIX: Share = Share {
     parts: ["sizes of IPv6", "damage of IPv6", "rooms of IPv6", "largest of IPv6", "programs of IPv6"],
 };
 
+/// Of the program through a front.
+const FLAPS: Share = Share { records: 0, largest: 0, damaged: 0, feeds: 200, parts: ["", "", "", "", "flaps"] };
+
 /// Copies that a plain run builds from lists, and lists and copies that it damages.
 const COPIES: u64 = 600;
 const DAMAGED_COPIES: u64 = 24_000;
@@ -50,8 +56,8 @@ const LONG: u64 = 20;
 struct Options {
     seed: u64,
     times: u64,
-    programs: Option<(String, String)>,
-    six: bool,
+    /// Which program, the proved one and the reference.
+    programs: Option<(String, String, String)>,
 }
 
 fn main() -> ExitCode {
@@ -60,23 +66,25 @@ fn main() -> ExitCode {
         return ExitCode::from(2);
     };
     let differences = match &options.programs {
-        Some((proved, second)) if options.six => compare_programs::<u128>(&options, &SIX, proved, &[second, "6"]),
-        Some((proved, second)) => compare_programs::<u32>(&options, &FOUR, proved, &[second]),
+        Some((which, proved, second)) => match which.as_str() {
+            "--programs6" => compare_programs(&options, &SIX, program_feed::<u128>, proved, &[second, "6"]),
+            "--flaps" => compare_programs(&options, &FLAPS, flaps_feed, proved, &[second, "flaps"]),
+            _ => compare_programs(&options, &FOUR, program_feed::<u32>, proved, &[second]),
+        },
         None => compare_library(&options),
     };
     ExitCode::from(u8::from(differences > 0))
 }
 
 fn options() -> Option<Options> {
-    let mut options = Options { seed: 1, times: 1, programs: None, six: false };
+    let mut options = Options { seed: 1, times: 1, programs: None };
     let mut words = std::env::args().skip(1);
     while let Some(word) = words.next() {
         match word.as_str() {
             "--long" => options.times = LONG,
             "--seed" => options.seed = words.next()?.parse().ok()?,
-            "--programs" | "--programs6" => {
-                options.six = word == "--programs6";
-                options.programs = Some((words.next()?, words.next()?));
+            "--programs" | "--programs6" | "--flaps" => {
+                options.programs = Some((word, words.next()?, words.next()?));
             }
             _ => return None,
         }
@@ -98,6 +106,7 @@ fn compare_library(options: &Options) -> u64 {
     compare::shorts::compare(|part, case| begin(options, part, case), options.times, &mut tally);
     compare::packs::compare(|part, case| begin(options, part, case), options.times, &mut tally);
     all_resolves(options, &mut tally);
+    compare::damps::compare(|part, case| begin(options, part, case), options.times, &mut tally);
     tally.answers::<u32>();
     tally.answers::<u128>();
     tally.copies();
@@ -232,13 +241,30 @@ fn all_resolves(options: &Options, tally: &mut Tally) {
     tally.differences += seen.told();
 }
 
-fn compare_programs<A: Family>(options: &Options, share: &Share, proved: &str, second: &[&str]) -> u64 {
+/// A feed of so many bytes for the program of a family.
+fn program_feed<A: Family>(random: &mut Random, length: usize) -> Vec<u8> {
+    feeds::program_feed::<A>(random, A::PROGRAM_ARRAYS, length)
+}
+
+/// The same with ticks, for the program through a front.
+fn flaps_feed(random: &mut Random, length: usize) -> Vec<u8> {
+    let terrain = Terrain::new(random, 3);
+    Flock::new(random, &terrain, &CandidateList::default()).program_feed(random, length)
+}
+
+fn compare_programs(
+    options: &Options,
+    share: &Share,
+    feed: impl Fn(&mut Random, usize) -> Vec<u8>,
+    proved: &str,
+    second: &[&str],
+) -> u64 {
     let (mut feeds, mut lines, mut tally) = (0, 0, Tally::default());
     let part = share.parts[4];
     for case in 0..share.feeds * options.times as usize {
         feeds += 1;
         let mut random = begin(options, part, case as u64);
-        let result = programs::compare::<A>(&mut random, case, proved, second).map(|count| lines += count);
+        let result = programs::compare(&mut random, case, &feed, proved, second).map(|count| lines += count);
         tally.case(part, case as u64, result);
         if tally.enough() {
             break;

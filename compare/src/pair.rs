@@ -238,7 +238,7 @@ fn same_update(what: impl Fn() -> String, told: Told<toggleash::Update>, expecte
 }
 
 /// The words without a use, which only clearing writes, are as they were.
-fn unused_left(what: impl Fn() -> String, before: &[u32], after: &[u32]) -> Same {
+pub fn unused_left(what: impl Fn() -> String, before: &[u32], after: &[u32]) -> Same {
     let pages = before.chunks(ARRAY_WORDS).zip(after.chunks(ARRAY_WORDS)).enumerate();
     for (a, (before, after)) in pages.skip(1).filter(|(_, (before, after))| before != after) {
         if let Some(at) = unused().find(|&at| before[at] != after[at]) {

@@ -6,17 +6,21 @@ use std::process::{Command, Output, Stdio};
 use std::thread;
 use std::time::Duration;
 
-use crate::family::Family;
-use crate::feeds::program_feed;
 use crate::random::Random;
 
 /// Lengths of input at the limit of 4,096 and far over it.
 const LENGTHS: [usize; 8] = [0, 1, 4_095, 4_096, 4_097, 4_098, 8_192, 200_000];
 
-/// Runs both on one feed, the second by these words. Gives the number of lines, or what differs.
-pub fn compare<A: Family>(random: &mut Random, case: usize, proved: &str, reference: &[&str]) -> Result<usize, String> {
+/// Runs both on one feed of a length, the second by these words. Gives the number of lines, or what differs.
+pub fn compare(
+    random: &mut Random,
+    case: usize,
+    feed: impl Fn(&mut Random, usize) -> Vec<u8>,
+    proved: &str,
+    reference: &[&str],
+) -> Result<usize, String> {
     let length = LENGTHS.get(case).copied().unwrap_or_else(|| random.below(4_098));
-    let feed = program_feed::<A>(random, A::PROGRAM_ARRAYS, length);
+    let feed = feed(random, length);
     // A program must not take the first part of a pipe's bytes for all of them.
     let cut = random.chance(5).then(|| random.below(length + 1));
     let mut second = Command::new(reference[0]);

@@ -5,7 +5,7 @@ use crate::memory::{Lookup, Memory, Update};
 use crate::refusal::Refusal;
 
 /// The free reply bytes that every record but end asks for, whatever its reply takes.
-const REPLY_ROOM: usize = 5;
+pub(crate) const REPLY_ROOM: usize = 5;
 
 /// What the records of a kind ask for, and whether they name their feed.
 #[derive(Clone, Copy, Debug, PartialEq, Eq)]
@@ -74,7 +74,7 @@ pub fn kind_of<A: Address>(role: Role) -> Option<u8> {
 }
 
 /// The first record and its size, or the stop that the feed itself gives.
-fn first_record<A: Address>(feed: &[u8]) -> Result<(Record<A>, usize), Stop> {
+pub(crate) fn first_record<A: Address>(feed: &[u8]) -> Result<(Record<A>, usize), Stop> {
     let (&first, body) = feed.split_first().ok_or(Stop::NoByteLeft)?;
     if first == 0 {
         return Ok((Record::End, 1));

@@ -106,9 +106,7 @@ impl<A: Address> Memory<A> {
     ) -> Result<Update, Refusal> {
         let room = self.room()?;
         let prefix = well_formed(address, length)?;
-        if hop == 0 || hop > 65_535 {
-            return Err(Refusal::HopOutOfRange);
-        }
+        right_hop(hop)?;
         known(feed)?;
         let list = self.list_mut()?;
         let before = list.winners().hop(prefix);
@@ -150,7 +148,14 @@ pub fn well_formed<A: Address>(address: A, length: u32) -> Result<Prefix<A>, Ref
     Ok(prefix)
 }
 
-fn known(feed: u32) -> Result<(), Refusal> {
+pub(crate) fn right_hop(hop: u32) -> Result<(), Refusal> {
+    match hop {
+        1..=65_535 => Ok(()),
+        _ => Err(Refusal::HopOutOfRange),
+    }
+}
+
+pub(crate) fn known(feed: u32) -> Result<(), Refusal> {
     match feed {
         1..=FEEDS => Ok(()),
         _ => Err(Refusal::FeedOutOfRange),

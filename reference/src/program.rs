@@ -8,7 +8,7 @@ use crate::memory::{Lookup, Memory, ARRAY_WORDS};
 
 /// The longest feed that the program takes.
 pub const MOST_INPUT: usize = 4_096;
-const REPLY_BYTES: usize = 4_096;
+pub(crate) const REPLY_BYTES: usize = 4_096;
 
 /// All that the program of a family prints for an input.
 pub fn output<A: Address>(input: &[u8]) -> String {
@@ -33,7 +33,7 @@ pub fn output<A: Address>(input: &[u8]) -> String {
     )
 }
 
-fn sent<A: Address>(record: Record<A>) -> String {
+pub(crate) fn sent<A: Address>(record: Record<A>) -> String {
     match record {
         Record::End => "end".to_string(),
         Record::Announce { address, length, .. } => format!("announce {}/{length}", address.text()),
@@ -42,7 +42,7 @@ fn sent<A: Address>(record: Record<A>) -> String {
     }
 }
 
-fn answered<A: Address>(answer: Answer<A>) -> String {
+pub(crate) fn answered<A: Address>(answer: Answer<A>) -> String {
     match answer {
         Answer::Done(update) => format!("via {} cells {}", update.hop, update.cells),
         Answer::Looked(Lookup { route: Some(route), block }) => {

@@ -5,7 +5,7 @@ use core::hash::Hash;
 use core::net::{Ipv4Addr, Ipv6Addr};
 use core::str::FromStr;
 
-use crate::{accepted, count, ffi, matched, mismatch, updated, Candidate, Counts, Lookup, Ran, Refusal, Stop, Update};
+use crate::{accepted, count, ffi, matched, ran, updated, Candidate, Counts, Lookup, Ran, Refusal, Update};
 
 /// The family of a table, by what its addresses are: [`Ipv4Addr`] or [`Ipv6Addr`].
 ///
@@ -113,15 +113,7 @@ pub trait Family: Copy + Ord + Hash + Debug + Display + FromStr + Send + Sync + 
     fn run(words: &mut [u32], feed: &[u8], reply: &mut [u8]) -> Result<Ran, Refusal> {
         let (words, n) = (words.as_mut_ptr(), words.len());
         let (bytes, room) = (reply.as_mut_ptr(), reply.len());
-        let ran = unsafe { (Self::CALLS.run)(words, n, feed.as_ptr(), feed.len(), bytes, room) };
-        accepted(ran.refusal)?;
-        Ok(Ran {
-            stop: Stop::from_number(ran.stop).unwrap_or_else(|| mismatch("stop", ran.stop)),
-            consumed: count(ran.consumed),
-            written: count(ran.written),
-            accepted: count(ran.accepted),
-            refused: count(ran.refused),
-        })
+        ran(unsafe { (Self::CALLS.run)(words, n, feed.as_ptr(), feed.len(), bytes, room) })
     }
 }
 

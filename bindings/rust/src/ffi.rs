@@ -103,6 +103,14 @@ pub struct Packed {
     pub words: u64,
 }
 
+#[repr(C)]
+#[derive(Clone, Copy, Debug, Default, PartialEq, Eq)]
+pub struct Front {
+    pub refusal: u32,
+    pub places: u32,
+    pub held_back: u32,
+}
+
 /// Kept in each program, so that an archive of another version does not link.
 #[used]
 static VERSION: unsafe extern "C" fn() -> u32 = toggleash_version_4;
@@ -112,6 +120,8 @@ static RESOLVE_VERSION: unsafe extern "C" fn() -> u32 = toggleash_resolve_versio
 static PACKED_VERSION: unsafe extern "C" fn() -> u32 = toggleash_packed_version_4;
 #[used]
 static SHORTEST_VERSION: unsafe extern "C" fn() -> u32 = toggleash_shortest_version_4;
+#[used]
+static DAMP_VERSION: unsafe extern "C" fn() -> u32 = toggleash_damp_version_4;
 
 extern "C" {
     pub fn toggleash_version_4() -> u32;
@@ -191,4 +201,42 @@ extern "C" {
         buffer: *mut u8,
         room: usize,
     ) -> Written;
+}
+
+// of libtoggleash_damp.a; bindings/c/toggleash_damp.h says what they take and give
+extern "C" {
+    pub fn toggleash_damp_version_4() -> u32;
+    pub fn toggleash_damp_clear(front: *mut u32, m: usize) -> u32;
+    pub fn toggleash_damp_check(front: *const u32, m: usize) -> Front;
+    pub fn toggleash_damp_announce(
+        front: *mut u32,
+        m: usize,
+        words: *mut u32,
+        n: usize,
+        address: u32,
+        length: u32,
+        hop: u32,
+        feed: u32,
+        preference: u8,
+    ) -> Update;
+    pub fn toggleash_damp_withdraw(
+        front: *mut u32,
+        m: usize,
+        words: *mut u32,
+        n: usize,
+        address: u32,
+        length: u32,
+        feed: u32,
+    ) -> Update;
+    pub fn toggleash_damp_tick(front: *mut u32, m: usize, words: *mut u32, n: usize) -> Front;
+    pub fn toggleash_damp_run(
+        front: *mut u32,
+        m: usize,
+        words: *mut u32,
+        n: usize,
+        feed: *const u8,
+        feed_len: usize,
+        reply: *mut u8,
+        reply_len: usize,
+    ) -> Ran;
 }

@@ -33,7 +33,8 @@
 //!
 //! [`resolve`] goes on from a hop of an IPv4 table to the interface that packets leave by. [`Packed`] keeps the words of a
 //! compressed table, which is made from an IPv4 table and answers its lookups in fewer words. [`shortest`] writes the shortest list
-//! that forwards as an IPv4 table does.
+//! that forwards as an IPv4 table does. [`damp`] has a front before an IPv4 table, which holds candidates back that come and go too
+//! often.
 //!
 //! The archives, libtoggleash.a and those beside it, are looked for where `./build` of the repository writes them, or in the
 //! folder that the environment variable `TOGGLEASH_LIB_DIR` names while this crate is built.
@@ -46,6 +47,7 @@ use core::net::Ipv4Addr;
 mod answers;
 mod candidate;
 pub mod copy;
+pub mod damp;
 mod family;
 mod feed;
 pub mod ffi;
@@ -90,9 +92,9 @@ pub const fn written_bytes(routes: usize) -> usize {
     Record::written_bytes(routes)
 }
 
-// SAFETY of all calls in `family`, `copy`, `packed` and `resolve`: a slice's pointer is aligned and leads to as many elements as
-// its length says, alone if the slice is mutable, and the calls stay inside that. An empty slice's pointer leads nowhere, but
-// with length 0 the calls follow no pointer.
+// SAFETY of all calls in `family`, `copy`, `packed`, `damp` and `resolve`: a slice's pointer is aligned and leads to as many
+// elements as its length says, alone if the slice is mutable, and the calls stay inside that. An empty slice's pointer leads
+// nowhere, but with length 0 the calls follow no pointer.
 
 /// Makes the words the table of no route, whatever they hold.
 ///
@@ -268,6 +270,17 @@ fn matched(found: u32, hop: u32, length: u32) -> Option<Match> {
 fn updated(update: ffi::Update) -> Result<Update, Refusal> {
     accepted(update.refusal)?;
     Ok(Update { hop: update.hop, cells: update.cells })
+}
+
+fn ran(ran: ffi::Ran) -> Result<Ran, Refusal> {
+    accepted(ran.refusal)?;
+    Ok(Ran {
+        stop: Stop::from_number(ran.stop).unwrap_or_else(|| mismatch("stop", ran.stop)),
+        consumed: count(ran.consumed),
+        written: count(ran.written),
+        accepted: count(ran.accepted),
+        refused: count(ran.refused),
+    })
 }
 
 /// Counts are at most the length of a slice; what a copy or a compressed table needs is below 2^32, as its list needs at most

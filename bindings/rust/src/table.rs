@@ -160,6 +160,11 @@ impl<W: AsRef<[u32]>> Table<W> {
 }
 
 impl<A: Family, W: AsRef<[u32]> + AsMut<[u32]>> TableOf<A, W> {
+    /// For a front, which leaves a table a table.
+    pub(crate) fn words_mut(&mut self) -> &mut [u32] {
+        self.words.as_mut()
+    }
+
     /// Makes the words the table of no route, whatever they hold.
     ///
     /// # Errors

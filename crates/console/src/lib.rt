@@ -3,6 +3,7 @@ mod address;
 mod lines;
 mod reads;
 mod text;
+pub mod through; // the same through a front
 
 ghost use Prim.Native.Nat.{_≤_};
 ghost use lib.ListN.{length};

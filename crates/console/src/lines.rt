@@ -9,10 +9,10 @@ use families::Family;
 use families::Role;
 
 // Before a record of the feed, before its reply, and before its line.
-struct Place {
-    at: usize,
-    from: usize,
-    to: usize,
+pub(crate) struct Place {
+    pub(crate) at: usize,
+    pub(crate) from: usize,
+    pub(crate) to: usize,
 }
 
 // The lines of all records replied to, at the front of `out`. Hands back their length.
@@ -32,7 +32,7 @@ pub(crate) fn lines(family: Family, feed: &[u8], replies: &[u8], out: &mut [u8])
 
 impl Place {
     // The line of the record that is next.
-    fn line(self, family: Family, feed: &[u8], replies: &[u8], out: &mut [u8]) -> Place
+    pub(crate) fn line(self, family: Family, feed: &[u8], replies: &[u8], out: &mut [u8]) -> Place
         requires { ⌜ (self .at < length (now feed)) × (self .from < length (now replies)) × (self .to ≤ length (now out)) ⌝ }
         ensures { λ r. ⌜ (self .at < r .at) × (r .at ≤ length (now (feed .entry))) × (r .from ≤ length (now (replies .entry)))
             × (r .to ≤ length (now (out .exit))) ⌝ }
@@ -52,7 +52,7 @@ impl Place {
 }
 
 // n bytes on, and no further than the end.
-fn past(at: usize, n: usize, end: usize) -> usize
+pub(crate) fn past(at: usize, n: usize, end: usize) -> usize
     requires { ⌜ (at < end) × (0 < n) ⌝ }
     ensures { λ r. ⌜ (at < r) × (r ≤ end) ⌝ }
 {

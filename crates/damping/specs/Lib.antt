@@ -3,3 +3,5 @@ pub mod Update
 pub mod Refuse
 pub mod Count
 pub mod Tick
+pub mod Held
+pub mod Sharp

@@ -79,7 +79,7 @@ module _ (fs ws : List ℕ) (u : Update) where
   refuses : (n : ℕ) → dampedOn 32 (seenFront fs) (seen 4 ws) u ≡ refused n
       → behindOn 32 (seenFront fs) (seen 4 ws) u ≡ seen 4 ws → placesOn 32 (seenFront fs) (seen 4 ws) u ≡ seenFront fs
       → HasDamped fs ws fs ws u (Refused n)
-  refuses n a l p = record { answer = sym a; list = sym l; places = sym p; kept = λ _. (refl, refl) }
+  refuses n a l p = record { answer = sym a; list = sym l; places = sym p; kept = λ _. (refl, refl); front = λ w. w }
 
   faulted : (n : ℕ) → n ≡ faultOf 32 u → n ≢ 0 → (r : Reply) → faulty 32 u r ≡ refused n
   faulted n e z r = faulty-by 32 u r ∙ rw (← e, ne-eqb n 0 z)

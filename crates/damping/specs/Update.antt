@@ -30,6 +30,7 @@ pub record HasDamped (fs ws gs vs : List ℕ) (u : Update) (r : code.Reply) : Ty
   pub list : seen 4 vs ≡ behindOn 32 (seenFront fs) (seen 4 ws) u
   pub places : seenFront gs ≡ placesOn 32 (seenFront fs) (seen 4 ws) u
   pub kept : isRefused (saidReply r) ≡ true → (gs ≡ fs) × (vs ≡ ws)
+  pub front : IsWords fs → IsWords gs
 
 -- what is asked for before the work
 pub record Damps (fs ws : List ℕ) (u : Update) : Type 0 where
@@ -58,13 +59,14 @@ module _ (fs ws : List ℕ) (w : IsWords fs) (A : ℕ) (cs : List Candidate) (t 
   -- a step that answers, leaves the table's list and leaves the places
   stepped : (gs vs : List ℕ) (u : Update) (r : code.Reply) (s : Step) → updated 32 A cs ps u ≡ s
       → saidReply r ≡ s .reply → seen 4 vs ≡ table A (s .left .list) → seenFront gs ≡ front (s .left .places)
-      → (isRefused (saidReply r) ≡ true → (gs ≡ fs) × (vs ≡ ws)) → HasDamped fs ws gs vs u r
-  stepped gs vs u r s e a l p k =
+      → (isRefused (saidReply r) ≡ true → (gs ≡ fs) × (vs ≡ ws)) → IsWords gs → HasDamped fs ws gs vs u r
+  stepped gs vs u r s e a l p k g =
       record {
         answer = rw (seen-front fs w, t) (a ∙ ap (λ (q : Step). q .reply) (sym e));
         list = rw (seen-front fs w, t) (l ∙ ap (λ (q : Step). table A (q .left .list)) (sym e));
         places = rw (seen-front fs w, t) (p ∙ ap (λ (q : Step). front (q .left .places)) (sym e));
         kept = k;
+        front = λ _. g;
       }
 
   -- passed to the table, which answers by its own promise
@@ -72,7 +74,7 @@ module _ (fs ws : List ℕ) (w : IsWords fs) (A : ℕ) (cs : List Candidate) (t 
       → HasUpdated 4 ws vs u r → HasDamped fs ws fs vs u r
   passes-on vs u r e h =
       stepped fs vs u r (passed 32 A cs ps u) e (rw t at (h .answer)) (rw t at (h .list)) (seen-front fs w)
-      (λ z. (refl, h .kept z))
+      (λ z. (refl, h .kept z)) w
 
   -- an update with a fault of its own
   pub unsound-on : (vs : List ℕ) (u : Update) (r : code.Reply) → sound 32 u ≡ false → HasUpdated 4 ws vs u r
@@ -96,7 +98,7 @@ module _ (fs ws : List ℕ) (w : IsWords fs) (A : ℕ) (cs : List Candidate) (t 
           let e : markAt ps (place a l f) .back ≡ true = back-is ∙ eq-eqb (x % 2) 1 o in
           stepped gs ws u (Done h 0) (kept 32 A cs ps a l h f p)
           (first (sound 32 u) _ _ s ∙ first (markAt ps (place a l f) .back) _ _ e) refl t
-          (seen-became gs _ b) (λ z. absurd (true≢false (sym z)))
+          (seen-became gs _ b) (λ z. absurd (true≢false (sym z))) (b .words)
 
       pub announces : (vs : List ℕ) (r : code.Reply) → x % 2 ≢ 1 → HasUpdated 4 ws vs u r → HasDamped fs ws fs vs u r
       announces vs r o =
@@ -124,7 +126,7 @@ module _ (fs ws : List ℕ) (w : IsWords fs) (A : ℕ) (cs : List Candidate) (t 
       drops-nothing o z =
           stepped fs ws v (Refused 7) (step (refused 7) cs ps)
           (is-dropped o ∙ first (eqb (markAt ps (place a l f) .kept) 0) _ _ (eq-eqb _ 0 (is-kept ∙ z)))
-          refl t (seen-front fs w) (λ _. (refl, refl))
+          refl t (seen-front fs w) (λ _. (refl, refl)) w
 
       pub drops : (gs : List ℕ) → x % 2 ≡ 1 → y ≢ 0 → Became gs (charge a l f ps)
           → HasDamped fs ws gs ws v (Done (y % 65536) 0)
@@ -134,6 +136,7 @@ module _ (fs ws : List ℕ) (w : IsWords fs) (A : ℕ) (cs : List Candidate) (t 
           (step (done (keptHop (markAt ps (place a l f) .kept)) 0) cs (charge a l f ps))
           (is-dropped o ∙ second (eqb (markAt ps (place a l f) .kept) 0) _ _ k)
           (ap (λ (m : ℕ). done (m % 65536) 0) (sym is-kept)) t (seen-became gs _ b) (λ z. absurd (true≢false (sym z)))
+          (b .words)
 
       module _ (vs : List ℕ) (r : code.Reply) (o : x % 2 ≢ 1) (h : HasUpdated 4 ws vs v r) where
         said : saidReply r ≡ answer 32 A cs v
@@ -144,11 +147,11 @@ module _ (fs ws : List ℕ) (w : IsWords fs) (A : ℕ) (cs : List Candidate) (t 
             stepped gs vs v r (removed 32 A cs ps a l f) (is-removed o) said (rw t at (h .list))
             (seen-became gs (charge a l f ps) b
             ∙ ap front (sym (first (isDone (answer 32 A cs v)) (charge a l f ps) ps (ap isDone (sym said) ∙ d))))
-            (λ z. absurd (not-both (saidReply r) d z))
+            (λ z. absurd (not-both (saidReply r) d z)) (b .words)
 
         pub charges-not : isDone (saidReply r) ≡ false → HasDamped fs ws fs vs v r
         charges-not d =
             stepped fs vs v r (removed 32 A cs ps a l f) (is-removed o) said (rw t at (h .list))
             (seen-front fs w
             ∙ ap front (sym (second (isDone (answer 32 A cs v)) (charge a l f ps) ps (ap isDone (sym said) ∙ d))))
-            (λ z. (refl, h .kept z))
+            (λ z. (refl, h .kept z)) w

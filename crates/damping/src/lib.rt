@@ -1,5 +1,6 @@
 // Updates through a front before a table: a candidate that is held back is kept and dropped in the front, any other goes to the
 // table, and an accepted withdrawal is charged.
+pub mod held; // a front checked and cleared
 pub mod tick; // a tick of both
 
 use replies::Reply;

@@ -1,22 +1,17 @@
 // A tick of a front before a table: penalties are halved, what is kept below 750 is tried in order, who is below 750 with nothing
 // kept is let go, and spent places are freed.
+use super::held::Checked;
+use super::held::count;
+use super::held::held_in;
 use super::is_done;
+use super::refusal;
 use rows::ROW_WORDS;
-ghost use mathlib.Core.Path.{_≡_};
 ghost use Prim.Native.Nat.{_≤_};
-ghost use lib.ListN.{length};
 ghost use Rattle.front.specs.Place.{mostPlaces};
 ghost use Rattle.words.specs.TableBut.{Table};
-ghost use Rattle.rows.specs.Row.{placesOf, IsWords};
+ghost use Rattle.rows.specs.Row.{IsWords};
 ghost use Rattle.damping.specs.Tick.{TriedRow, Tries, Trying, Ticked};
-
-// How many places there are: those before a number that no candidate reaches.
-pub fn count(front: &[u32]) -> usize
-    requires { ⌜ IsWords (now front) ⌝ }
-    ensures { λ r. ⌜ (r ≡ length (placesOf (now (front .entry)))) × (r ≤ mostPlaces) ⌝ }
-{
-    shelf::rank_of(front, 8796093022208)
-}
+ghost use Rattle.damping.specs.Held.{HasTicked};
 
 // What row i keeps below 750 is announced to the table, and kept on where that refuses it.
 fn try_row(front: &mut [u32], words: &mut [u32], i: usize)
@@ -62,4 +57,16 @@ pub fn tick_on(front: &mut [u32], words: &mut [u32])
     shelf::halve(front);
     try_rows(front, words, n);
     release::settle(front, n);
+}
+
+// A tick of any words: refused with the first of 1 and 2 that applies, or answered as the check is after it.
+pub fn tick(front: &mut [u32], words: &mut [u32]) -> Checked
+    ensures { λ r. ⌜ HasTicked (now (front .entry)) (now (words .entry)) (now (front .exit)) (now (words .exit)) r ⌝ }
+{
+    let n = refusal(front, words, 0);
+    if n != 0 {
+        return Checked::Refused(n);
+    }
+    tick_on(front, words);
+    held_in(front)
 }

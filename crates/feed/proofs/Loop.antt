@@ -38,7 +38,7 @@ use Rattle.feed.specs.declared.Progress.{Progress}
 use Rattle.feed.specs.declared.Report.{Report}
 use Rattle.feed.specs.declared.Ran.the-variants.{Stopped, Refused}
 use Rattle.feed.proofs.Answers.{table-eq}
-use Rattle.feed.proofs.Replies.{wrote-before, wrote-after}
+use Rattle.feed.specs.Replies.{wrote-before, wrote-after}
 
 -- ---- one record
 

@@ -5,3 +5,4 @@ pub mod Sharp
 pub mod Kept
 pub mod Passes
 pub mod Never
+pub mod Replies

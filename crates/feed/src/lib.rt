@@ -90,7 +90,7 @@ fn run_table(words: &mut [u32], family: Family, feed: &[u8], reply: &mut [u8]) -
 }
 
 // The bytes that a stop consumes: an end is consumed, another record that stops the run is not.
-fn last(stop: u32) -> usize
+pub fn last(stop: u32) -> usize
     ensures { λ n. ⌜ (n ≡ one (eqb stop 0)) × (n ≤ 1) ⌝ }
 {
     if stop == 0 { 1 } else { 0 }
@@ -256,7 +256,7 @@ fn accepts(r: Reply) -> usize
 }
 
 // 1 for a record that was refused.
-fn refuses(r: Reply) -> usize
+pub fn refuses(r: Reply) -> usize
     ensures { λ n. ⌜ (n ≡ one (isRefused (saidReply r))) × (n ≤ 1) ⌝ }
 {
     match r {
@@ -268,7 +268,7 @@ fn refuses(r: Reply) -> usize
 }
 
 // Writes a reply, and returns the place after it.
-fn put(reply: &mut [u8], at: usize, r: Reply) -> usize
+pub fn put(reply: &mut [u8], at: usize, r: Reply) -> usize
     requires { ⌜ at + 5 ≤ length (now reply) ⌝ }
     ensures { λ q. ⌜ Wrote (now (reply .entry)) at (replyBytes (saidReply r)) q (now (reply .exit)) ⌝ }
 {

@@ -1,4 +1,5 @@
 pub mod Place
 pub mod Front
+pub mod Runs
 pub mod Seen
 pub mod Worked

@@ -1,7 +1,7 @@
 -- Document 02's worked cases of item 14: rows under one statement, decided by computation. A cleared table of `room` arrays
 -- behind a cleared front takes the events. Assumes nothing.
 use mathlib.Core.Path.{_≡_, refl}
-use mathlib.Core.Bool.{false, cond}
+use mathlib.Core.Bool.{true, false, cond}
 use mathlib.Core.List.{List, [], _∷_}
 use Prim.Native.Nat.{ℕ, _+_}
 use lib.Count.{leadingZeros}
@@ -81,12 +81,18 @@ in4 a l h f p = asks (update (announce a l h f p))
 abbrev out5 : ℕ → ℕ → ℕ → Event
 out5 a l f = asks (update (withdraw a l f))
 
--- four flaps of 10.0.0.0 by hop 5, and the replies
+-- four flaps of a prefix by hop 5, of 10.0.0.0 most often, and the replies
+abbrev flapOf : ℕ → ℕ → List Event → List Event
+flapOf a l es = in1 a l 5 ∷ out1 a l ∷ es
+
+abbrev flapsOf : ℕ → ℕ → List Event → List Event
+flapsOf a l es = flapOf a l (flapOf a l (flapOf a l (flapOf a l es)))
+
 abbrev flap : ℕ → List Event → List Event
-flap l es = in1 ten l 5 ∷ out1 ten l ∷ es
+flap l es = flapOf ten l es
 
 abbrev flaps : ℕ → List Event → List Event
-flaps l es = flap l (flap l (flap l (flap l es)))
+flaps l es = flapsOf ten l es
 
 abbrev flapped : ℕ → List Reply → List Reply
 flapped c ys = done 5 c ∷ done 5 c ∷ done 5 c ∷ done 5 c ∷ done 5 c ∷ done 5 c ∷ done 5 c ∷ done 5 c ∷ ys
@@ -188,7 +194,8 @@ worked =
       list = candidate ten 8 1 0 6 ∷ [];
       places = placed ten 8 1 (mark 375 false 0) ∷ [];
     }
-    -- further ones, number 0: the preference that was kept loses to that of another feed; 12,000 is the most, and five ticks
+    -- further ones, number 0: the preference that was kept loses to that of another feed; 12,000 is the most, and five ticks; of
+    -- two with room for one, the first in the order of writing out is installed, though the other's place is older
     ∷ record {
       number = 0;
       room = 3;
@@ -215,6 +222,21 @@ worked =
       refusals = 0;
       list = candidate ten 8 1 0 6 ∷ [];
       places = placed ten 8 1 (mark 375 false 0) ∷ [];
+    }
+    ∷ record {
+      number = 0;
+      room = 2;
+      sent =
+          flapsOf (ip 11 0 0 0) 9
+          (flaps 9 (in1 (ip 11 0 0 0) 9 6 ∷ in1 ten 9 7 ∷ tick ∷ tick ∷ tick ∷ ask (ten + 1) ∷ ask (ip 11 0 0 0) ∷ []));
+      gives =
+          flapped 128
+          (flapped 128 (done 6 0 ∷ done 7 0 ∷ done 0 0 ∷ done 0 0 ∷ done 0 0 ∷ found 7 9 9 ∷ none 8 ∷ []));
+      back = 2 ∷ 2 ∷ 1 ∷ [];
+      accepted = 18;
+      refusals = 0;
+      list = candidate ten 9 1 0 7 ∷ [];
+      places = placed ten 9 1 (mark 500 false 0) ∷ placed (ip 11 0 0 0) 9 1 (mark 500 true 6) ∷ [];
     }
     ∷ []
 

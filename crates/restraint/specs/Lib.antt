@@ -6,3 +6,7 @@ pub mod Alone
 pub mod Absent
 pub mod Installed
 pub mod Through
+pub mod Turns
+pub mod Taken
+pub mod Fed
+pub mod Ended

@@ -2,7 +2,7 @@
 use native.Mathlib.Omega.{arith}
 use mathlib.Core.Path.{_∙_}
 use lib.ListN.{length-set}
-use Rattle.feed.proofs.Replies.{put-done, put-found, put-nothing, put-refused}
+use Rattle.feed.specs.Replies.{put-done, put-found, put-nothing, put-refused}
 use borrow.Author.Needs.{needs}
 use Rattle.feed.proofs.put.Statement.{statement}
 use Rattle.feed.proofs.put.Tie as tie

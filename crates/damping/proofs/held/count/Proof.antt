@@ -2,8 +2,8 @@
 use Rattle.damping.specs.Count.{counted}
 use mathlib.Core.Path.{_∙_}
 use borrow.Author.Needs.{needs}
-use Rattle.damping.proofs.tick.count.Statement.{statement}
-use Rattle.damping.proofs.tick.count.Tie as tie
+use Rattle.damping.proofs.held.count.Statement.{statement}
+use Rattle.damping.proofs.held.count.Tie as tie
 
 rank-of-requires : tie.Need-rank-of-requires
 rank-of-requires c κs = search needs

@@ -1,0 +1,64 @@
+-- What the numbers of the front's C face say: the refusal's number, or 0 and the values; every field not meant is 0. Assumes
+-- nothing.
+use mathlib.Core.Path.{_≡_}
+use mathlib.Core.List.{List}
+use Prim.Native.Nat.{ℕ}
+use Rattle.routes.specs.Answers.{Reply, done, found, none, refused}
+use Rattle.routes.specs.Seen.{Answer, gives, refuses}
+use Rattle.candidates.specs.Answers.{Update}
+use Rattle.words.specs.Table.{seen}
+use Rattle.feed.specs.declared.Report.{Report}
+use Rattle.front.specs.Seen.{Held, dampedOn, behindOn, placesOn, tickOn, behindTick, placesTick}
+use Rattle.front.specs.Seen.{runOn, ranBehind, ranPlaces, repliedOn, eventsOn, answersOn}
+use Rattle.damping.specs.View.{seenFront}
+use Rattle.damping_run.specs.Series.{Series}
+use Rattle.damping_run.specs.Runs.{standing, reported}
+use Rattle.damper.specs.declared.Front.{Front}
+use Rattle.damper.specs.declared.Updated.{Updated}
+use Rattle.damper.specs.declared.Ran.{Ran as Fields}
+
+abbrev pub held : Answer Held → Front
+held (gives h) = record { refusal = 0; places = h .places; «held_back» = h .back }
+held (refuses n) = record { refusal = n; places = 0; «held_back» = 0 }
+
+-- no update is answered by `found` or `none`
+abbrev pub updated : Reply → Updated
+updated (done h c) = record { refusal = 0; hop = h; cells = c }
+updated (found h l q) = record { refusal = 0; hop = 0; cells = 0 }
+updated (none q) = record { refusal = 0; hop = 0; cells = 0 }
+updated (refused n) = record { refusal = n; hop = 0; cells = 0 }
+
+abbrev pub ran : Answer Report → Fields
+ran (gives r) =
+    record {
+      refusal = 0;
+      stop = r .stop;
+      consumed = r .consumed;
+      written = r .written;
+      accepted = r .accepted;
+      refused = r .refused;
+    }
+ran (refuses n) = record { refusal = n; stop = 0; consumed = 0; written = 0; accepted = 0; refused = 0 }
+
+-- ---- what the calls that write promise of the lent memory: the front's words fs became gs, the table's ws became vs
+
+pub record HasUpdated (fs ws gs vs : List ℕ) (u : Update) (r : Updated) : Type 0 where
+  pub answer : r ≡ updated (dampedOn 32 (seenFront fs) (seen 4 ws) u)
+  pub list : seen 4 vs ≡ behindOn 32 (seenFront fs) (seen 4 ws) u
+  pub places : seenFront gs ≡ placesOn 32 (seenFront fs) (seen 4 ws) u
+  pub kept : (n : ℕ) → dampedOn 32 (seenFront fs) (seen 4 ws) u ≡ refused n → (gs ≡ fs) × (vs ≡ ws)
+
+pub record HasTicked (fs ws gs vs : List ℕ) (r : Front) : Type 0 where
+  pub answer : r ≡ held (tickOn 32 (seenFront fs) (seen 4 ws))
+  pub list : seen 4 vs ≡ behindTick 32 (seenFront fs) (seen 4 ws)
+  pub places : seenFront gs ≡ placesTick 32 (seenFront fs) (seen 4 ws)
+  pub kept : (n : ℕ) → tickOn 32 (seenFront fs) (seen 4 ws) ≡ refuses n → (gs ≡ fs) × (vs ≡ ws)
+
+pub record HasRun (fs ws feed b gs vs c : List ℕ) (r : Fields) : Type 0 where
+  pub answer : r ≡ ran (reported (runOn (standing fs ws) feed b))
+  pub list : seen 4 vs ≡ ranBehind (standing fs ws) (seen 4 ws) feed b
+  pub places : seenFront gs ≡ ranPlaces (standing fs ws) (seenFront fs) feed b
+  pub replies : c ≡ repliedOn (standing fs ws) feed b
+  pub kept : (n : ℕ) → runOn (standing fs ws) feed b ≡ refuses n → (gs ≡ fs) × (vs ≡ ws)
+  -- a call for each record and tick taken: a lookup, and a record that is refused, leave every word
+  pub series : Series fs ws (eventsOn (standing fs ws) feed b) (answersOn (standing fs ws) feed b) gs vs

@@ -1,0 +1,181 @@
+// The C face of a front before a table: each call with plain numbers, the front's words before the table's. A slice passes as a
+// pointer and a length. No call asks anything of its caller, since nothing would check it.
+use damping::held::Checked;
+use replies::Reply;
+ghost use mathlib.Core.Path.{_≡_};
+ghost use Rattle.candidates.specs.Answers.{announce as announced, withdraw as withdrawn};
+ghost use Rattle.replies.specs.Said.{saidReply};
+ghost use Rattle.feed.specs.Runs.{runAnswer};
+ghost use Rattle.front.specs.Seen.{checkFront};
+ghost use Rattle.damping.specs.View.{seenFront};
+ghost use Rattle.damping.specs.Held.{checkAnswer, HasCleared};
+ghost use Rattle.damper.specs.Face.{held, updated, ran, HasUpdated, HasTicked, HasRun};
+
+// The numbers of places and of candidates held back.
+#[repr(C)]
+pub struct Front {
+    pub refusal: u32,
+    pub places: u32,
+    pub held_back: u32,
+}
+
+#[repr(C)]
+pub struct Updated {
+    pub refusal: u32,
+    pub hop: u32,
+    pub cells: u32,
+}
+
+#[repr(C)]
+pub struct Ran {
+    pub refusal: u32,
+    pub stop: u32,
+    pub consumed: u64,
+    pub written: u64,
+    pub accepted: u64,
+    pub refused: u64,
+}
+
+// ---- answers in plain numbers
+
+fn counts(answer: Checked) -> Front
+    ensures { λ r. ⌜ r ≡ held (checkAnswer answer) ⌝ }
+{
+    match answer {
+        Checked::Held(places, back) => Front {
+            refusal: 0,
+            places: places,
+            held_back: back,
+        },
+        Checked::Refused(n) => Front {
+            refusal: n,
+            places: 0,
+            held_back: 0,
+        },
+    }
+}
+
+// No update is found, nor nothing.
+fn change(answer: Reply) -> Updated
+    ensures { λ r. ⌜ r ≡ updated (saidReply answer) ⌝ }
+{
+    match answer {
+        Reply::Done(hop, cells) => Updated {
+            refusal: 0,
+            hop: hop,
+            cells: cells,
+        },
+        Reply::Found(_, _, _) => Updated {
+            refusal: 0,
+            hop: 0,
+            cells: 0,
+        },
+        Reply::Nothing(_) => Updated {
+            refusal: 0,
+            hop: 0,
+            cells: 0,
+        },
+        Reply::Refused(n) => Updated {
+            refusal: n,
+            hop: 0,
+            cells: 0,
+        },
+    }
+}
+
+fn report(answer: feed::Ran) -> Ran
+    ensures { λ r. ⌜ r ≡ ran (runAnswer answer) ⌝ }
+{
+    match answer {
+        feed::Ran::Stopped(r) => Ran {
+            refusal: 0,
+            stop: r.stop,
+            consumed: r.consumed as u64,
+            written: r.written as u64,
+            accepted: r.accepted as u64,
+            refused: r.refused as u64,
+        },
+        feed::Ran::Refused(n) => Ran {
+            refusal: n,
+            stop: 0,
+            consumed: 0,
+            written: 0,
+            accepted: 0,
+            refused: 0,
+        },
+    }
+}
+
+// ---- the calls of bindings/c/toggleash_damp.h
+
+// The version of the table's words and of these calls, in the name: that of `toggleash`.
+#[no_mangle]
+pub extern "C" fn toggleash_damp_version_4() -> u32
+    ensures { λ r. ⌜ r ≡ 4 ⌝ }
+{
+    4
+}
+
+#[no_mangle]
+pub extern "C" fn toggleash_damp_clear(front: &mut [u32]) -> u32
+    ensures { λ r. ⌜ HasCleared (now (front .entry)) (now (front .exit)) r ⌝ }
+{
+    damping::held::clear(front)
+}
+
+#[no_mangle]
+pub extern "C" fn toggleash_damp_check(front: &[u32]) -> Front
+    ensures { λ r. ⌜ r ≡ held (checkFront (seenFront (now (front .entry)))) ⌝ }
+{
+    counts(damping::held::check(front))
+}
+
+#[no_mangle]
+pub extern "C" fn toggleash_damp_announce(
+    front: &mut [u32],
+    words: &mut [u32],
+    address: u32,
+    length: u32,
+    hop: u32,
+    feed: u32,
+    preference: u8,
+) -> Updated
+    ensures { λ r. ⌜ HasUpdated (now (front .entry)) (now (words .entry)) (now (front .exit)) (now (words .exit))
+        (announced address length hop feed preference) r ⌝ }
+{
+    change(damping::announce(front, words, address, length, hop, feed, preference))
+}
+
+#[no_mangle]
+pub extern "C" fn toggleash_damp_withdraw(
+    front: &mut [u32],
+    words: &mut [u32],
+    address: u32,
+    length: u32,
+    feed: u32,
+) -> Updated
+    ensures { λ r. ⌜ HasUpdated (now (front .entry)) (now (words .entry)) (now (front .exit)) (now (words .exit))
+        (withdrawn address length feed) r ⌝ }
+{
+    change(damping::withdraw(front, words, address, length, feed))
+}
+
+#[no_mangle]
+pub extern "C" fn toggleash_damp_tick(front: &mut [u32], words: &mut [u32]) -> Front
+    ensures { λ r. ⌜ HasTicked (now (front .entry)) (now (words .entry)) (now (front .exit)) (now (words .exit)) r ⌝ }
+{
+    counts(damping::tick::tick(front, words))
+}
+
+#[no_mangle]
+pub extern "C" fn toggleash_damp_run(
+    front: &mut [u32],
+    words: &mut [u32],
+    feed: &[u8],
+    reply: &mut [u8],
+) -> Ran
+    ensures { λ r. ⌜ HasRun (now (front .entry)) (now (words .entry)) (now (feed .entry)) (now (reply .entry))
+        (now (front .exit)) (now (words .exit)) (now (reply .exit)) r ⌝ }
+{
+    report(damping_run::run(front, words, feed, reply))
+}

@@ -1,0 +1,66 @@
+-- By the number that stands before the work, or by the tick of a front and a table and the check after it. Assumes nothing.
+use mathlib.Core.Path.{sym, _∙_}
+use Prim.Native.Nat.{_*_}
+use native.Mathlib.Omega.{arith}
+use Rattle.damping.specs.Refuse.{passed-all}
+use Rattle.damping.specs.Held.{tick-refused, ticks}
+use borrow.Author.Needs.{needs}
+use Rattle.damping.proofs.tick.tick.Statement.{statement}
+use Rattle.damping.proofs.tick.tick.Tie as tie
+
+refusal-requires : tie.Need-refusal-requires
+refusal-requires c κs = search needs
+
+same-length : tie.Need-same-length
+same-length c = search needs
+
+same-length-2 : tie.Need-same-length-2
+same-length-2 c = search needs
+
+returns : tie.Need-returns
+returns c =
+    let a = c .before .before .before .before .before .before .args in
+    tick-refused (a .front .now) (a .words .now) (c .before .refusal .result) (c .before .refusal .ensures) (c .if1 .taken)
+
+tick-on-requires : tie.Need-tick-on-requires
+tick-on-requires c κs =
+    let e = c .before .before in
+    let s = e .before .before .before .before .before in
+    let a = s .before .args in
+    let p = passed-all (a .front .now) (a .words .now) 0 (λ i. omega (arith, s .slice-known .given (4 * i)))
+    (sym (e .before .refusal .ensures) ∙ e .if1 .left) in
+    (p .0, p .1)
+
+held-in-requires : tie.Need-held-in-requires
+held-in-requires c κs = search needs
+
+same-length-3 : tie.Need-same-length-3
+same-length-3 c = search needs
+
+same-length-4 : tie.Need-same-length-4
+same-length-4 c = search needs
+
+returns-2 : tie.Need-returns-2
+returns-2 c =
+    let t = c .before .before .before .before .before .before in
+    let e = t .before .before .before in
+    let s = e .before .before .before .before .before in
+    let a = s .before .args in
+    let p = passed-all (a .front .now) (a .words .now) 0 (λ i. omega (arith, s .slice-known .given (4 * i)))
+    (sym (e .before .refusal .ensures) ∙ e .if1 .left) in
+    ticks (a .front .now) (a .words .now) (t .tick-on .last .0) (t .tick-on .last .1 .0) (c .held-in .result) (p .0) (p .1)
+    (t .tick-on .ensures) (c .held-in .ensures)
+
+pub tick-spec : {M : Type 1} → statement M
+tick-spec =
+    tie.close
+    (tie.spec
+    refusal-requires
+    same-length
+    same-length-2
+    returns
+    tick-on-requires
+    held-in-requires
+    same-length-3
+    same-length-4
+    returns-2)

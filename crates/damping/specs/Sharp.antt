@@ -1,0 +1,89 @@
+-- What the calls through a front promise leaves no choice: two outcomes that they allow agree in the answer, in what is seen of
+-- the table and of the front, where the words were a front in every word of it, and, refused, in all words. Assumes nothing.
+use mathlib.Core.Path.{_≡_, sym, ap, _∙_}
+use mathlib.Core.Bool.{true}
+use mathlib.Core.List.{List, []}
+use Prim.Native.Nat.{ℕ}
+use native.Mathlib.Omega.{arith}
+use Rattle.routes.specs.Answers.{isRefused}
+use Rattle.routes.specs.Seen.{Answer, gives, refuses}
+use Rattle.candidates.specs.Answers.{Update}
+use Rattle.words.specs.Table.{seen}
+use Rattle.replies.specs.Said.{saidReply, reply-one}
+use Rattle.replies.specs.declared.Reply.{Reply}
+use Rattle.front.specs.Place.{Place}
+use Rattle.front.specs.Seen.{FrontSeen, alien, front, Held, heldIn}
+use Rattle.rows.specs.Row.{IsWords}
+use Rattle.rows.specs.One.{one-words}
+use Rattle.damping.specs.View.{seenFront, seen-front}
+use Rattle.damping.specs.Update.{HasDamped}
+use Rattle.damping.specs.Held.{checkAnswer, HasTicked}
+use Rattle.damping.specs.declared.held.Checked as code
+use Rattle.damping.specs.declared.held.Checked.the-variants as checked
+
+-- two pairs of words, of a front and of a table, are alike
+pub record Alike (gs vs hs us : List ℕ) : Type 0 where
+  pub list : seen 4 vs ≡ seen 4 us
+  pub places : seenFront gs ≡ seenFront hs
+
+abbrev placesIn : FrontSeen → List Place
+placesIn alien = []
+placesIn (front ps) = ps
+
+-- words of a front that are seen alike are the same
+pub front-one : (gs hs : List ℕ) → IsWords gs → IsWords hs → seenFront gs ≡ seenFront hs → gs ≡ hs
+front-one gs hs w x e = one-words gs hs w x (ap placesIn (sym (seen-front gs w) ∙ e ∙ seen-front hs x))
+
+-- ---- updates
+
+pub record Agree (fs gs vs hs us : List ℕ) (r s : Reply) : Type 0 where
+  pub answer : r ≡ s
+  pub alike : Alike gs vs hs us
+  pub front : IsWords fs → gs ≡ hs
+  pub words : isRefused (saidReply r) ≡ true → (gs ≡ hs) × (vs ≡ us)
+
+pub sharp : (fs ws gs vs hs us : List ℕ) (u : Update) (r s : Reply) → HasDamped fs ws gs vs u r → HasDamped fs ws hs us u s
+    → Agree fs gs vs hs us r s
+sharp fs ws gs vs hs us u r s p q =
+    let e : r ≡ s = reply-one r s (p .answer ∙ sym (q .answer)) in
+    let a : seenFront gs ≡ seenFront hs = p .places ∙ sym (q .places) in
+    record {
+      answer = e;
+      alike = record { list = p .list ∙ sym (q .list); places = a };
+      front = λ w. front-one gs hs (p .front w) (q .front w) a;
+      words = λ z. (p .kept z .0 ∙ sym (q .kept (rw e at z) .0), p .kept z .1 ∙ sym (q .kept (rw e at z) .1));
+    }
+
+-- ---- ticks
+
+pub record TicksAgree (fs gs vs hs us : List ℕ) (r s : code.Checked) : Type 0 where
+  pub answer : r ≡ s
+  pub alike : Alike gs vs hs us
+  pub front : IsWords fs → gs ≡ hs
+  pub words : (n : ℕ) → r ≡ checked.Refused n → (gs ≡ hs) × (vs ≡ us)
+
+abbrev heldOf : Answer Held → Held
+heldOf (gives h) = h
+heldOf (refuses n) = heldIn []
+
+pub check-one : (r s : code.Checked) → checkAnswer r ≡ checkAnswer s → r ≡ s
+check-one (checked.Held m b) (checked.Held n d) e =
+    let p : m ≡ n = ap (λ x. heldOf x .places) e in
+    let q : b ≡ d = ap (λ x. heldOf x .back) e in
+    λ i. checked.Held (p i) (q i)
+check-one (checked.Held m b) (checked.Refused n) e = let z : _≡_ {A = ℕ} 0 1 = cc in absurd (omega arith)
+check-one (checked.Refused m) (checked.Held n d) e = let z : _≡_ {A = ℕ} 0 1 = cc in absurd (omega arith)
+check-one (checked.Refused m) (checked.Refused n) e = cc
+
+pub tick-sharp : (fs ws gs vs hs us : List ℕ) (r s : code.Checked) → HasTicked fs ws gs vs r → HasTicked fs ws hs us s
+    → TicksAgree fs gs vs hs us r s
+tick-sharp fs ws gs vs hs us r s p q =
+    let e : r ≡ s = check-one r s (p .answer ∙ sym (q .answer)) in
+    let a : seenFront gs ≡ seenFront hs = p .places ∙ sym (q .places) in
+    record {
+      answer = e;
+      alike = record { list = p .list ∙ sym (q .list); places = a };
+      front = λ w. front-one gs hs (p .front w) (q .front w) a;
+      words = λ n z.
+          (p .kept n z .0 ∙ sym (q .kept n (sym e ∙ z) .0), p .kept n z .1 ∙ sym (q .kept n (sym e ∙ z) .1));
+    }

@@ -1,0 +1,56 @@
+-- The number at the start says whether the words are a front and a table, and with what the run refuses. Assumes nothing.
+use mathlib.Core.Path.{sym, _∙_}
+use Prim.Native.Nat.{_*_}
+use native.Mathlib.Omega.{arith}
+use Rattle.damping.specs.Refuse.{passed-all}
+use Rattle.damping_run.proofs.Loop.{run-refused}
+use borrow.Author.Needs.{needs}
+use Rattle.damping_run.proofs.run.Statement.{statement}
+use Rattle.damping_run.proofs.run.Tie as tie
+
+refusal-requires : tie.Need-refusal-requires
+refusal-requires c κs = search needs
+
+same-length : tie.Need-same-length
+same-length c = search needs
+
+same-length-2 : tie.Need-same-length-2
+same-length-2 c = search needs
+
+returns : tie.Need-returns
+returns c = run-refused _ _ _ _ _ (c .before .refusal .ensures) (c .if1 .taken)
+
+run-both-requires : tie.Need-run-both-requires
+run-both-requires c κs =
+    let e = c .before .before .before in
+    let s = c .before .before .before .before .before .before .before .before .before .before in
+    let a = s .before .args in
+    let p = passed-all (a .front .now) (a .words .now) 0 (λ i. omega (arith, s .slice-known .given (4 * i)))
+    (sym (e .before .refusal .ensures) ∙ e .if1 .left) in
+    record { front = p .0; table = p .1 }
+
+same-length-3 : tie.Need-same-length-3
+same-length-3 c = search needs
+
+same-length-4 : tie.Need-same-length-4
+same-length-4 c = search needs
+
+same-length-5 : tie.Need-same-length-5
+same-length-5 c = search needs
+
+returns-2 : tie.Need-returns-2
+returns-2 c = search needs
+
+pub run-spec : {M : Type 1} → statement M
+run-spec =
+    tie.close
+    (tie.spec
+    refusal-requires
+    same-length
+    same-length-2
+    returns
+    run-both-requires
+    same-length-3
+    same-length-4
+    same-length-5
+    returns-2)
