@@ -1,28 +1,16 @@
 /* DPDK's rte_lpm behind plain calls, so that the measuring program can load it where it is installed. Its lookup is
  * inline, as in a program that uses it, and so is the loop around it. */
-#define _GNU_SOURCE
-#include <rte_eal.h>
+#include "eal.h"
+
 #include <rte_lpm.h>
 #include <rte_memory.h>
-#include <sched.h>
 
 static struct rte_lpm *table;
-
-/* DPDK binds the thread that starts it to one core; the other ways are measured by the same thread, unbound. */
-static int start(void) {
-    char *words[] = {"bench",     "--no-huge", "--no-pci", "--no-shconf", "--no-telemetry", "--log-level=error",
-                     "-m",        "1024",      NULL};
-    cpu_set_t cores;
-    sched_getaffinity(0, sizeof cores, &cores);
-    int started = rte_eal_init(sizeof words / sizeof *words - 1, words);
-    sched_setaffinity(0, sizeof cores, &cores);
-    return started >= 0;
-}
 
 /* Returns 0 when the table stands. */
 int lpm_open(uint32_t rules, uint32_t groups) {
     struct rte_lpm_config config = {.max_rules = rules, .number_tbl8s = groups, .flags = 0};
-    if (!start())
+    if (!dpdk_start())
         return 1;
     table = rte_lpm_create("bench", SOCKET_ID_ANY, &config);
     return table == NULL;

@@ -19,13 +19,23 @@ fn worked() -> f64 {
 /// One way of doing the work.
 pub struct Way<'a> {
     name: &'static str,
+    prepare: Box<dyn FnMut() + 'a>,
     call: Box<dyn FnMut() -> u64 + 'a>,
 }
 
 impl<'a> Way<'a> {
     /// The call does all of the work and gives a number by which ways are seen to do the same.
     pub fn new(name: &'static str, call: impl FnMut() -> u64 + 'a) -> Way<'a> {
-        Way { name, call: Box::new(call) }
+        Way::prepared(name, || (), call)
+    }
+
+    /// Before each call something is done that is not measured.
+    pub fn prepared(name: &'static str, prepare: impl FnMut() + 'a, call: impl FnMut() -> u64 + 'a) -> Way<'a> {
+        Way { name, prepare: Box::new(prepare), call: Box::new(call) }
+    }
+
+    pub fn name(&self) -> &'static str {
+        self.name
     }
 }
 
@@ -37,6 +47,7 @@ pub fn measure(title: &str, rounds: usize, count: usize, mut ways: Vec<Way>) -> 
     for round in 0..=rounds {
         let mut results = Vec::new();
         for (way, times) in ways.iter_mut().zip(&mut times) {
+            (way.prepare)();
             let start = worked();
             results.push((way.call)());
             let time = (worked() - start) / count as f64;

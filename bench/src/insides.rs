@@ -9,7 +9,8 @@ use toggleash::ffi;
 
 use crate::clock::{measure, Way};
 use crate::lists::{self, Load};
-use crate::{sum_of_table, table, title, Scale, ARRAYS};
+use crate::sums::sum_of_table;
+use crate::{table, title, Scale, ARRAYS};
 
 pub fn counts(random: &mut Random, scale: &Scale, load: &Load) {
     let words = &table(&load.candidates, ARRAYS);

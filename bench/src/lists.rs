@@ -67,11 +67,16 @@ pub fn inside_longest<A: Family>(random: &mut Random, load: &Load<A>, count: usi
     let prefixes = || load.list.routes().iter().map(|route| route.prefix);
     let longest = prefixes().map(|prefix| prefix.length).max();
     let longest: Vec<Prefix<A>> = prefixes().filter(|prefix| Some(prefix.length) == longest).collect();
-    let inside = |random: &mut Random| {
-        let prefix = random.pick(&longest);
+    inside(random, &longest, count)
+}
+
+/// Addresses inside the prefixes, each prefix as likely as another.
+pub fn inside<A: Family>(random: &mut Random, prefixes: &[Prefix<A>], count: usize) -> Vec<A> {
+    let address = |random: &mut Random| {
+        let prefix = random.pick(prefixes);
         prefix.address | A::any(random) & !A::mask(prefix.length)
     };
-    (0..count).map(|_| inside(random)).collect()
+    (0..count).map(|_| address(random)).collect()
 }
 
 /// The same routes, each with a candidate of feed 2 that waits behind it.

@@ -1,17 +1,10 @@
-//! DPDK's rte_lpm, loaded where `bench/run` could build it.
+//! DPDK's rte_lpm.
 
-use std::ffi::{c_char, c_int, c_void, CStr};
-use std::mem::transmute_copy;
+use std::ffi::c_int;
 
 use reference::{Route, RouteList};
 
-const RTLD_NOW: c_int = 2;
-const LIBRARY: &CStr = c"target/c/liblpm.so";
-
-extern "C" {
-    fn dlopen(file: *const c_char, mode: c_int) -> *mut c_void;
-    fn dlsym(library: *mut c_void, name: *const c_char) -> *mut c_void;
-}
+use crate::dpdk::Library;
 
 pub struct Lpm {
     add: extern "C" fn(u32, u8, u32) -> c_int,
@@ -21,30 +14,34 @@ pub struct Lpm {
 }
 
 impl Lpm {
-    /// None where it is not installed or cannot start.
-    pub fn open(rules: u32, groups: u32) -> Option<Lpm> {
+    /// None where it cannot start.
+    pub fn open(library: &Library, rules: u32, groups: u32) -> Option<Lpm> {
         // SAFETY: the names and types are those of lpm.c, from which the library is built.
         unsafe {
-            let library = dlopen(LIBRARY.as_ptr(), RTLD_NOW);
-            if library.is_null() {
-                return None;
-            }
-            let open: extern "C" fn(u32, u32) -> c_int = symbol(library, c"lpm_open");
+            let open: extern "C" fn(u32, u32) -> c_int = library.symbol(c"lpm_open");
             (open(rules, groups) == 0).then(|| Lpm {
-                add: symbol(library, c"lpm_add"),
-                delete: symbol(library, c"lpm_delete"),
-                clear: symbol(library, c"lpm_clear"),
-                sum: symbol(library, c"lpm_sum"),
+                add: library.symbol(c"lpm_add"),
+                delete: library.symbol(c"lpm_delete"),
+                clear: library.symbol(c"lpm_clear"),
+                sum: library.symbol(c"lpm_sum"),
             })
         }
     }
 
+    pub fn clear(&self) {
+        (self.clear)();
+    }
+
     /// Holds this list and no other.
     pub fn fill(&self, list: &RouteList) {
-        (self.clear)();
-        for route in list.routes() {
-            self.announce(route);
-        }
+        self.clear();
+        self.announce_all(list.routes());
+    }
+
+    /// Gives the number of routes.
+    pub fn announce_all(&self, routes: &[Route]) -> u64 {
+        routes.iter().for_each(|route| self.announce(route));
+        routes.len() as u64
     }
 
     fn announce(&self, route: &Route) {
@@ -70,12 +67,4 @@ impl Lpm {
     pub fn sum(&self, addresses: &[u32]) -> u64 {
         (self.sum)(addresses.as_ptr(), addresses.len())
     }
-}
-
-/// # Safety
-/// The library has a function of that name and type.
-unsafe fn symbol<F>(library: *mut c_void, name: &CStr) -> F {
-    let address = dlsym(library, name.as_ptr());
-    assert!(!address.is_null(), "{name:?} is not in {LIBRARY:?}");
-    transmute_copy(&address)
 }

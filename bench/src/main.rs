@@ -1,45 +1,53 @@
-//! Measures the library beside other ways of doing the same, all in one run: `bench/run`, with `--runs` for the updates inside
-//! an IPv4 run alone, with `--six` for IPv6 alone, with `--packed`, `--shortest` and `--fronts` for compressed tables, the shortest list
-//! and fronts alone, with `--quick` for a rough look. A line gives the median time of one call and how much of it the library takes.
+//! Measures the library beside other ways of doing the same, all in one run: `bench/run`, with `--lookups` for lookups of IPv4
+//! by all engines alone, with `--runs` for the updates inside an IPv4 run alone, with `--six` for IPv6 alone, with `--packed`,
+//! `--shortest` and `--fronts` for compressed tables, the shortest list and fronts alone, with `--quick` for a rough look. A line
+//! gives the median time of one call and how much of it the library takes.
 
+mod axis;
+mod bars;
 mod boxed;
 mod clock;
 mod copies;
+mod curves;
+mod dpdk;
+mod dump;
+mod engines;
+mod fib;
 mod fronts;
+mod growth;
+mod huge;
 mod insides;
 mod lists;
+mod lookups;
 mod lpm;
 mod packs;
+mod picture;
+mod processor;
+mod real;
 mod runs;
 mod shorts;
 mod six;
+mod sums;
+mod svg;
 mod trie;
 
-use boxed::Boxed;
 use clock::{measure, Way};
 use compare::family::Family;
 use compare::random::Random;
+use dpdk::Dpdk;
 use lists::Load;
 use lpm::Lpm;
 use reference::feed::{kind_of, Role};
 use reference::{layout, CandidateList, Route};
-use toggleash::ffi::{self, Answer, Match};
 use toggleash::{Candidate, Family as _};
 use trie::Trie;
 
 const ARRAYS: usize = 4_096;
 const ROUTES: usize = 100_000;
 /// The parts that are measured alone where they are named.
-const PARTS: [&str; 5] = ["--runs", "--six", "--packed", "--shortest", "--fronts"];
+const PARTS: [&str; 6] = ["--lookups", "--runs", "--six", "--packed", "--shortest", "--fronts"];
 /// About as many as the internet's routers hold.
 const MOST: usize = 1_000_000;
-
-extern "C" {
-    fn plain_trusting(words: *const u32, n: usize, address: u32) -> Answer;
-    fn plain_checking(words: *const u32, n: usize, address: u32) -> Answer;
-}
-
-type Lookup<A> = unsafe extern "C" fn(*const u32, usize, u32) -> A;
 
 struct Scale {
     addresses: usize,
@@ -54,38 +62,46 @@ fn main() {
     let (full, quick) = (Scale { addresses: 10_000_000, rounds: 5 }, Scale { addresses: 500_000, rounds: 3 });
     let scale = if rest.is_empty() { full } else { quick };
     let named = |part: &str| parts.is_empty() || parts == [part];
-    let mut random = Random::for_case(1, "bench", 0);
-    let lpm = Lpm::open(2 * MOST as u32, 2 * ARRAYS as u32);
+    let dpdk = Dpdk::open(MOST as u32, 2 * ARRAYS as u32);
+    let lpm = dpdk.as_ref().map(|dpdk| &dpdk.lpm);
+    println!("on {}", processor::told());
     println!("one call, median of {} rounds; last column: the library's time over this one's", scale.rounds);
+    if named("--lookups") {
+        lookups::measure_all(&mut random(), &scale, dpdk.as_ref());
+    }
     if parts.is_empty() {
-        calls(&mut random, &scale, lpm.as_ref());
+        calls(&mut random(), &scale, lpm);
     }
     if named("--runs") {
-        runs::measure_all(&mut random, &scale, lpm.as_ref());
+        runs::measure_all(&mut random(), &scale, lpm);
     }
     if named("--six") {
-        six::measure_all(&mut random, &scale);
+        six::measure_all(&mut random(), &scale);
     }
     if named("--shortest") {
-        shorts::measure_all(&mut random, &scale);
+        shorts::measure_all(&mut random(), &scale);
     }
     if named("--fronts") {
-        fronts::measure_all(&mut random, &scale);
+        fronts::measure_all(&mut random(), &scale);
     }
     if parts == ["--packed"] {
-        packs::measure_all(&mut random, &scale);
+        packs::measure_all(&mut random(), &scale);
     }
-    if lpm.is_none() {
-        println!("rte_lpm took no part: libdpdk-dev is not installed, or it did not start");
+    if dpdk.is_none() {
+        println!("rte_lpm and rte_fib took no part: libdpdk-dev is not installed, or it did not start");
     }
 }
 
-/// Each call by itself.
+/// Each part starts with its own, so that it has the same lists alone as in a whole run.
+fn random() -> Random {
+    Random::for_case(1, "bench", 0)
+}
+
+/// Each call by itself, but for the lookups.
 fn calls(random: &mut Random, scale: &Scale, lpm: Option<&Lpm>) {
     let (sparse, dense) = (lists::sparse(random, ARRAYS), lists::dense(random, ARRAYS, ROUTES));
     let rivalled = lists::rivalled(&dense);
     for load in [sparse, dense, rivalled] {
-        lookups(random, scale, &load, lpm);
         insides::counts(random, scale, &load);
         updates(random, scale, &load, ARRAYS, lpm);
         whole(scale, &load);
@@ -93,7 +109,6 @@ fn calls(random: &mut Random, scale: &Scale, lpm: Option<&Lpm>) {
         packs::whole(scale, &load);
     }
     let most = lists::dense(random, ARRAYS, MOST);
-    lookups(random, scale, &most, lpm);
     insides::counts(random, scale, &most);
     packs::whole(scale, &most);
     for arrays in [7, 64] {
@@ -107,47 +122,6 @@ fn table<A: Family>(list: &CandidateList<A>, arrays: usize) -> Vec<u32> {
     let counts = A::Sent::check(&words).expect("a table laid out is one");
     assert_eq!(counts.routes as usize, list.candidates().len());
     words
-}
-
-/// The sum of the hops found, which the closure takes from an answer.
-fn sum<A>(lookup: Lookup<A>, hop: impl Fn(A) -> u32, words: &[u32], addresses: &[u32]) -> u64 {
-    // SAFETY: the words are a table or a copy, and the pointer and length are the slice's.
-    addresses.iter().map(|&address| u64::from(hop(unsafe { lookup(words.as_ptr(), words.len(), address) }))).sum()
-}
-
-/// The sum over a table.
-fn sum_of_table(lookup: Lookup<Answer>, words: &[u32], addresses: &[u32]) -> u64 {
-    sum(lookup, |answer| answer.hop, words, addresses)
-}
-
-/// The sum over a copy.
-fn sum_of_copy(lookup: Lookup<Match>, words: &[u32], addresses: &[u32]) -> u64 {
-    sum(lookup, |answer| answer.hop, words, addresses)
-}
-
-fn lookups(random: &mut Random, scale: &Scale, load: &Load, lpm: Option<&Lpm>) {
-    let words = &table(&load.candidates, ARRAYS);
-    let (trie, boxed) = (&Trie::new(&load.list), &Boxed::new(&load.list));
-    let sets = [
-        ("random addresses", lists::random_addresses(random, scale.addresses)),
-        ("addresses inside the deepest arrays", lists::deep_addresses(random, load, scale.addresses)),
-    ];
-    let copy = &copies::words(&load.candidates);
-    for (name, addresses) in &sets {
-        let mut ways = vec![
-            Way::new("toggleash_lookup", || sum_of_table(ffi::toggleash_lookup, words, addresses)),
-            Way::new("toggleash_copy_lookup", || sum_of_copy(ffi::toggleash_copy_lookup, copy, addresses)),
-            Way::new("C loop with the same refusals", || sum_of_table(plain_checking, words, addresses)),
-            Way::new("C loop that trusts the words", || sum_of_table(plain_trusting, words, addresses)),
-            Way::new("Rust trie of one bit a step, one vector", || trie.sum(addresses)),
-            Way::new("Rust trie of one bit a step, boxes", || boxed.sum(addresses)),
-        ];
-        if let Some(lpm) = lpm {
-            lpm.fill(&load.list);
-            ways.push(Way::new("DPDK's rte_lpm_lookup, inline", || lpm.sum(addresses)));
-        }
-        measure(&title("lookup", load, name), scale.rounds, addresses.len(), ways);
-    }
 }
 
 fn title<A: Family>(what: &str, load: &Load<A>, more: &str) -> String {

@@ -1,17 +1,15 @@
-//! Compressed tables: lookups beside the table's own and the tries, words beside the table's and the copy's, the build beside the
-//! check, and how far the arrays are compressed.
+//! Compressed tables: words beside the table's and the copy's, the build beside the check, and how far the arrays are compressed.
+//! Their lookups are measured with those of the other engines.
 
 use compare::feeds::hop;
 use compare::lists::Growing;
 use compare::random::Random;
 use reference::Prefix;
-use toggleash::{ffi, packed};
+use toggleash::packed;
 
-use crate::boxed::Boxed;
 use crate::clock::{measure, Way};
 use crate::lists::{self, Load};
-use crate::trie::Trie;
-use crate::{copies, sum_of_copy, sum_of_table, table, title, Scale, ARRAYS, MOST, ROUTES};
+use crate::{copies, table, title, Scale, ARRAYS, MOST, ROUTES};
 
 /// The bits of an entry in the scheme's own simulations, for segments of 8 bits.
 const PAPER_BITS: usize = 36;
@@ -26,12 +24,11 @@ pub fn measure_all(random: &mut Random, scale: &Scale) {
     whole(scale, &lists::dense(random, ARRAYS, MOST));
 }
 
-/// Lookups, words, need and build of a list.
+/// Words, need and build of a list.
 pub fn whole(scale: &Scale, load: &Load) {
     let words = &table(&load.candidates, ARRAYS);
     let mut packed = vec![0; packed::need(words).expect("a table")];
     let arrays = packed::build(words, &mut packed).expect("words enough").arrays as usize;
-    lookups(scale, load, words, &packed);
     sizes(load, words.len(), packed.len(), arrays);
     let count = packed.len();
     let check = || toggleash::check(words).map_or(0, |counts| counts.arrays.into());
@@ -43,24 +40,6 @@ pub fn whole(scale: &Scale, load: &Load) {
         Way::new("toggleash_packed_build", build),
     ];
     measure(&title("compress", load, "one call"), scale.rounds.min(3), 1, ways);
-}
-
-fn lookups(scale: &Scale, load: &Load, words: &[u32], packed: &[u32]) {
-    let mut random = Random::for_case(1, "packs", 0);
-    let (trie, boxed) = (&Trie::new(&load.list), &Boxed::new(&load.list));
-    let sets = [
-        ("random addresses", lists::random_addresses(&mut random, scale.addresses)),
-        ("addresses inside the deepest arrays", lists::deep_addresses(&mut random, load, scale.addresses)),
-    ];
-    for (name, addresses) in &sets {
-        let ways = vec![
-            Way::new("toggleash_packed_lookup", || sum_of_copy(ffi::toggleash_packed_lookup, packed, addresses)),
-            Way::new("toggleash_lookup", || sum_of_table(ffi::toggleash_lookup, words, addresses)),
-            Way::new("Rust trie of one bit a step, one vector", || trie.sum(addresses)),
-            Way::new("Rust trie of one bit a step, boxes", || boxed.sum(addresses)),
-        ];
-        measure(&title("compressed lookup", load, name), scale.rounds, addresses.len(), ways);
-    }
 }
 
 /// Words and entries; bytes a route, ours and with entries as wide as in the scheme's simulations.

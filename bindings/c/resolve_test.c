@@ -72,7 +72,7 @@ int main(void) {
     memset(words, 255, sizeof words);
     route("no table", toggleash_table_resolve(table, many, 256, 0), TOGGLEASH_NOT_A_TABLE, 0, 0, 0);
     route("no table, 257", toggleash_table_resolve(table, many, 257, 0), TOGGLEASH_NO_ENTRY, 0, 0, 0);
-    same("version", TOGGLEASH_VERSION, toggleash_resolve_version_4());
+    same("version", TOGGLEASH_VERSION, toggleash_resolve_version_5());
     same("text", 0, (uint32_t)strcmp(toggleash_resolve_text(22), "no interface after four lookups"));
     same("text of 1", 0, (uint32_t)strcmp(toggleash_resolve_text(1), toggleash_refusal_text(1)));
     return told();

@@ -76,8 +76,8 @@ enum {
                                    words do not have, or a total over 511 for each array of the words.
                                    From toggleash_copy_need and making a copy: the bytes are not one whole list of a
                                    table, of any room, in records of kind 4 or of kind 1 alone. From a lookup in a copy:
-                                   the words are fewer than 1,024, or its walk meets a best match, the place of a hash
-                                   table or the mark of an entry that no copy has (docs/COPY.md) */
+                                   the words are fewer than 1,024, its walk meets a hash table that does not lie inside
+                                   them, or it ends with a best match that no copy has (docs/COPY.md) */
     TOGGLEASH_LENGTH_OVER_32 = 3,
     TOGGLEASH_LENGTH_OVER_128 = 3, /* what 3 means from an IPv6 call */
     TOGGLEASH_STRAY_BIT = 4,    /* a bit of the address after the first `length` is set */
@@ -144,8 +144,8 @@ enum {
  * It rises with any change that a caller would not notice else, and the archive has it as the name of a function. Each
  * file that includes this header keeps a pointer to that function, four or eight bytes: so a program whose header and
  * archive are of two versions does not link, `undefined reference to toggleash_version_..`. */
-#define TOGGLEASH_VERSION 4
-uint32_t toggleash_version_4(void); /* returns 4 */
+#define TOGGLEASH_VERSION 5
+uint32_t toggleash_version_5(void); /* returns 5 */
 
 #if defined(__GNUC__) && !defined(TOGGLEASH_ARCHIVE) /* which the archive's own files define */
 #if defined(__has_attribute)
@@ -158,7 +158,7 @@ uint32_t toggleash_version_4(void); /* returns 4 */
 #endif
 #pragma GCC diagnostic push
 #pragma GCC diagnostic ignored "-Wattributes" /* a compiler may know the word and not its assembler */
-static uint32_t (*const toggleash_version_linked_)(void) TOGGLEASH_KEPT_ = toggleash_version_4;
+static uint32_t (*const toggleash_version_linked_)(void) TOGGLEASH_KEPT_ = toggleash_version_5;
 #pragma GCC diagnostic pop
 #endif
 

@@ -37,14 +37,15 @@ pub fn list(random: &mut Random, prefixes: usize, tally: &mut Tally) -> Same {
     look_up(&words, &addresses, Some(list.winners()), tally)
 }
 
-/// The first and last address inside some boxes, routes' and markers', those beside, and random ones.
+/// The first and last address inside some boxes, routes' and markers', those beside, the last of all, whose key is that
+/// of a free place, and random ones.
 pub fn addresses(random: &mut Random, list: &RouteList) -> Vec<u32> {
     let mut boxes: Vec<Prefix> = copy::markers(list).into_iter().collect();
     boxes.extend(list.routes().iter().map(|route| route.prefix));
     random.shuffle(&mut boxes);
     boxes.truncate(BOXES);
     let ends = boxes.into_iter().flat_map(neighbours);
-    ends.chain((0..BOXES).map(|_| random.word())).collect()
+    ends.chain([u32::MAX]).chain((0..BOXES).map(|_| random.word())).collect()
 }
 
 /// The words needed, unless the bytes are refused.

@@ -9,21 +9,20 @@ use crate::pair::Same;
 use crate::random::Random;
 use crate::tally::Tally;
 
-/// The words of a place; an entry has two places.
-const PLACE: usize = 4;
-const ENTRY: usize = 2 * PLACE;
+/// The words of an entry: four places, of a key and a best match each.
+const ENTRY: usize = 8;
 
 /// The header's words up to the last with a use.
-const USED: usize = 8 * 33;
+const USED: usize = 2 * 33;
 
 /// Numbers of words around those that a header has, or has a use for.
 const SIZES: [usize; 9] = [0, 1, USED - 1, USED, 700, HEADER - 1, HEADER - 1, HEADER, HEADER + 1];
 
 /// Best matches at the borders of hop and length.
-const BESTS: [u32; 9] = [0, 1, 255, 256, 256 + 32, 256 + 33, 65_535 * 256, 1 << 24, u32::MAX];
+const BESTS: [u32; 10] = [0, 1, 255, 256, 256 + 32, 256 + 33, 65_535 * 256, 65_535 * 256 + 33, 1 << 24, u32::MAX];
 
-/// High words of a table's begin or size. Eight times the last three, as sizes, is 2^63, 2^64 and more.
-const HIGH: [u32; 5] = [1, 1 << 16, 1 << 28, 1 << 29, u32::MAX];
+/// Numbers of entries. From 2^29 on eight times them is 2^32 or more, from 2^30 on four times them too.
+const ENTRIES: [u32; 5] = [1 << 28, 1 << 29, 1 << 30, 1 << 31, u32::MAX];
 
 /// A copy with some damage.
 pub fn damaged(random: &mut Random, tally: &mut Tally) -> Same {
@@ -44,15 +43,25 @@ pub fn damaged(random: &mut Random, tally: &mut Tally) -> Same {
 pub fn made_up(random: &mut Random, tally: &mut Tally) -> Same {
     let any = random.within(HEADER..=4 * HEADER);
     let count = if random.chance(20) { random.pick(&SIZES) } else { any };
-    let mut addresses: Vec<u32> = [0, u32::MAX].into_iter().chain((0..4).map(|_| random.word())).collect();
+    let mut addresses = some_addresses(random);
     let odd = random.pick(&[0, 0, 0, 1, 1, 5, 5, 100]);
-    let mut words: Vec<u32> = (0..count).map(|at| word_of_place(random, at, &addresses, odd)).collect();
+    let mut words: Vec<u32> = (0..count).map(|_| random.word()).collect();
     if count >= USED && odd < 100 {
+        let begins: Vec<u32> = (1..=32).flat_map(|m| put_table(random, &mut words, m, &addresses, odd)).collect();
+        // The tables may lie over the header, which is written last, so that its numbers are not lost.
         words[0] = if random.chance(20) { random.pick(&BESTS) } else { 7 * 256 };
-        (1..=32).for_each(|m| place_table(random, &mut words, m));
+        words[2..USED].copy_from_slice(&begins);
     }
     addresses.extend((0..10).map(|_| random.word()));
     looked_up(random, &words, &addresses, tally)
+}
+
+/// The first address, the last and any; or the last two, which by having one way up to 31 come to 32 often.
+fn some_addresses(random: &mut Random) -> Vec<u32> {
+    match random.chance(30) {
+        true => vec![u32::MAX - 1, u32::MAX],
+        false => [0, u32::MAX].into_iter().chain((0..4).map(|_| random.word())).collect(),
+    }
 }
 
 fn looked_up(random: &mut Random, words: &[u32], addresses: &[u32], tally: &mut Tally) -> Same {
@@ -60,24 +69,39 @@ fn looked_up(random: &mut Random, words: &[u32], addresses: &[u32], tally: &mut 
     look_up(&Lent::copy_of(words, random.pick(&[Side::Front, Side::Back])), addresses, None, tally)
 }
 
-/// A word as a place of any table may have it, or, so many times in a hundred, any.
-fn word_of_place(random: &mut Random, at: usize, addresses: &[u32], odd: usize) -> u32 {
-    if random.chance(odd) {
-        return random.word();
+/// Begin and number of entries of a table of length m that lies somewhere, mostly inside, with its places written; so
+/// many words of them in a hundred are any.
+fn put_table(random: &mut Random, words: &mut [u32], m: u32, addresses: &[u32], odd: usize) -> [u32; 2] {
+    let begin = random.below(words.len());
+    let most = (words.len() - begin) / ENTRY;
+    // Few reach to the end, as those take the words of others.
+    let large = random.pick(&[5, 8, most]);
+    let entries = random.pick(&[0, 1, 1, 2, 2, 3, 3, large]).min(most);
+    let (keys, bests) = words[begin..][..ENTRY * entries].split_at_mut(ENTRY / 2 * entries);
+    keys.iter_mut().for_each(|word| *word = some_key(random, m, addresses));
+    bests.iter_mut().for_each(|word| *word = some_best(random));
+    for word in keys.iter_mut().chain(bests) {
+        *word = if random.chance(odd) { random.word() } else { *word };
     }
-    match at % PLACE {
-        0 => random.pick(&[0, 1, 1, 1, 1, 1]),
-        1 => random.pick(addresses) >> random.below(32),
-        _ => random.pick(&[0, 256, 3 * 256 + 1, 4 * 256 + 4, 65_535 * 256 + 14]),
+    [begin as u32, (entries + usize::from(random.chance(1))) as u32]
+}
+
+/// The key of a place of length m: free, mostly of an address's first bits, or of its first bits of any number.
+fn some_key(random: &mut Random, m: u32, addresses: &[u32]) -> u32 {
+    let any = random.below(32) as u32;
+    let cut = random.pick(&[32 - m, 32 - m, 32 - m, any]);
+    match random.below(6) {
+        0 => 0,
+        _ => u32::MAX - (random.pick(addresses) >> cut),
     }
 }
 
-/// The table of length m lies somewhere, mostly inside.
-fn place_table(random: &mut Random, words: &mut [u32], m: usize) {
-    let begin = random.below(words.len()) / PLACE * PLACE;
-    let most = (words.len() - begin) / ENTRY;
-    let size = random.pick(&[0, 1, 2, 3, 5, most]).min(most) + usize::from(random.chance(1));
-    words[8 * m..][..4].copy_from_slice(&[0, begin as u32, 0, size as u32]);
+/// A best match, or now and then what may be none.
+fn some_best(random: &mut Random) -> u32 {
+    match random.below(10) {
+        0 => random.pick(&BESTS),
+        _ => random.pick(&[0, 256, 3 * 256 + 1, 4 * 256 + 4, 65_535 * 256 + 14]),
+    }
 }
 
 fn damage(random: &mut Random, words: &mut Vec<u32>) {
@@ -91,64 +115,97 @@ fn damage(random: &mut Random, words: &mut Vec<u32>) {
         (0, _) => words.truncate(random.below(words.len() + 1)),
         (1, _) => words[0] = random.pick(&BESTS),
         (2, _) => one_word(random, words),
-        (3, Some((_, begin, size))) => no_free_place(random, &mut words[begin..begin + ENTRY * size]),
-        (4..=6, Some((m, begin, size))) => one_place(random, &mut words[begin..begin + ENTRY * size], m),
-        (7, _) => (0..4).for_each(|i| words.swap(8 * m + i, 8 * often + i)),
-        _ => begin_or_size(random, words, often),
+        (3, Some(table)) => no_free_place(random, &mut Places::of(words, table)),
+        (4..=6, Some(table)) => one_place(random, &mut Places::of(words, table)),
+        (7, _) => (0..2).for_each(|i| words.swap(2 * m + i, 2 * often + i)),
+        _ => begin_or_entries(random, words, often),
     }
 }
 
-/// Length, begin and size of a table with entries that lies inside, if one is met.
-fn some_table(random: &mut Random, words: &[u32]) -> Option<(usize, usize, usize)> {
-    let table = |m: usize| (m, words[8 * m + 1] as usize, words[8 * m + 3] as usize);
-    let lies = |&(_, begin, size): &(usize, usize, usize)| size > 0 && begin + ENTRY * size <= words.len();
+/// Where a table lies: its length, begin and number of entries.
+type Lying = (usize, usize, usize);
+
+/// A table with entries that lies inside, if one is met.
+fn some_table(random: &mut Random, words: &[u32]) -> Option<Lying> {
+    let table = |m: usize| (m, words[2 * m] as usize, words[2 * m + 1] as usize);
+    let lies = |&(_, begin, entries): &Lying| entries > 0 && begin + ENTRY * entries <= words.len();
     (0..40).map(|_| table(random.within(1..=32))).find(lies)
 }
 
+/// The places of a table.
+struct Places<'a> {
+    length: usize,
+    keys: &'a mut [u32],
+    bests: &'a mut [u32],
+}
+
+impl Places<'_> {
+    fn of(words: &mut [u32], (length, begin, entries): Lying) -> Places<'_> {
+        let (keys, bests) = words[begin..][..ENTRY * entries].split_at_mut(ENTRY / 2 * entries);
+        Places { length, keys, bests }
+    }
+}
+
+/// A word that a walk may read: of the header one with a use, or any of the tables.
 fn one_word(random: &mut Random, words: &mut [u32]) {
-    let at = random.below(words.len());
+    let at = match words.len() == HEADER || random.chance(40) {
+        true => random.within(2..=USED - 1),
+        false => random.within(HEADER..=words.len() - 1),
+    };
     words[at] = match random.chance(50) {
         true => random.word(),
         false => words[at] ^ 1 << random.below(32),
     };
 }
 
-/// Every place taken, so that a probe for what is not there goes all the way round.
-fn no_free_place(random: &mut Random, table: &mut [u32]) {
-    for place in table.chunks_exact_mut(PLACE).filter(|place| place[0] == 0) {
-        place[..2].copy_from_slice(&[1, random.word()]);
-    }
-}
-
-/// A place of a table of length m, mostly a taken one, neither free nor taken, with other bits, at a border of its best
-/// match, or in another place's stead.
-fn one_place(random: &mut Random, table: &mut [u32], m: usize) {
-    let places = table.len() / PLACE;
-    let taken = (0..8).map(|_| PLACE * random.below(places)).find(|&at| table[at] == 1);
-    let (at, other) = (taken.unwrap_or(0), PLACE * random.below(places));
-    let length = m as u32;
-    match random.below(5) {
-        0 => table[at] = random.pick(&[0, 2, 1 << 31, u32::MAX]),
-        1 => table[at + 1] ^= 1 << random.below(m),
-        2 => table[at + 2] = random.pick(&BESTS),
-        3 => {
-            table[at + 2] = random.pick(&[256 + length, 257 + length, 65_535 * 256 + length, 65_535 * 256 + length + 1])
+/// Every place taken, so that a probe for what is not there goes all the way round, and what is there can stand
+/// anywhere. Of length 32 a best match alone takes a place.
+fn no_free_place(random: &mut Random, Places { length, keys, bests }: &mut Places) {
+    let by_best = *length == 32 && random.chance(50);
+    for (key, best) in keys.iter_mut().zip(bests.iter_mut()).filter(|(key, _)| **key == 0) {
+        match by_best {
+            true => *best = random.pick(&BESTS).max(1),
+            false => *key = random.word().max(1),
         }
-        _ => (0..PLACE).for_each(|i| table.swap(at + i, other + i)),
+    }
+    let by = random.below(keys.len());
+    keys.rotate_left(by);
+    bests.rotate_left(by);
+}
+
+/// A place, mostly a taken one, freed by its key alone, with the key of other bits, at a border of its best match, or
+/// in another place's stead, whole or by its key alone.
+fn one_place(random: &mut Random, Places { length, keys, bests }: &mut Places) {
+    let places = keys.len();
+    let taken = (0..16).map(|_| random.below(places)).find(|&place| keys[place] != 0);
+    let (at, other, longest) = (taken.unwrap_or(0), random.below(places), *length as u32);
+    match random.below(7) {
+        0 => keys[at] = random.pick(&[0, 0, 1, u32::MAX]),
+        1 => keys[at] ^= 1 << random.below(*length),
+        2 | 3 => bests[at] = random.pick(&BESTS),
+        4 => bests[at] = 256 * random.pick(&[1, 65_535]) + random.pick(&[longest, longest + 1, 32, 33]),
+        5 => keys.swap(at, other),
+        _ => {
+            keys.swap(at, other);
+            bests.swap(at, other);
+        }
     }
 }
 
-/// The table of length m begins elsewhere or has another size: at the borders of what lies inside, and far over them.
-fn begin_or_size(random: &mut Random, words: &mut [u32], m: usize) {
-    let (count, header) = (words.len() as u32, 8 * m);
-    let (begin, size) = (words[header + 1], words[header + 3]);
-    let last = count.saturating_sub(size.saturating_mul(ENTRY as u32));
-    let most = count.saturating_sub(begin) / ENTRY as u32;
-    let any = random.below(words.len()) as u32;
-    match random.below(6) {
-        0 => words[header] = random.pick(&HIGH),
-        1 => words[header + 2] = random.pick(&HIGH),
-        2 | 3 => words[header + 1] = random.pick(&[0, last, last + 1, count, count + 1, any, begin ^ 4, u32::MAX]),
-        _ => words[header + 3] = random.pick(&[0, size.wrapping_add(1), size / 2, most, most + 1, u32::MAX, 1 << 29]),
+/// The table of length m begins elsewhere or has another number of entries: at the borders of what lies inside, far
+/// over them, and where the end of the table is inside modulo 2^32.
+fn begin_or_entries(random: &mut Random, words: &mut [u32], m: usize) {
+    let (count, any, each) = (words.len() as u32, random.below(words.len()) as u32, ENTRY as u32);
+    let (begin, entries) = (words[2 * m], words[2 * m + 1]);
+    let last = count.saturating_sub(entries.saturating_mul(each));
+    let most = count.saturating_sub(begin) / each;
+    let round = 0u32.wrapping_sub(entries.wrapping_mul(each));
+    let far = random.pick(&ENTRIES);
+    match random.chance(50) {
+        true => words[2 * m] = random.pick(&[0, last, last + 1, count, count + 1, any, begin ^ 4, round, u32::MAX]),
+        false => {
+            let more = entries.wrapping_add(1);
+            words[2 * m + 1] = random.pick(&[0, more, entries / 2, most, most + 1, far, entries.wrapping_add(far)]);
+        }
     }
 }

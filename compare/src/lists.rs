@@ -108,13 +108,16 @@ fn of_few_lengths(random: &mut Random, routes: usize) -> RouteList {
 }
 
 /// The more routes, the more of them stand in one array, so that no more arrays are needed than a table has. The
-/// default route is held as often as not.
+/// default route is held as often as not, and now and then the last address's.
 fn crowded(random: &mut Random, routes: usize) -> RouteList {
     let most = 1 + random.within(routes / 40..=routes / 15 + 40).min(MOST_ARRAYS - 1);
     let terrain = Terrain::new(random, most);
     let mut growing = Growing::default();
     if routes > 0 && random.chance(50) {
         growing.grow(Prefix { address: 0, length: 0 }, hop(random), most);
+    }
+    if growing.count() < routes && random.chance(10) {
+        growing.grow(Prefix { address: u32::MAX, length: 32 }, hop(random), most);
     }
     for _ in growing.count()..routes {
         let anywhere = Prefix::around(random.word(), random.within(1..=32) as u32);

@@ -204,22 +204,40 @@ fn sample() -> RouteList {
     list(&[(0x0A00_0000, 8, 1), (0x0A01_0400, 22, 2), (0x0A01_0000, 20, 3)])
 }
 
-/// Its copy: a table of one entry for the lengths 8, 16, 20, 22. The products of 0xA, 0xA01, 0xA010, 0x28041 are,
-/// modulo 2^32, 0x2E2AC13A, 0xC8F8B3B9, 0x8F8B3B90, 0xDC6467F9; with their halves changed only the third is odd, so it
-/// alone begins at the second of two places.
-fn words() -> Vec<u32> {
-    let mut words = vec![0; 1_056];
-    let tables = [(8, 0, 0xA, 256 + 8), (16, 0, 0xA01, 256 + 8), (20, 1, 0xA010, 768 + 20), (22, 0, 0x28041, 512 + 22)];
-    for (i, (m, place, bits, best)) in tables.into_iter().enumerate() {
-        let begin = 1_024 + 8 * i;
-        words[8 * m + 1] = begin as u32;
-        words[8 * m + 3] = 1;
-        words[begin + 4 * place..][..3].copy_from_slice(&[1, bits, best]);
-    }
-    for m in (1..=32).filter(|m| ![8, 16, 20, 22].contains(m)) {
-        words[8 * m + 1] = 1_024;
+/// What the places of one table have: the key and the best match of each.
+type Places<'a> = &'a [(u32, u32)];
+
+/// The key of bits.
+fn key(bits: u32) -> u32 {
+    u32::MAX - bits
+}
+
+/// Puts a table of length m at the end of the words, four places for each entry.
+fn push_table(words: &mut Vec<u32>, m: usize, places: Places) {
+    words[2 * m] = words.len() as u32;
+    words[2 * m + 1] = places.len() as u32 / 4;
+    words.extend(places.iter().map(|place| place.0));
+    words.extend(places.iter().map(|place| place.1));
+}
+
+/// Words with a table of one entry for each of these, a length, the entry's place, its bits and its best match; no
+/// other length has entries.
+fn laid(tables: &[(usize, usize, u32, u32)]) -> Vec<u32> {
+    let mut words = vec![0; 1_024];
+    (1..=32).for_each(|m| words[2 * m] = 1_024);
+    for &(m, place, bits, best) in tables {
+        let mut places = [(0, 0); 4];
+        places[place] = (key(bits), best);
+        push_table(&mut words, m, &places);
     }
     words
+}
+
+/// Its copy: a table of one entry for the lengths 8, 16, 20, 22. The products of 0xA, 0xA01, 0xA010, 0x28041 are,
+/// modulo 2^32, 0x2E2AC13A, 0xC8F8B3B9, 0x8F8B3B90, 0xDC6467F9; among four places their first two bits are the start.
+/// So the keys of the entries are the words 1,024, 1,035, 1,042, 1,051, and four on are the best matches.
+fn words() -> Vec<u32> {
+    laid(&[(8, 0, 0xA, 256 + 8), (16, 3, 0xA01, 256 + 8), (20, 2, 0xA010, 768 + 20), (22, 3, 0x28041, 512 + 22)])
 }
 
 /// Sets words of the sample's copy.
@@ -251,19 +269,83 @@ fn words_that_are_a_copy() {
     assert!(!stands(&RouteList::default(), &words()));
     let past: Vec<u32> = words().into_iter().chain([7, 7, 7]).collect();
     assert!(stands(&sample(), &past));
-    // words without a use, and an empty table anywhere past the header
-    assert!(of(&[(1, 9), (264, 9), (8 * 8 + 4, 9), (1_024 + 3, 9), (8 + 1, 1_056)]));
-    for change in [(0, 256), (8 + 1, 1_023), (8 + 1, 1_057), (8, 1), (8 + 2, 1), (8 * 32 + 3, 5)] {
+    // words without a use, the best match of a free place, and an empty table anywhere past the header
+    assert!(of(&[(1, 9), (66, 9), (1_023, 9), (1_029, 9), (2, 1_056)]));
+    for change in [(0, 256), (2, 1_023), (2, 1_057), (2, u32::MAX), (2 * 32 + 1, 5), (2 * 32 + 1, 1 << 29)] {
         assert!(!of(&[change]), "{change:?}");
     }
-    // the /8's place: free, neither, other bits, another best match; an entry too many
-    for change in [(1_024, 0), (1_024, 2), (1_025, 11), (1_026, 512 + 8), (1_028, 1)] {
+    // a table that lies inside the words, but not inside those needed
+    let (mut past, needed) = (with(&[(2, 1_056)]), 1_056);
+    past.extend([0; 8]);
+    assert!(stands(&sample(), &past));
+    past[2] = needed + 1;
+    assert!(!stands(&sample(), &past));
+    // the /8's place: free, other bits, another best match, none
+    for change in [(1_024, 0), (1_024, key(11)), (1_028, 512 + 8), (1_028, 0)] {
         assert!(!of(&[change]), "{change:?}");
     }
-    // at its other place an entry is found only if the first is taken
-    assert!(!of(&[(1_024, 0), (1_028, 1), (1_029, 0xA), (1_030, 256 + 8)]));
     // the marker without its best match
-    assert!(!of(&[(1_034, 0)]));
+    assert!(!of(&[(1_039, 0)]));
+}
+
+#[test]
+fn an_entry_stands_where_its_probe_meets_it() {
+    let of = |changes: &[(usize, u32)]| stands(&sample(), &with(changes));
+    // at another place an entry is found only if those before it are taken
+    assert!(!of(&[(1_024, 0), (1_025, key(10)), (1_029, 256 + 8)]));
+    assert!(of(&[(1_024, key(10)), (1_025, key(10)), (1_029, 7)]));
+    // 11's product is 0xCC623AF3: an entry too many at the last place, and at the others one that no probe meets
+    assert!(!of(&[(1_027, key(11))]));
+    assert!(of(&[(1_025, key(11)), (1_026, key(11))]));
+    assert!(of(&[(1_024, key(11)), (1_025, key(10)), (1_029, 256 + 8)]));
+}
+
+/// 255.255.255.255/32 via 7 and its copy. The products of the ones of 16, 24, 28, 30, 31, 32 bits begin with 0xD, 0x1,
+/// 0xF, 0xA, 0xE, 0x6. Of length 32 its key, word 1,065, is 0; its best match is word 1,069.
+fn last_address() -> (RouteList, Vec<u32>) {
+    let markers = [(16, 3), (24, 0), (28, 3), (30, 2), (31, 3)].map(|(m, place)| (m, place, u32::MAX >> (32 - m), 0));
+    let tables = [&markers[..], &[(32, 1, u32::MAX, 7 * 256 + 32)]].concat();
+    (list(&[(u32::MAX, 32, 7)]), laid(&tables))
+}
+
+#[test]
+fn the_last_address_has_the_key_of_a_free_place() {
+    let (list, words) = last_address();
+    assert_eq!((words.len(), words[1_065]), (1_072, 0));
+    assert!(stands(&list, &words));
+    assert_eq!(walk(&words, u32::MAX), Ok(Some((7, 32))));
+    assert_eq!(walk(&words, u32::MAX - 1), Ok(None));
+    let with = |at: usize, word| {
+        let mut words = words.clone();
+        words[at] = word;
+        words
+    };
+    // without a best match its place is free
+    assert!(!stands(&list, &with(1_069, 0)));
+    assert_eq!(walk(&with(1_069, 0), u32::MAX), Ok(None));
+    // other places with a best match are the same entry once more, which its probe does not meet
+    for at in [1_068, 1_070, 1_071] {
+        assert!(stands(&list, &with(at, 9)), "{at}");
+    }
+    // of length 31 and shorter the key 0 is no entry's, whatever the best match
+    assert!(stands(&list, &with(1_024 + 4, 9)));
+    assert!(!stands(&list, &with(1_024 + 3, 0)));
+}
+
+#[test]
+fn a_free_place_of_length_32_has_no_best_match() {
+    // the products of the heads of 0 are 0
+    let tables = [16, 24, 28, 30, 31].map(|m| (m, 0, 0, 0));
+    let words = laid(&[&tables[..], &[(32, 0, 0, 256 + 32)]].concat());
+    let of = |at: usize| {
+        let mut words = words.clone();
+        words[at] = 9;
+        stands(&list(&[(0, 32, 1)]), &words)
+    };
+    assert!(stands(&list(&[(0, 32, 1)]), &words));
+    // 255.255.255.255 would be found at the second place, where its probe begins, and is not at the third
+    assert!(!of(1_064 + 4 + 1));
+    assert!(of(1_064 + 4 + 2));
 }
 
 #[test]
@@ -273,12 +355,16 @@ fn words_that_a_build_leaves() {
     assert_eq!(kept_of(&sample(), 1_058), [1_056, 1_057]);
     let default = list(&[(0, 0, 1)]);
     assert_eq!(kept_of(&default, 1_032), (1_024..1_032).collect::<Vec<_>>());
-    let header = kept(&default, 1_032);
-    assert_eq!(header[..12], [1, 2, 3, 4, 5, 6, 7, 12, 13, 14, 15, 20]);
-    assert!(header.contains(&263) && !header.contains(&259) && header.contains(&264) && header.contains(&1_023));
+    // of the header all but the default's and two for each length
+    assert_eq!(kept(&default, 1_032), [1].into_iter().chain(66..1_032).collect::<Vec<_>>());
 }
 
 const TEN: u32 = 0x0A01_0509;
+/// An address that the sample has no route for.
+const ELEVEN: u32 = 0x0B00_0000;
+
+/// Words that are no best match: no hop, lengths over 32, hops over 65,535.
+const NO_BESTS: [u32; 8] = [1, 32, 255, 256 + 33, 256 + 255, 1 << 24, (1 << 24) + 256, u32::MAX];
 
 #[test]
 fn the_walks_refusals() {
@@ -286,73 +372,155 @@ fn the_walks_refusals() {
     assert_eq!(at(&[]), Ok(Some((2, 22))));
     assert_eq!(walk(&words()[..1_023], TEN), Err(NO));
     assert_eq!(walk(&[], TEN), Err(NO));
-    for default in [1, 255, 256 + 1, 1 << 24, u32::MAX] {
-        assert_eq!(at(&[(0, default)]), Err(NO), "{default}");
-    }
+    // tables without entries lie inside any words, at word 0
+    assert_eq!([1_023, 1_024].map(|count| walk(&vec![0; count], TEN)), [Err(NO), Ok(None)]);
     // the tables of 16, 24, 20, 22 and 23 are looked into, that of 18 is not
     for m in [16, 24, 20, 22, 23] {
-        assert_eq!(at(&[(8 * m + 1, 1_057)]), Err(NO), "{m}");
-        assert_eq!(at(&[(8 * m, 1)]), Err(NO), "{m}");
-        assert_eq!(at(&[(8 * m + 3, 5)]), Err(NO), "{m}");
-        assert_eq!(at(&[(8 * m + 2, u32::MAX)]), Err(NO), "{m}");
+        for begin in [1_057, u32::MAX - 7, u32::MAX] {
+            assert_eq!(at(&[(2 * m, begin)]), Err(NO), "{m} {begin}");
+        }
+        // eight times the last four is 0 or 8 modulo 2^32
+        for entries in [5, u32::MAX, 1 << 28, 1 << 29, (1 << 29) + 1, 1 << 30, 1 << 31] {
+            assert_eq!(at(&[(2 * m + 1, entries)]), Err(NO), "{m} {entries}");
+        }
+        // begin and size are 2^32 together
+        assert_eq!(at(&[(2 * m, u32::MAX - 7), (2 * m + 1, 1)]), Err(NO), "{m}");
     }
-    assert_eq!(at(&[(8 * 18, u32::MAX), (8 * 18 + 2, u32::MAX)]), Ok(Some((2, 22))));
-    // the taken word of the place of 10.1.0.0/16, and its best match: a length of at most 16
-    assert_eq!(at(&[(1_032, 2)]), Err(NO));
-    assert_eq!(at(&[(1_036, 2)]), Ok(Some((2, 22))));
-    for best in [1, 255, 256 + 17, 1 << 24, u32::MAX] {
-        assert_eq!(at(&[(1_034, best)]), Err(NO), "{best}");
+    assert_eq!(at(&[(2 * 18, u32::MAX), (2 * 18 + 1, u32::MAX)]), Ok(Some((2, 22))));
+}
+
+#[test]
+fn a_table_ends_by_the_end_of_the_words() {
+    let at = |begin, entries| walk(&with(&[(2 * 24, begin), (2 * 24 + 1, entries)]), TEN);
+    for (begin, entries) in [(1_056, 0), (1_048, 1), (1_024, 4), (0, 0), (0, 132)] {
+        assert_eq!(at(begin, entries), Ok(Some((2, 22))), "{begin} {entries}");
     }
-    for best in [0, 256, 256 + 16, (1 << 24) - 256] {
-        assert_eq!(at(&[(1_034, best)]), Ok(Some((2, 22))), "{best}");
+    for (begin, entries) in [(1_057, 0), (1_049, 1), (1_025, 4), (u32::MAX, 0), (0, 133), (1, 132)] {
+        assert_eq!(at(begin, entries), Err(NO), "{begin} {entries}");
+    }
+}
+
+#[test]
+fn the_best_match_that_the_search_ends_with_is_in_range() {
+    let last = |best| walk(&with(&[(1_055, best)]), TEN);
+    let default = |best| walk(&with(&[(0, best)]), ELEVEN);
+    for best in NO_BESTS {
+        assert_eq!((last(best), default(best)), (Err(NO), Err(NO)), "{best}");
+    }
+    // any length up to 32, at the table of 22 and at the default route too
+    for (hop, length) in [(1, 0), (1, 22), (1, 23), (1, 32), (65_535, 0), (65_535, 32)] {
+        let (best, found) = (256 * hop + length, Ok(Some((hop, length))));
+        assert_eq!((last(best), default(best)), (found, found), "{best}");
+    }
+    assert_eq!((last(0), default(0)), (Ok(None), Ok(None)));
+    // what is passed over is anything: the default, and the best matches of the marker and of the /20
+    for best in NO_BESTS.into_iter().chain([0, 256, 256 + 17]) {
+        for passed in [0, 1_039, 1_046] {
+            assert_eq!(walk(&with(&[(passed, best)]), TEN), Ok(Some((2, 22))), "{passed} {best}");
+        }
     }
 }
 
 #[test]
 fn a_hit_takes_the_place_of_what_is_carried() {
     let at = |changes: &[(usize, u32)], address| walk(&with(changes), address);
-    assert_eq!(at(&[(0, 5 * 256)], 0x0B00_0000), Ok(Some((5, 0))));
-    assert_eq!(at(&[(0, 5 * 256), (1_026, 0)], 0x0A02_0000), Ok(None));
+    assert_eq!(at(&[(0, 5 * 256)], ELEVEN), Ok(Some((5, 0))));
+    assert_eq!(at(&[(0, 5 * 256), (1_028, 0)], 0x0A02_0000), Ok(None));
     // a miss at 16 goes to 8, and the /20 is not looked for
-    assert_eq!(at(&[(1_032, 0)], TEN), Ok(Some((1, 8))));
+    assert_eq!(at(&[(1_035, 0)], TEN), Ok(Some((1, 8))));
 }
 
-/// A table of length 1 at the end, with four places; the way comes to 1 by misses. The probe for 1 begins at the last
-/// place.
-fn four_places(places: [[u32; 3]; 4], address: u32) -> Result<Option<(u32, u32)>, Refusal> {
-    let mut words = with(&[(8 + 1, 1_056), (8 + 3, 2)]);
-    words.extend(places.iter().flat_map(|place| [place[0], place[1], place[2], 9]));
-    walk(&words, address)
+/// The walk for the last address with a table of length 1 at the end; the way comes to 1 by misses.
+fn of_one_bit(places: Places) -> Result<Option<(u32, u32)>, Refusal> {
+    let mut words = words();
+    push_table(&mut words, 1, places);
+    walk(&words, u32::MAX)
 }
 
+const FREE: (u32, u32) = (0, 257);
+/// Of bits that are not looked for, with what is no best match.
+const OTHER: (u32, u32) = (u32::MAX - 3, 1);
+const ONE: (u32, u32) = (u32::MAX - 1, 769);
+
+/// The product of 1 is 0x9E3779B9, so of four places its probe begins at the third.
 #[test]
 fn a_probe_goes_round_the_end() {
-    let (free, other, one) = ([0, 1, 257], [1, 3, 513], [1, 1, 769]);
-    let found = |places| four_places(places, u32::MAX);
-    assert_eq!(found([free, free, free, one]), Ok(Some((3, 1))));
-    assert_eq!(found([one, free, free, other]), Ok(Some((3, 1))));
-    assert_eq!(found([other, other, one, other]), Ok(Some((3, 1))));
-    assert_eq!(found([free, one, one, other]), Ok(None));
-    assert_eq!(found([other, other, other, other]), Ok(None));
-    assert_eq!(found([one, one, one, free]), Ok(None));
-    assert_eq!(found([other, [2, 1, 769], one, other]), Err(NO));
-    assert_eq!(found([free, [2, 1, 769], one, other]), Ok(None));
+    let found = |places: [(u32, u32); 4]| of_one_bit(&places);
+    assert_eq!(found([FREE, FREE, ONE, FREE]), Ok(Some((3, 1))));
+    assert_eq!(found([FREE, FREE, OTHER, ONE]), Ok(Some((3, 1))));
+    assert_eq!(found([ONE, FREE, OTHER, OTHER]), Ok(Some((3, 1))));
+    assert_eq!(found([OTHER, ONE, OTHER, OTHER]), Ok(Some((3, 1))));
+    assert_eq!(found([FREE, ONE, OTHER, OTHER]), Ok(None));
+    assert_eq!(found([OTHER, OTHER, OTHER, OTHER]), Ok(None));
+    assert_eq!(found([ONE, ONE, FREE, ONE]), Ok(None));
+    // the first of two that it meets
+    assert_eq!(found([(key(1), 5 * 256), OTHER, OTHER, ONE]), Ok(Some((3, 1))));
+    // a key of no bits of this length is that of others too
+    assert_eq!(found([FREE, FREE, (1, 257), ONE]), Ok(Some((3, 1))));
+}
+
+/// 0x9E3779B9 is 0.618 of 2^32: of 8, 12, 20 and 400 places it is 4.9, 7.4, 12.4 and 247.2.
+#[test]
+fn a_probe_begins_at_its_share_of_the_places() {
+    for (count, start) in [(8, 4), (12, 7), (20, 12), (400, 247)] {
+        let only_at = |place: usize| {
+            let mut places = vec![FREE; count];
+            places[place] = ONE;
+            of_one_bit(&places)
+        };
+        let found: Vec<usize> = (0..count).filter(|&place| only_at(place) == Ok(Some((3, 1)))).collect();
+        assert_eq!(found, [start], "{count}");
+    }
+}
+
+/// Words whose tables on the way to 32 have the last address's bits at all their places; the other tables are empty.
+/// The best matches at length m are hop and length m.
+fn ones() -> Vec<u32> {
+    let mut words = laid(&[]);
+    for m in [16, 24, 28, 30, 31, 32] {
+        push_table(&mut words, m, &[(key(u32::MAX >> (32 - m)), 257 * m as u32); 4]);
+    }
+    words
 }
 
 #[test]
 fn a_hit_at_31_tries_32() {
-    // on the way to 32 the tables have the last address's bits at both their places; the other tables are empty
-    let lengths = [16, 24, 28, 30, 31, 32];
-    let mut words = vec![0; 1_024 + 8 * lengths.len()];
-    for (i, m) in lengths.into_iter().enumerate() {
-        words[8 * m + 1] = (1_024 + 8 * i) as u32;
-        words[8 * m + 3] = 1;
-        let bits = u32::MAX >> (32 - m);
-        let entry = [1, bits, 256 * m as u32 + m as u32, 0];
-        words[1_024 + 8 * i..][..8].copy_from_slice(&[entry, entry].concat());
-    }
+    let mut words = ones();
     assert_eq!(walk(&words, u32::MAX), Ok(Some((32, 32))));
     assert_eq!(walk(&words, u32::MAX - 1), Ok(Some((31, 31))));
-    words[8 * 31 + 3] = 0;
+    words[2 * 31 + 1] = 0;
     assert_eq!(walk(&words, u32::MAX), Ok(Some((30, 30))));
+}
+
+/// The walks for 255.255.255.255 and the address before it, with these places at length m. Of length 32 their probes
+/// begin at the second and the last of four.
+fn last_two(m: usize, places: [(u32, u32); 4]) -> [Result<Option<(u32, u32)>, Refusal>; 2] {
+    let mut words = ones();
+    push_table(&mut words, m, &places);
+    [u32::MAX, u32::MAX - 1].map(|address| walk(&words, address))
+}
+
+#[test]
+fn a_key_of_0_at_length_32() {
+    let (free, last, before) = ((0, 0), (0, 7 * 256 + 32), (1, 8 * 256 + 32));
+    let (seven, eight, no) = (Ok(Some((7, 32))), Ok(Some((8, 32))), Ok(Some((31, 31))));
+    assert_eq!(last_two(32, [free; 4]), [no, no]);
+    assert_eq!(last_two(32, [free, last, free, before]), [seven, eight]);
+    // with a best match it is passed over by the probe for others, without one that ends there
+    assert_eq!(last_two(32, [before, last, free, last]), [seven, eight]);
+    assert_eq!(last_two(32, [before, last, free, free]), [seven, no]);
+    assert_eq!(last_two(32, [before, free, last, last]), [no, eight]);
+    assert_eq!(last_two(32, [last, before, before, before]), [seven, eight]);
+    // what is no best match is not 0 either
+    assert_eq!(last_two(32, [before, (0, 5), free, (0, u32::MAX)]), [Err(NO), eight]);
+}
+
+#[test]
+fn a_key_of_0_at_a_shorter_length() {
+    // The probe for the ones of 31 bits begins at the last place.
+    let (no_entry, ones) = ((0, 7 * 256 + 31), (key(u32::MAX >> 1), 7 * 256 + 31));
+    let thirty = Ok(Some((30, 30)));
+    assert_eq!(last_two(31, [no_entry; 4]), [thirty; 2]);
+    assert_eq!(last_two(31, [ones, ones, ones, no_entry]), [thirty; 2]);
+    assert_eq!(last_two(31, [no_entry, no_entry, no_entry, ones])[1], Ok(Some((7, 31))));
 }

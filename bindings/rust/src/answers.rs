@@ -21,8 +21,8 @@ pub enum Refusal {
     ///
     /// From [`copy::need`](crate::copy::need) and [`copy::build`](crate::copy::build): the bytes are not one whole list of
     /// a table, of any room, in records of kind 4 or of kind 1 alone. From [`copy::lookup`](crate::copy::lookup): the words
-    /// are fewer than 1,024, or its walk meets a best match, the place of a hash table or the mark of an entry that no copy
-    /// has. From [`packed::lookup`](crate::packed::lookup): its walk meets an entry outside the words, or a number that no
+    /// are fewer than 1,024, its walk meets a hash table that does not lie inside them, or it ends with a best match that no
+    /// copy has. From [`packed::lookup`](crate::packed::lookup): its walk meets an entry outside the words, or a number that no
     /// compressed table has.
     NotATable = 2,
     /// 3: the length is over 32, or of a prefix of IPv6 over 128.

@@ -88,8 +88,8 @@ pub fn build(bytes: &[u8], words: &mut [u32]) -> Result<Built, Refusal> {
 /// The copy is not tested: on words that are none the call reads inside them and gives what its walk gives.
 ///
 /// # Errors
-/// [`Refusal::NotATable`] where the words are fewer than 1,024, or the walk meets a best match, the place of a hash table
-/// or the mark of an entry that no copy has.
+/// [`Refusal::NotATable`] where the words are fewer than 1,024, the walk meets a hash table that does not lie inside them, or
+/// it ends with a best match that no copy has.
 pub fn lookup(words: &[u32], address: Ipv4Addr) -> Result<Option<Match>, Refusal> {
     let answer = unsafe { ffi::toggleash_copy_lookup(words.as_ptr(), words.len(), address.into()) };
     accepted(answer.refusal)?;

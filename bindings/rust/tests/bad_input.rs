@@ -182,11 +182,11 @@ fn words_that_are_no_copy() {
     // no table of length 16, then one that lies outside
     words[0] = 65_535 * 256;
     assert_eq!(copy::lookup(&words, ZERO), Ok(Some(Match { hop: 65_535, length: 0 })));
-    words[8 * 16 + 1] = 1_025;
+    words[2 * 16] = 1_025;
     assert_eq!(copy::lookup(&words, ZERO), Err(Refusal::NotATable));
-    words[8 * 16 + 1] = 1_024;
+    words[2 * 16] = 1_024;
     assert_eq!(copy::lookup(&words, ZERO), Ok(Some(Match { hop: 65_535, length: 0 })));
-    for default in [1, 255, 257, 1 << 24, u32::MAX] {
+    for default in [1, 255, 256 + 33, 1 << 24, u32::MAX] {
         words[0] = default;
         assert_eq!(copy::lookup(&words, ZERO), Err(Refusal::NotATable), "{default}");
     }

@@ -39,7 +39,7 @@ pick-held P x L a (r ∷ rs) w h k p n =
     (λ q _. picks-more P x (a / 2 ^ (32 - x)) r rs (pick-held P x L a rs (w .1) h k p
     (λ z. n (hop-skip r rs (keyAt 32 a L) q ∙ z))))
 
-turn-below : (n m L x : ℕ) → mem x (turns n m L) ≡ true → x < L
+pub turn-below : (n m L x : ℕ) → mem x (turns n m L) ≡ true → x < L
 unfolding turns
 turn-below zero m L x e = less m L (λ h d. one m x h (rw d at e)) (λ h d. absurd (false≢true (rw d at e)))
   where

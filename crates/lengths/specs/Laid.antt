@@ -1,6 +1,6 @@
 -- When words are a list laid out by lengths, and that the walk on them then gives the longest match. Assumes nothing.
 use mathlib.Core.Path.{_≡_, refl, ap, _∙_}
-use mathlib.Core.Bool.{false, cond}
+use mathlib.Core.Bool.{cond}
 use mathlib.Core.List.{List, [], _∷_}
 use Prim.Native.Nat.{ℕ, zero, suc, _+_, _-_, _*_, _/_, _%_, _^_, _≤_, _<_}
 use native.Mathlib.Omega.{arith}
@@ -12,19 +12,18 @@ use Rattle.routes.specs.Room.{mem}
 use Rattle.routes.specs.Seen.{gives}
 use Rattle.logic.specs.Cases.{same}
 use Rattle.laws.specs.Longest.{along, longest-last, wfs}
-use Rattle.lengths.specs.Way.{miss, hit, search, code, best}
-use Rattle.lengths.specs.Marks.{heldAt, entries, bestAt, wordsFor}
+use Rattle.lengths.specs.Way.{miss, hit, search, code}
+use Rattle.lengths.specs.Marks.{entries, bestAt, wordsFor}
 use Rattle.lengths.specs.Held.{list-way}
 use Rattle.lengths.specs.Hash.{start-lt, place-lt}
-use Rattle.lengths.specs.Layout.{headerWords, beginOf, sizeOf, badBest, Places, placesOf, probe, find, look, answered, walk}
-use Rattle.lengths.specs.Layout.{start}
+use Rattle.lengths.specs.Layout.{headerWords, beginOf, sizeOf, Places, placesOf, start, probe, findIn, look, walk}
+use Rattle.lengths.specs.Layout.{answered}
 
 -- the table of length m lies between the header and `to`, and tells the list's entries of that length, each with its best match
 pub record Table (rs : List Route) (ws : List ℕ) (to m : ℕ) : Type 0 where
   pub begins : headerWords ≤ beginOf ws m
   pub ends : beginOf ws m + 8 * sizeOf ws m ≤ to
-  pub finds : (v : ℕ) → find (placesOf ws (beginOf ws m)) m (2 * sizeOf ws m) v
-      ≡ cond (mem v (entries m rs)) (hit (bestAt rs m v)) miss
+  pub finds : (v : ℕ) → findIn ws m (beginOf ws m) (sizeOf ws m) v ≡ cond (mem v (entries m rs)) (hit (bestAt rs m v)) miss
 
 -- the default route is kept beside
 pub record Laid (rs : List Route) (ws : List ℕ) : Type 0 where
@@ -56,27 +55,20 @@ hop-low : (rs : List Route) (k : ℕ) → All (IsRoute 32) rs → hopAt rs k ≤
 hop-low [] k p = omega arith
 hop-low (r ∷ rs) k p = same (key r) k (λ q e. rw e (p .0 .low)) (λ q e. rw e (hop-low rs k (p .1)))
 
-code-fine : (m : ℕ) (x : Match) → m ≤ 32 → Low m x → badBest m (code x) ≡ false
-code-fine m none h w = refl
-code-fine m (found a l) h w =
-    let e : (a * 256 + l) % 256 ≡ l = omega arith in
-    rw (
-      ne-eqb (a * 256 + l) 0 (λ q. omega arith),
-      le-ltb (a * 256 + l) 256 (omega arith),
-      lt-leb 16777216 (a * 256 + l) (omega arith),
-      le-ltb m ((a * 256 + l) % 256) (omega arith),
-    )
-
-pub best-fine : (rs : List Route) (m v : ℕ) → m ≤ 32 → All (IsRoute 32) rs → badBest m (bestAt rs m v) ≡ false
-best-fine rs m v h p = code-fine m (last (λ l. heldAt rs l (v / 2 ^ (m - l))) m) h
-    (last-low (λ l. heldAt rs l (v / 2 ^ (m - l))) m (λ l. hop-low rs _ p))
-
+-- and its number tells it
 code-back : (x : Match) → Low 32 x → answered (hit (code x)) ≡ gives x
 code-back none w = refl
 code-back (found h l) w =
     let a : (h * 256 + l) / 256 ≡ h = omega arith in
     let b : (h * 256 + l) % 256 ≡ l = omega arith in
-    rw (ne-eqb (h * 256 + l) 0 (λ q. omega arith), a, b)
+    rw (
+      ne-eqb (h * 256 + l) 0 (λ q. omega arith),
+      le-ltb (h * 256 + l) 256 (omega arith),
+      lt-leb 16777216 (h * 256 + l) (omega arith),
+      le-ltb 32 ((h * 256 + l) % 256) (omega arith),
+      a,
+      b,
+    )
 
 -- ---- the walk on them
 
@@ -99,40 +91,49 @@ module _ (rs : List Route) (ws : List ℕ) (l : IsList 32 rs) (c : Laid rs ws) (
   unfolding walk
   laid-walk =
       let z : a / 4294967296 ≡ 0 = omega arith in
-      rw (le-ltb (length ws) headerWords (omega (arith, c .long)), c .default, best-fine rs 0 0 (omega arith) (l .routes))
+      rw (le-ltb (length ws) headerWords (omega (arith, c .long)), c .default)
       (ap answered (rw z at laid-search) ∙ code-back (longest 32 a rs) longest-low)
 
 -- ---- what a table hangs on
 
 -- U has the places of T
-probe-same : (T U : Places) (m p v : ℕ) → ((i : ℕ) → i < p → U .taken i ≡ T .taken i)
+probe-same : (T U : Places) (p v : ℕ) → ((i : ℕ) → i < p → U .taken i ≡ T .taken i)
     → ((i : ℕ) → i < p → U .value i ≡ T .value i) → ((i : ℕ) → i < p → U .best i ≡ T .best i)
-    → (n d : ℕ) → d + n ≤ p → probe U m p v n d ≡ probe T m p v n d
+    → (n d : ℕ) → d + n ≤ p → probe U p v n d ≡ probe T p v n d
 unfolding probe
-probe-same T U m p v t k b zero d h = refl
-probe-same T U m p v t k b (suc n) d h =
+probe-same T U p v t k b zero d h = refl
+probe-same T U p v t k b (suc n) d h =
     let j = place-lt (start v p) p d (start-lt v p (omega arith)) (omega arith) in
-    rw (t _ j, k _ j, b _ j, probe-same T U m p v t k b n (d + 1) (omega arith))
+    rw (t _ j, k _ j, b _ j, probe-same T U p v t k b n (d + 1) (omega arith))
 
 -- its own numbers in the header, and the words between the header and `to`
-pub table-same : (rs : List Route) (ws us : List ℕ) (to m : ℕ) → ((i : ℕ) → 8 * m ≤ i → i < 8 * m + 4 → getD us i 0 ≡ getD ws i 0)
-    → ((i : ℕ) → headerWords ≤ i → i < to → getD us i 0 ≡ getD ws i 0)
-    → Table rs ws to m → Table rs us to m
-table-same rs ws us to m h w t =
-    record {
-      begins = rw o (t .begins);
-      ends = rw (o, n) (t .ends);
-      finds = λ v. rw (o, n) (probe-same (placesOf ws (beginOf ws m)) (placesOf us (beginOf ws m)) m (2 * sizeOf ws m) v
-          (λ i l. w _ (omega (arith, t .begins)) (omega (arith, t .ends)))
-          (λ i l. w _ (omega (arith, t .begins)) (omega (arith, t .ends)))
-          (λ i l. w _ (omega (arith, t .begins)) (omega (arith, t .ends))) (2 * sizeOf ws m) 0 (omega arith) ∙ t .finds v);
-    }
-  where
-    o : beginOf us m ≡ beginOf ws m
-    o = rw (h (8 * m) (omega arith) (omega arith), h (8 * m + 1) (omega arith) (omega arith))
+module _ (rs : List Route) (ws us : List ℕ) (to m : ℕ) (h : (i : ℕ) → 2 * m ≤ i → i < 2 * m + 2 → getD us i 0 ≡ getD ws i 0)
+    (w : (i : ℕ) → headerWords ≤ i → i < to → getD us i 0 ≡ getD ws i 0) (t : Table rs ws to m) where
+  abbrev o : ℕ
+  o = beginOf ws m
 
-    n : sizeOf us m ≡ sizeOf ws m
-    n = rw (h (8 * m + 2) (omega arith) (omega arith), h (8 * m + 2 + 1) (omega arith) (omega arith))
+  abbrev p : ℕ
+  p = 4 * sizeOf ws m
+
+  begin-same : beginOf us m ≡ o
+  begin-same = h (2 * m) (omega arith) (omega arith)
+
+  size-same : sizeOf us m ≡ sizeOf ws m
+  size-same = h (2 * m + 1) (omega arith) (omega arith)
+
+  keys-same : (i : ℕ) → i < p → getD us (o + i) 0 ≡ getD ws (o + i) 0
+  keys-same i l = w _ (omega (arith, t .begins)) (omega (arith, t .ends))
+
+  bests-same : (i : ℕ) → i < p → getD us (o + i + p) 0 ≡ getD ws (o + i + p) 0
+  bests-same i l = w _ (omega (arith, t .begins)) (omega (arith, t .ends))
+
+  pub table-same : Table rs us to m
+  table-same = record {
+    begins = rw begin-same (t .begins);
+    ends = rw (begin-same, size-same) (t .ends);
+    finds = λ v. rw (begin-same, size-same) (probe-same (placesOf ws m o p) (placesOf us m o p) p v
+        (λ i l. rw (keys-same i l, bests-same i l)) (λ i l. rw (keys-same i l)) bests-same p 0 (omega arith) ∙ t .finds v);
+  }
 
 -- whatever stands past the words that the list needs
 pub laid-front : (rs : List Route) (ws us : List ℕ) → wordsFor rs ≤ length us

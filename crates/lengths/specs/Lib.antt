@@ -6,6 +6,7 @@ pub mod Marks
 pub mod Worked
 pub mod Entries
 pub mod Held
+pub mod Few
 pub mod Hash
 pub mod Laid
 pub mod Answer

@@ -1,63 +1,58 @@
 // A route list laid out by lengths in lent words, and its lookup: a hash table for each length, and the search's way among them.
 use replies::Match;
 ghost use mathlib.Core.Path.{_≡_};
+ghost use mathlib.Core.Bool.{not};
 ghost use Prim.Native.Nat.{_+_, _*_, _-_, _/_, _^_, _<_, _≤_};
-ghost use lib.ListN.{length};
+ghost use lib.ListN.{length, getD};
 ghost use mathlib.Core.List.{List};
 ghost use Rattle.routes.specs.Route.{Route, IsList};
 ghost use Rattle.routes.specs.Match.{longest};
 ghost use Rattle.routes.specs.Seen.{gives};
-ghost use Rattle.lengths.specs.Way.{after, hit, search};
-ghost use Rattle.lengths.specs.Layout.{headerWords, wide as wideAt, badBest, ranged as rangedBest, placesOf};
-ghost use Rattle.lengths.specs.Layout.{start as startOf, place as placeOf, find, look, answered, walk};
+ghost use Rattle.lengths.specs.Way.{hit, search};
+ghost use Rattle.lengths.specs.Layout.{headerWords, badBest, takenBy, placesOf, probe as probed};
+ghost use Rattle.lengths.specs.Layout.{start as startOf, place as placeOf, findIn, look, answered, walk};
 ghost use Rattle.lengths.specs.Laid.{Laid};
-ghost use Rattle.lengths.specs.Answer.{lookOf};
+ghost use Rattle.lengths.specs.Answer.{Looked, there, lookOf};
 ghost use Rattle.replies.specs.Said.{saidMatch};
 
 // The words of the header.
 pub const HEADER_WORDS: usize = 1024;
 
-// What a look at one length gives: no entry; an entry's best match; a number outside its range.
+// The words and the places of an entry.
+pub const ENTRY_WORDS: usize = 8;
+
+pub const PLACES: usize = 4;
+// Less an entry's bits, its key.
+pub const MOST_BITS: u32 = 4294967295;
+// By this bits are mixed, ..
+const MIXER: usize = 2654435769;
+// .. below this, which is one past the numbers of a word; ..
+const WORD_BOUND: usize = 4294967296;
+// .. and WORD_BOUND / PLACES mixed bits fall on a place for each entry.
+const PLACE_SHARE: usize = 1073741824;
+// A best match is hop * HOP_UNIT + length, below BEST_BOUND.
+pub const HOP_UNIT: u32 = 256;
+
+const BEST_BOUND: u32 = 16777216;
+// The longest length.
+const LONGEST: u32 = 32;
+
+// What a look at one length gives: no entry; the word of an entry's best match; a table outside the words.
 pub enum Look {
     Miss,
-    Hit(u32),
+    Hit(usize),
     Outside,
 }
 
 // ---- one hash table
 
-// A best match that is neither 0 nor a hop and a length of at most m.
-fn strange(m: u32, best: u32) -> bool
-    ensures { λ r. ⌜ r ≡ badBest m best ⌝ }
+// Where the probe for v begins among the places of so many entries.
+pub fn start(v: u32, size: usize) -> usize
+    requires { ⌜ (1 ≤ size) × (size < 2 ^ 32) ⌝ }
+    ensures { λ r. ⌜ (r ≡ startOf v (4 * size)) × (r < 4 * size) ⌝ }
 {
-    if best == 0 {
-        return false;
-    }
-    if best < 256 {
-        return true;
-    }
-    if best >= 16777216 {
-        return true;
-    }
-    best % 256 > m
-}
-
-fn ranged(m: u32, best: u32) -> Look
-    ensures { λ r. ⌜ lookOf r ≡ rangedBest m best ⌝ }
-{
-    if strange(m, best) {
-        return Look::Outside;
-    }
-    Look::Hit(best)
-}
-
-// Where the probe for v begins among p places.
-pub fn start(v: u32, p: usize) -> usize
-    requires { ⌜ 1 ≤ p ⌝ }
-    ensures { λ r. ⌜ (r ≡ startOf v p) × (r < p) ⌝ }
-{
-    let mixed = v as usize * 2654435769 % 4294967296;
-    (mixed % 65536 * 65536 + mixed / 65536) % p
+    let mixed = v as usize * MIXER % WORD_BOUND;
+    mixed * size / PLACE_SHARE
 }
 
 // The place after d steps from s, round the end.
@@ -71,129 +66,155 @@ pub fn place(s: usize, p: usize, d: usize) -> usize
     s + d - p
 }
 
-// What the table of p places at word o has for the m bits v.
-pub fn probe(words: &[u32], o: usize, m: u32, p: usize, v: u32) -> Look
-    requires { ⌜ o + 4 * p ≤ length (now words) ⌝ }
-    ensures { λ r. ⌜ lookOf r ≡ find (placesOf (now (words .entry)) o) m p v ⌝ }
+// Whether a place of length m is free, whose key is word `at` and whose best match stands p words on.
+pub fn is_free(words: &[u32], m: u32, at: usize, p: usize) -> bool
+    requires { ⌜ at + p < length (now words) ⌝ }
+    ensures { λ r. ⌜ r ≡ not (takenBy m (getD (now (words .entry)) at 0) (getD (now (words .entry)) (at + p) 0)) ⌝ }
 {
-    if p == 0 {
-        return Look::Miss;
+    if words[at] != 0 {
+        return false;
     }
-    let s = start(v, p);
-    let mut d = 0;
-    while d < p {
-        let at = o + 4 * place(s, p, d);
-        let taken = words[at];
-        if taken == 0 {
+    if m < LONGEST {
+        return true;
+    }
+    words[at + p] == 0
+}
+
+// What p places at word o have for the m bits v from the step d on, where the probe begins at s.
+fn probe_on(words: &[u32], o: usize, m: u32, p: usize, v: u32, s: usize, d: usize) -> Look
+    requires { ⌜ (o + 2 * p ≤ length (now words)) × (s ≡ startOf v p) × (s < p) × (d ≤ p) ⌝ }
+    ensures { λ r. ⌜ Looked (now (words .entry)) r (probed (placesOf (now (words .entry)) m o p) p v (p - d) d) ⌝ }
+{
+    let mut e = d;
+    while e < p {
+        let at = o + place(s, p, e);
+        if is_free(words, m, at, p) {
             return Look::Miss;
         }
-        if taken > 1 {
-            return Look::Outside;
+        if words[at] == MOST_BITS - v {
+            return Look::Hit(at + p);
         }
-        if words[at + 1] == v {
-            return ranged(m, words[at + 2]);
-        }
-        d += 1;
+        e += 1;
     }
     Look::Miss
 }
 
-// ---- the tables of all lengths
-
-// A number of two words.
-fn wide(words: &[u32], i: usize) -> usize
-    requires { ⌜ i + 1 < length (now words) ⌝ }
-    ensures { λ r. ⌜ r ≡ wideAt (now (words .entry)) i ⌝ }
+// What the table of so many entries at word o has for the m bits v.
+pub fn probe(words: &[u32], o: usize, m: u32, size: usize, v: u32) -> Look
+    requires { ⌜ (o + 8 * size ≤ length (now words)) × (size < 2 ^ 32) ⌝ }
+    ensures { λ r. ⌜ Looked (now (words .entry)) r (findIn (now (words .entry)) m o size v) ⌝ }
 {
-    words[i] as usize * 4294967296 + words[i + 1] as usize
+    if size == 0 {
+        return Look::Miss;
+    }
+    probe_on(words, o, m, PLACES * size, v, start(v, size), 0)
 }
 
-// What the table of length m has for the m bits v.
-pub fn look_in(words: &[u32], m: u32, v: u32) -> Look
+// ---- the tables of all lengths
+
+// What the table of length m has for the m bits v: the first place of the probe apart, as most end there. The search alone calls
+// it, so that it becomes a part of its loop.
+fn look_in(words: &[u32], m: u32, v: u32) -> Look
     requires { ⌜ (headerWords ≤ length (now words)) × (m ≤ 32) ⌝ }
-    ensures { λ r. ⌜ lookOf r ≡ look (now (words .entry)) m v ⌝ }
+    ensures { λ r. ⌜ Looked (now (words .entry)) r (look (now (words .entry)) m v) ⌝ }
 {
-    let n = words.len();
-    let at = 8 * m as usize;
-    let o = wide(words, at);
-    let size = wide(words, at + 2);
-    if o > n {
+    let o = words[2 * m as usize] as usize;
+    let size = words[2 * m as usize + 1] as usize;
+    if o + ENTRY_WORDS * size > words.len() {
         return Look::Outside;
     }
-    if size > (n - o) / 8 {
-        return Look::Outside;
+    if size == 0 {
+        return Look::Miss;
     }
-    probe(words, o, m, 2 * size, v)
+    let p = PLACES * size;
+    let s = start(v, size);
+    let at = o + s;
+    if is_free(words, m, at, p) {
+        return Look::Miss;
+    }
+    if words[at] == MOST_BITS - v {
+        return Look::Hit(at + p);
+    }
+    probe_on(words, o, m, p, v, s, 1)
 }
 
 // ---- the search
 
-// After a hit at 31, with its best match.
-fn longer(words: &[u32], address: u32, best: u32) -> Look
+// From length 16 on, with the default's match, which is word 0: longer after a hit, shorter after a miss, and 32 after a hit at
+// 31. Only where the best match stands is kept, so that of all those met one is read.
+fn search_from(words: &[u32], address: u32) -> Look
     requires { ⌜ headerWords ≤ length (now words) ⌝ }
-    ensures { λ r. ⌜ lookOf r ≡ after (look (now (words .entry)) 32 (address / 2 ^ (32 - 32))) (hit best) hit ⌝ }
-{
-    match look_in(words, 32, address) {
-        Look::Miss => Look::Hit(best),
-        Look::Hit(b) => Look::Hit(b),
-        Look::Outside => Look::Outside,
-    }
-}
-
-// The last step, at an odd length.
-fn last(words: &[u32], address: u32, m: u32, best: u32) -> Look
-    requires { ⌜ (headerWords ≤ length (now words)) × (1 ≤ m) × (m ≤ 32) ⌝ }
-    ensures { λ r. ⌜ lookOf r ≡ search (λ l. look (now (words .entry)) l (address / 2 ^ (32 - l))) 0 m best ⌝ }
-{
-    match look_in(words, m, address >> (32 - m)) {
-        Look::Miss => Look::Hit(best),
-        Look::Hit(b) => {
-            if m == 31 {
-                return longer(words, address, b);
-            }
-            Look::Hit(b)
-        }
-        Look::Outside => Look::Outside,
-    }
-}
-
-// From length 16 on, with the default's match: longer after a hit, shorter after a miss.
-fn search_from(words: &[u32], address: u32, default: u32) -> Look
-    requires { ⌜ headerWords ≤ length (now words) ⌝ }
-    ensures { λ r. ⌜ lookOf r ≡ search (λ l. look (now (words .entry)) l (address / 2 ^ (32 - l))) 4 16 default ⌝ }
+    ensures { λ r. ⌜ Looked (now (words .entry)) r
+        (search (λ l. look (now (words .entry)) l (address / 2 ^ (32 - l))) 4 16 (getD (now (words .entry)) 0 0)) ⌝ }
 {
     let mut n: u32 = 4;
     let mut m: u32 = 16;
-    let mut best = default;
-    while n > 0 {
-        n -= 1;
-        match look_in(words, m, address >> (32 - m)) {
+    let mut best: usize = 0;
+    loop {
+        match look_in(words, m, address >> (LONGEST - m)) {
             Look::Miss => {
+                if n == 0 {
+                    return Look::Hit(best);
+                }
+                n -= 1;
                 m -= numbers::power(n);
             }
             Look::Hit(b) => {
-                m += numbers::power(n);
                 best = b;
+                if n > 0 {
+                    n -= 1;
+                    m += numbers::power(n);
+                } else if m == 31 {
+                    m = 32;
+                } else {
+                    return Look::Hit(b);
+                }
             }
             Look::Outside => {
                 return Look::Outside;
             }
         }
     }
-    last(words, address, m, best)
 }
 
-fn answer(found: Look) -> Match
-    ensures { λ r. ⌜ saidMatch r ≡ answered (lookOf found) ⌝ }
+// ---- the answer
+
+// A best match that is neither 0 nor a hop and a length of at most 32.
+fn strange(best: u32) -> bool
+    ensures { λ r. ⌜ r ≡ badBest best ⌝ }
+{
+    if best == 0 {
+        return false;
+    }
+    if best < HOP_UNIT {
+        return true;
+    }
+    if best >= BEST_BOUND {
+        return true;
+    }
+    best % HOP_UNIT > LONGEST
+}
+
+// The answer of a best match.
+fn told(best: u32) -> Match
+    ensures { λ r. ⌜ saidMatch r ≡ answered (hit best) ⌝ }
+{
+    if strange(best) {
+        return Match::Refused(2);
+    }
+    if best == 0 {
+        return Match::Nothing;
+    }
+    Match::Found(best / HOP_UNIT, best % HOP_UNIT)
+}
+
+fn answer(words: &[u32], found: Look) -> Match
+    requires { ⌜ there (now words) found ⌝ }
+    ensures { λ r. ⌜ saidMatch r ≡ answered (lookOf (now (words .entry)) found) ⌝ }
 {
     match found {
         Look::Miss => Match::Nothing,
-        Look::Hit(best) => {
-            if best == 0 {
-                return Match::Nothing;
-            }
-            Match::Found(best / 256, best % 256)
-        }
+        Look::Hit(at) => told(words[at]),
         Look::Outside => Match::Refused(2),
     }
 }
@@ -207,9 +228,5 @@ pub fn lookup(words: &[u32], address: u32) -> Match
     if words.len() < HEADER_WORDS {
         return Match::Refused(2);
     }
-    let default = words[0];
-    if strange(0, default) {
-        return Match::Refused(2);
-    }
-    answer(search_from(words, address, default))
+    answer(words, search_from(words, address))
 }

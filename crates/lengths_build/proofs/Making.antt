@@ -1,9 +1,9 @@
 -- One table made: its numbers in the header, the clearing and the two passes together. Assumes nothing.
-use mathlib.Core.Path.{_≡_, refl, _∙_}
+use mathlib.Core.Path.{_≡_, _∙_}
 use mathlib.Core.Logic.{_≢_}
 use mathlib.Core.Bool.{Bool, true, false}
 use mathlib.Core.List.{List}
-use Prim.Native.Nat.{ℕ, zero, _+_, _*_, _/_, _%_, _≤_, _<_}
+use Prim.Native.Nat.{ℕ, zero, _+_, _*_, _≤_, _<_}
 use native.Mathlib.Omega.{arith}
 use lib.ListN.{length, getD, set, length-set}
 use lib.Seq.{getD-set-same, getD-set-other}
@@ -17,63 +17,35 @@ use Rattle.lengths_build.specs.Fill.{filling-turn, filling-end}
 use Rattle.listing.specs.Records.{candidate-of}
 use Rattle.lengths_build.specs.Build.{Cleared, Headed, Makes, Made}
 
--- ---- four words of the header
+-- ---- two words of the header
 
-abbrev four : List ℕ → ℕ → ℕ → ℕ → ℕ → ℕ → List ℕ
-four ws at a b c d = set (set (set (set ws at a) (at + 1) b) (at + 2) c) (at + 3) d
+abbrev two : List ℕ → ℕ → ℕ → ℕ → List ℕ
+two ws at a b = set (set ws at a) (at + 1) b
 
-module _ (ws : List ℕ) (at a b c d : ℕ) (h : at + 3 < length ws) where
-  abbrev one : List ℕ
-  one = set ws at a
+module _ (ws : List ℕ) (at a b : ℕ) (h : at + 1 < length ws) where
+  two-a : getD (two ws at a b) at 0 ≡ a
+  two-a = getD-set-other (set ws at a) (at + 1) at b 0 (λ e. omega arith) ∙ getD-set-same ws at a 0 (omega arith)
 
-  abbrev two : List ℕ
-  two = set (set ws at a) (at + 1) b
+  two-b : getD (two ws at a b) (at + 1) 0 ≡ b
+  two-b = getD-set-same (set ws at a) (at + 1) b 0 (simp length-set (omega arith))
 
-  abbrev three : List ℕ
-  three = set (set (set ws at a) (at + 1) b) (at + 2) c
+  two-out : (i : ℕ) → i ≢ at → i ≢ at + 1 → getD (two ws at a b) i 0 ≡ getD ws i 0
+  two-out i x y = getD-set-other (set ws at a) (at + 1) i b 0 y ∙ getD-set-other ws at i a 0 x
 
-  four-a : getD (four ws at a b c d) at 0 ≡ a
-  four-a =
-      getD-set-other three (at + 3) at d 0 (λ e. omega arith) ∙ getD-set-other two (at + 2) at c 0 (λ e. omega arith)
-      ∙ getD-set-other one (at + 1) at b 0 (λ e. omega arith) ∙ getD-set-same ws at a 0 (omega arith)
-
-  four-b : getD (four ws at a b c d) (at + 1) 0 ≡ b
-  four-b =
-      getD-set-other three (at + 3) (at + 1) d 0 (λ e. omega arith) ∙ getD-set-other two (at + 2) (at + 1) c 0 (λ e. omega arith)
-      ∙ getD-set-same one (at + 1) b 0 (simp length-set (omega arith))
-
-  four-c : getD (four ws at a b c d) (at + 2) 0 ≡ c
-  four-c = getD-set-other three (at + 3) (at + 2) d 0 (λ e. omega arith)
-      ∙ getD-set-same two (at + 2) c 0 (simp length-set (omega arith))
-
-  four-d : getD (four ws at a b c d) (at + 3) 0 ≡ d
-  four-d = getD-set-same three (at + 3) d 0 (simp length-set (omega arith))
-
-  four-out : (i : ℕ) → i ≢ at → i ≢ at + 1 → i ≢ at + 2 → i ≢ at + 3 → getD (four ws at a b c d) i 0 ≡ getD ws i 0
-  four-out i w x y z =
-      getD-set-other three (at + 3) i d 0 z ∙ getD-set-other two (at + 2) i c 0 y ∙ getD-set-other one (at + 1) i b 0 x
-      ∙ getD-set-other ws at i a 0 w
-
-  four-kept : Kept ws (four ws at a b c d) at (at + 4)
-  four-kept = record {
+  two-kept : Kept ws (two ws at a b) at (at + 2)
+  two-kept = record {
     long = simp length-set;
-    below = λ i l. four-out i (λ e. omega arith) (λ e. omega arith) (λ e. omega arith) (λ e. omega arith);
-    above = λ i l. four-out i (λ e. omega arith) (λ e. omega arith) (λ e. omega arith) (λ e. omega arith);
+    below = λ i l. two-out i (λ e. omega arith) (λ e. omega arith);
+    above = λ i l. two-out i (λ e. omega arith) (λ e. omega arith);
   }
 
-pub headed : (ws : List ℕ) (m o size : ℕ) → m ≤ 32 → headerWords ≤ length ws
-    → Headed ws (four ws (8 * m) (o / 4294967296) (o % 4294967296) (size / 4294967296) (size % 4294967296)) m o size
+pub headed : (ws : List ℕ) (m o size : ℕ) → m ≤ 32 → headerWords ≤ length ws → Headed ws (two ws (2 * m) o size) m o size
 headed ws m o size h k =
-    let l : 8 * m + 3 < length ws = omega arith in
-    let q : 8 * m + 2 + 1 ≡ 8 * m + 3 = omega arith in
-    let a = four-a ws (8 * m) (o / 4294967296) (o % 4294967296) (size / 4294967296) (size % 4294967296) l in
-    let b = four-b ws (8 * m) (o / 4294967296) (o % 4294967296) (size / 4294967296) (size % 4294967296) l in
-    let c = four-c ws (8 * m) (o / 4294967296) (o % 4294967296) (size / 4294967296) (size % 4294967296) l in
-    let d = four-d ws (8 * m) (o / 4294967296) (o % 4294967296) (size / 4294967296) (size % 4294967296) l in
+    let l : 2 * m + 1 < length ws = omega arith in
     record {
-      begins = rw (a, b) (omega arith);
-      sizes = rw (q, c, d) (omega arith);
-      kept = four-kept ws (8 * m) (o / 4294967296) (o % 4294967296) (size / 4294967296) (size % 4294967296) l;
+      begins = two-a ws (2 * m) o size l;
+      sizes = two-b ws (2 * m) o size l;
+      kept = two-kept ws (2 * m) o size l;
     }
 
 -- ---- words cleared
@@ -98,30 +70,30 @@ cleared-all ws us from i to a b c = let e : i ≡ to = omega arith in rw (← e)
 
 -- ---- a pass
 
-module _ (k : Bool) (bs : List ℕ) (m o p : ℕ) where
-  pub fill-none : (ws : List ℕ) (i : ℕ) → Filling k bs ws i m o p → Filled k bs ws ws i m o p
-  fill-none ws i f = record { filling = f; kept = kept-none ws o (o + 4 * p) }
+module _ (k : Bool) (bs : List ℕ) (m o n : ℕ) where
+  pub fill-none : (ws : List ℕ) (i : ℕ) → Filling k bs ws i m o n → Filled k bs ws ws i m o n
+  fill-none ws i f = record { filling = f; kept = kept-none ws o (o + 8 * n) }
 
-  pub fill-at : (ws : List ℕ) (i j : ℕ) → j + 1 ≡ i → Filling k bs ws i m o p → Filling k bs ws (j + 1) m o p
+  pub fill-at : (ws : List ℕ) (i j : ℕ) → j + 1 ≡ i → Filling k bs ws i m o n → Filling k bs ws (j + 1) m o n
   fill-at ws i j e f = rw e f
 
   -- the lengths that a record's test asks for
-  pub fill-asks : (ws : List ℕ) (i j l : ℕ) → j + 1 ≡ i → Filling k bs ws i m o p → l ≡ candidateAt bs j .len
+  pub fill-asks : (ws : List ℕ) (i j l : ℕ) → j + 1 ≡ i → Filling k bs ws i m o n → l ≡ candidateAt bs j .len
       → (1 ≤ m) × (m ≤ 32) × (l ≤ 32)
   fill-asks ws i j l e f q = (f .few, f .most, rw q (candidate-of bs (f .list) j (omega (arith, f .upto)) .route .wf .fits))
 
-  pub fill-join : (ws us vs : List ℕ) (i j : ℕ) → Filled k bs ws us i m o p → Filled k bs us vs j m o p
-      → Filled k bs ws vs j m o p
-  fill-join ws us vs i j f g = record { filling = g .filling; kept = kept-join ws us vs o (o + 4 * p) (f .kept) (g .kept) }
+  pub fill-join : (ws us vs : List ℕ) (i j : ℕ) → Filled k bs ws us i m o n → Filled k bs us vs j m o n
+      → Filled k bs ws vs j m o n
+  fill-join ws us vs i j f g = record { filling = g .filling; kept = kept-join ws us vs o (o + 8 * n) (f .kept) (g .kept) }
 
-  pub fill-skip : (ws us : List ℕ) (i j : ℕ) → j + 1 ≡ i → Filled k bs ws us i m o p → (c : Bool)
-      → c ≡ chosen k m (candidateAt bs j .len) → c ≡ false → Filled k bs ws us j m o p
+  pub fill-skip : (ws us : List ℕ) (i j : ℕ) → j + 1 ≡ i → Filled k bs ws us i m o n → (c : Bool)
+      → c ≡ chosen k m (candidateAt bs j .len) → c ≡ false → Filled k bs ws us j m o n
   fill-skip ws us i j e f c q z = record {
-    filling = filling-skip k bs us j m o p (fill-at us i j e (f .filling)) c q z;
+    filling = filling-skip k bs us j m o n (fill-at us i j e (f .filling)) c q z;
     kept = f .kept;
   }
 
-  pub fill-end : (ws us : List ℕ) (i : ℕ) → i ≤ 0 → Filled k bs ws us i m o p → Filled k bs ws us 0 m o p
+  pub fill-end : (ws us : List ℕ) (i : ℕ) → i ≤ 0 → Filled k bs ws us i m o n → Filled k bs ws us 0 m o n
   fill-end ws us i h f = let e : i ≡ 0 = omega arith in rw (← e) f
 
 -- ---- one table
@@ -136,21 +108,21 @@ module _ (bs ws : List ℕ) (m o size : ℕ) (f : Makes bs ws m o size) (us : Li
 
   -- the passes ask that the table's words are cleared, and what is made that no other is
   module _ (vs : List ℕ) (to : ℕ) (r : o + 8 * size ≤ to) (c : Cleared us vs o to) where
-    pub make-first : Filling false bs vs (recordsIn bs) m o (2 * size)
+    pub make-first : Filling false bs vs (recordsIn bs) m o size
     make-first =
-        filling-start bs vs m o (2 * size) (f .list) (f .few) (f .most) (f .low)
-        (omega (arith, f .fits, h .kept .long, c .kept .long)) (rw (f .counts))
+        filling-start bs vs m o size (f .list) (f .few) (f .most) (f .low)
+        (omega (arith, f .fits, h .kept .long, c .kept .long)) (f .small) (f .counts)
         (standing-kept (listOf bs) us vs o m to (f .low) (omega (arith, f .most)) (c .kept) below-kept)
         (λ i a b. c .zero i a (omega arith))
 
-    module _ (xs : List ℕ) (g : Filled false bs vs xs 0 m o (2 * size)) where
-      pub make-second : Filling true bs xs (recordsIn bs) m o (2 * size)
-      make-second = filling-turn bs xs m o (2 * size) (g .filling)
+    module _ (xs : List ℕ) (g : Filled false bs vs xs 0 m o size) where
+      pub make-second : Filling true bs xs (recordsIn bs) m o size
+      make-second = filling-turn bs xs m o size (g .filling)
 
-      pub make-made : to ≤ o + 8 * size → (ys : List ℕ) → Filled true bs xs ys 0 m o (2 * size) → Made bs ws ys m (o + 8 * size)
+      pub make-made : to ≤ o + 8 * size → (ys : List ℕ) → Filled true bs xs ys 0 m o size → Made bs ws ys m (o + 8 * size)
       make-made x ys t = record {
         built = standing-more (listOf bs) ys o (o + 8 * size) m (omega arith) (t .filling .built)
-            (filling-end bs ys m o (2 * size) size refl bo so (t .filling));
+            (filling-end bs ys m o size bo so (t .filling));
         long = t .kept .long ∙ g .kept .long ∙ c .kept .long ∙ h .kept .long;
         past = λ i a b. t .kept .above i (omega arith) ∙ g .kept .above i (omega arith) ∙ c .kept .above i (omega arith)
             ∙ h .kept .above i (omega (arith, f .most));
@@ -160,9 +132,7 @@ module _ (bs ws : List ℕ) (m o size : ℕ) (f : Makes bs ws m o size) (us : Li
           same-at i l = t .kept .below i l ∙ g .kept .below i l ∙ c .kept .below i l
 
           bo : beginOf ys m ≡ o
-          bo = rw (same-at (8 * m) (omega (arith, f .low, f .most)), same-at (8 * m + 1) (omega (arith, f .low, f .most)))
-              (h .begins)
+          bo = same-at (2 * m) (omega (arith, f .low, f .most)) ∙ h .begins
 
           so : sizeOf ys m ≡ size
-          so = rw (same-at (8 * m + 2) (omega (arith, f .low, f .most)), same-at (8 * m + 2 + 1) (omega (arith, f .low, f .most)))
-              (h .sizes)
+          so = same-at (2 * m + 1) (omega (arith, f .low, f .most)) ∙ h .sizes

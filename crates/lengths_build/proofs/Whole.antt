@@ -20,13 +20,14 @@ use Rattle.listing.specs.Listed.{recordsIn, candidateAt, candidatesFrom, candid
 use Rattle.lengths_build.specs.Answer.{needOn, buildOn}
 use Rattle.listing.specs.Records.{Bytes, head-fits}
 use Rattle.listing.specs.Winning.{winningAt}
-use Rattle.listing.specs.Written.{listed-list, listed-candidates}
+use Rattle.listing.specs.Written.{listed-list, listed-candidates, listed-out}
 use Rattle.laws.specs.Longest.{wfs}
 use Rattle.lengths_build.specs.Filling.{Standing}
 use Rattle.lengths_build.specs.Fill.{standing-on}
 use Rattle.lengths_build.specs.Best.{best-own, default-unheld}
 use Rattle.lengths.specs.Layout.{headerWords}
-use Rattle.lengths_build.specs.Build.{LeavesOn, Makes, Made, Starts, Ends}
+use Rattle.lengths_build.specs.Build.{LeavesOn, Taken, entriesBound, Makes, Made, Starts, Ends}
+use Rattle.lengths_build.proofs.Words.{entries-few}
 
 -- ---- the entries of the lengths up to m
 
@@ -46,6 +47,14 @@ to-fits m rs h l =
     let e : m + (32 - m) ≡ 32 = omega arith in
     let a : entriesTo m rs ≤ entriesTo 32 rs = rw e at (to-le m (32 - m) rs) in
     omega (arith, entries-all rs (l .sorted) (wfs 32 rs (l .routes)))
+
+-- and their number in a word, as no length has more than the bound
+to-few : (bs : List ℕ) (m : ℕ) → Taken bs → m ≤ 32 → entriesTo m (listOf bs) ≤ entriesBound * m
+unfolding entriesTo
+to-few bs zero t h = omega arith
+to-few bs (suc m) t h =
+    let e = entries-few bs (suc m) (distinct (entries (suc m) (listOf bs))) t (omega arith) h refl in
+    omega (arith, to-few bs m t (omega arith), e)
 
 -- ---- the loop over the lengths
 
@@ -70,7 +79,7 @@ going-start bs ws s = record {
 
 module _ (bs ws : List ℕ) (s : Starts bs ws) (us : List ℕ) (m o : ℕ) (g : Going bs ws us m o) where
   won : routes.IsList 32 (listOf bs)
-  won = winners-list 32 (candidatesIn bs) (s .list)
+  won = winners-list 32 (candidatesIn bs) (s .taken .list)
 
   module _ (h : m ≤ 32) (size : ℕ) (e : size ≡ distinct (entries m (listOf bs))) where
     next : o + 8 * size ≡ headerWords + 8 * entriesTo m (listOf bs)
@@ -81,11 +90,13 @@ module _ (bs ws : List ℕ) (s : Starts bs ws) (us : List ℕ) (m o : ℕ) (g : 
 
     pub going-makes : Makes bs us m o size
     going-makes = record {
-      list = s .list;
+      list = s .taken .list;
       few = g .few;
       most = h;
       low = omega (arith, g .at);
+      near = omega (arith, g .at, to-few bs (m - 1) (s .taken) (omega arith));
       fits = going-fits;
+      small = omega (arith, entries-few bs m size (s .taken) (g .few) h e);
       counts = e;
       built = g .built;
     }
@@ -180,12 +191,15 @@ module _ (bs ws : List ℕ) (n : ℕ) (g : Given bs n) where
         },
       )
 
-  pub build-list : Bytes bs → IsList 32 (candidatesIn bs)
-  build-list b = listed-candidates bs b (listOf bs) (g .is)
+  pub build-taken : Bytes bs → Taken bs
+  build-taken b = record {
+    list = listed-candidates bs b (listOf bs) (g .is);
+    room = listed-out bs b (listOf bs) (g .is) .room;
+  }
 
   pub build-starts : Bytes bs → (d : ℕ) → n ≤ length ws → d ≡ bestAt (listOf bs) 0 0 → Starts bs (set ws 0 d)
   build-starts b d h e = record {
-    list = build-list b;
+    taken = build-taken b;
     room = simp length-set (omega (arith, g .words));
     default = getD-set-same ws 0 d 0 (omega (arith, g .words)) ∙ e;
   }

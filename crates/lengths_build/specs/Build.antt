@@ -4,8 +4,9 @@ use mathlib.Core.Logic.{_≢_}
 use mathlib.Core.List.{List}
 use Prim.Native.Nat.{ℕ, _+_, _*_, _/_, _^_, _-_, _≤_, _<_}
 use lib.ListN.{length, getD}
+use Rattle.sizes.specs.Sizes.{mostArrays}
 use Rattle.routes.specs.Route.{Route}
-use Rattle.routes.specs.Room.{distinct}
+use Rattle.routes.specs.Room.{distinct, need}
 use Rattle.lengths.specs.Marks.{heldAt, entries, bestAt, wordsFor}
 use Rattle.candidates.specs.Candidate.{IsList}
 use Rattle.listing.specs.Listed.{recordsIn, candidateAt, candidatesIn, listOf, Listed, unlisted, listed}
@@ -29,6 +30,15 @@ LeavesOn (listed rs) ws us = Leaves rs ws us
 
 -- ---- its parts
 
+-- bytes taken as a list: it needs no more arrays than a table can have
+pub record Taken (bs : List ℕ) : Type 0 where
+  pub list : IsList 32 (candidatesIn bs)
+  pub room : need 32 (listOf bs) ≤ mostArrays
+
+-- so a length has at most 256 entries for each of the most arrays
+abbrev pub entriesBound : ℕ
+entriesBound = 1048576
+
 -- a record of which the best match is asked: its head v is a route of m bits, or is held by none
 pub record Bests (bs ws : List ℕ) (i m v : ℕ) : Type 0 where
   pub list : IsList 32 (candidatesIn bs)
@@ -47,7 +57,7 @@ pub record Cleared (ws us : List ℕ) (from to : ℕ) : Type 0 where
 pub record Headed (ws us : List ℕ) (m o size : ℕ) : Type 0 where
   pub begins : beginOf us m ≡ o
   pub sizes : sizeOf us m ≡ size
-  pub kept : Kept ws us (8 * m) (8 * m + 4)
+  pub kept : Kept ws us (2 * m) (2 * m + 2)
 
 -- the table of length m is to be made at word o
 pub record Makes (bs ws : List ℕ) (m o size : ℕ) : Type 0 where
@@ -55,7 +65,9 @@ pub record Makes (bs ws : List ℕ) (m o size : ℕ) : Type 0 where
   pub few : 1 ≤ m
   pub most : m ≤ 32
   pub low : headerWords ≤ o
+  pub near : o < 2 ^ 32
   pub fits : o + 8 * size ≤ length ws
+  pub small : size < 2 ^ 32
   pub counts : size ≡ distinct (entries m (listOf bs))
   pub built : Standing (listOf bs) ws o m
 
@@ -66,7 +78,7 @@ pub record Made (bs ws us : List ℕ) (m to : ℕ) : Type 0 where
 
 -- all tables are to be made
 pub record Starts (bs ws : List ℕ) : Type 0 where
-  pub list : IsList 32 (candidatesIn bs)
+  pub taken : Taken bs
   pub room : wordsFor (listOf bs) ≤ length ws
   pub default : getD ws 0 0 ≡ bestAt (listOf bs) 0 0
 

@@ -2,16 +2,17 @@
 -- Assumes nothing.
 use mathlib.Core.Path.{_≡_, refl, sym, ap, _∙_}
 use mathlib.Core.Logic.{_≢_, ⊎-elim}
-use mathlib.Core.Bool.{Bool, true, false, _||_, true≢false, false≢true}
+use mathlib.Core.Bool.{Bool, true, false, not, _&&_, _||_, true≢false, false≢true}
 use mathlib.Core.List.{List, [], _∷_, _++_}
 use Prim.Native.Nat.{ℕ, zero, suc, _+_, _-_, _*_, _/_, _^_, _≤_, _<_}
 use native.Mathlib.Omega.{arith}
 use lib.ListN.{length, getD}
-use lib.Dec.{eqb}
-use borrow.Author.Tests.{eqb-true, eq-eqb}
+use lib.Dec.{leb, eqb}
+use lib.Pow.{pow-mono}
+use borrow.Author.Tests.{le-leb, eqb-true, eq-eqb, ne-eqb}
 use Rattle.routes.specs.Route.{Route, route}
 use Rattle.routes.specs.Room.{mem, distinct}
-use Rattle.logic.specs.Cases.{bool, same}
+use Rattle.logic.specs.Cases.{bool, same, less}
 use Rattle.logic.specs.Bools.{or-left, or-right, or-to}
 use Rattle.laws.specs.Room.{distinct-le}
 use Rattle.lengths.specs.Way.{miss, hit, turnsAt}
@@ -22,13 +23,14 @@ use Rattle.candidates.specs.Candidate.{IsList}
 use Rattle.candidates.specs.Winners.{prefixes}
 use Rattle.rivals.specs.Won.{are-good, winners-list}
 use Rattle.listing.specs.Listed.{recordsIn, candidateAt, candidatesFrom, candidatesIn, listOf}
-use Rattle.listing.specs.Records.{tail-step, tail-end}
+use Rattle.listing.specs.Records.{tail-step, tail-end, candidate-of, head-fits}
 use Rattle.laws.specs.Longest.{wfs}
-use Rattle.lengths.specs.Layout.{headerWords, beginOf, sizeOf, placesOf, find}
-use Rattle.lengths.specs.Hash.{Room, room-left, Holds, holds-none, holds-again, holds-put}
-use Rattle.lengths.specs.Laid.{Table, table-same, best-fine}
-use Rattle.lengths_build.specs.Filling.{Kept, Standing, chosen, tail, base, sofar, Filling, Filled, Put, isMiss}
-use Rattle.lengths_build.specs.Best.{own-entered, unentered}
+use Rattle.lengths.specs.Held.{turn-below}
+use Rattle.lengths.specs.Layout.{headerWords, beginOf, sizeOf, keyOf, takenBy, Places, placesOf, find}
+use Rattle.lengths.specs.Hash.{room-left, Holds, holds-none, holds-again, holds-put}
+use Rattle.lengths.specs.Laid.{Table, table-same}
+use Rattle.lengths_build.specs.Filling.{Kept, Standing, chosen, tail, base, sofar, Filling, Filled, Space, Put, isMiss}
+use Rattle.lengths_build.specs.Best.{best-own, own-entered, unentered}
 
 -- ---- words kept
 
@@ -122,10 +124,10 @@ module _ (k : Bool) (bs : List ℕ) (i m : ℕ) (h : i < recordsIn bs) where
       (rw (sofar-more e) (or-left (eqb v v) (mem v (sofar k bs m (i + 1))) (eq-eqb v v refl)))
 
 -- a new value leaves room for itself
-room-for : (k : Bool) (bs : List ℕ) (i m v p : ℕ) → IsList 32 (candidatesIn bs) → i ≤ recordsIn bs
-    → mem v (entries m (listOf bs)) ≡ true → mem v (sofar k bs m i) ≡ false → p ≡ 2 * distinct (entries m (listOf bs))
-    → distinct (sofar k bs m i) < p
-room-for k bs i m v p l h e f q =
+room-for : (k : Bool) (bs : List ℕ) (i m v n : ℕ) → IsList 32 (candidatesIn bs) → i ≤ recordsIn bs
+    → mem v (entries m (listOf bs)) ≡ true → mem v (sofar k bs m i) ≡ false → n ≡ distinct (entries m (listOf bs))
+    → distinct (sofar k bs m i) < 4 * n
+room-for k bs i m v n l h e f q =
     let d : distinct (v ∷ sofar k bs m i) ≤ distinct (entries m (listOf bs)) =
     distinct-le (v ∷ sofar k bs m i) (entries m (listOf bs)) all in
     let s : distinct (v ∷ sofar k bs m i) ≡ suc (distinct (sofar k bs m i)) = rw f in
@@ -153,13 +155,13 @@ no-route true bs i m x l h s e c n =
 
 -- ---- the steps
 
-module _ (k : Bool) (bs ws : List ℕ) (i m o p : ℕ) (f : Filling k bs ws (i + 1) m o p) where
+module _ (k : Bool) (bs ws : List ℕ) (i m o n : ℕ) (f : Filling k bs ws (i + 1) m o n) where
   here : i < recordsIn bs
   here = omega (arith, f .upto)
 
   -- another list of what is held, for the record before
   before : (us : List ℕ) → length us ≡ length ws → Standing (listOf bs) us o m
-      → Holds (placesOf us o) m p (bestAt (listOf bs) m) (sofar k bs m i) → Filling k bs us i m o p
+      → Holds (placesOf us m o (4 * n)) (4 * n) (bestAt (listOf bs) m) (sofar k bs m i) → Filling k bs us i m o n
   before us e b h = record {
     list = f .list;
     few = f .few;
@@ -167,83 +169,113 @@ module _ (k : Bool) (bs ws : List ℕ) (i m o p : ℕ) (f : Filling k bs ws (i +
     upto = omega (arith, f .upto);
     low = f .low;
     fits = rw e (f .fits);
+    small = f .small;
     size = f .size;
     built = b;
     holds = h;
   }
 
-  pub filling-skip : (c : Bool) → c ≡ chosen k m (candidateAt bs i .len) → c ≡ false → Filling k bs ws i m o p
+  pub filling-skip : (c : Bool) → c ≡ chosen k m (candidateAt bs i .len) → c ≡ false → Filling k bs ws i m o n
   filling-skip c e q = before ws refl (f .built) (rw (sofar-skip k bs i m here (sym e ∙ q)) (f .holds))
 
   module _ (c : chosen k m (candidateAt bs i .len) ≡ true) (x : ℕ) (xe : x ≡ candidateAt bs i .addr / 2 ^ (32 - m)) where
+    abbrev T : Places
+    T = placesOf ws m o (4 * n)
+
     -- the probe tells whether the head is there
-    there : (b : Bool) → b ≡ isMiss (find (placesOf ws o) m p x) → b ≡ false → mem x (sofar k bs m (i + 1)) ≡ true
+    there : (b : Bool) → b ≡ isMiss (find T (4 * n) x) → b ≡ false → mem x (sofar k bs m (i + 1)) ≡ true
     there b e q = bool (mem x (sofar k bs m (i + 1))) (λ z. z)
-        (λ z. (let y : find (placesOf ws o) m p x ≡ miss = f .holds .finds x ∙ rw z in
+        (λ z. (let y : find T (4 * n) x ≡ miss = f .holds .finds x ∙ rw z in
         absurd (false≢true (sym q ∙ e ∙ ap isMiss y))))
 
-    away : (b : Bool) → b ≡ isMiss (find (placesOf ws o) m p x) → b ≡ true → mem x (sofar k bs m (i + 1)) ≡ false
+    away : (b : Bool) → b ≡ isMiss (find T (4 * n) x) → b ≡ true → mem x (sofar k bs m (i + 1)) ≡ false
     away b e q = bool (mem x (sofar k bs m (i + 1)))
-        (λ z. (let y : find (placesOf ws o) m p x ≡ hit (bestAt (listOf bs) m x) = f .holds .finds x ∙ rw z in
+        (λ z. (let y : find T (4 * n) x ≡ hit (bestAt (listOf bs) m x) = f .holds .finds x ∙ rw z in
         absurd (true≢false (sym q ∙ e ∙ ap isMiss y)))) (λ z. z)
 
-    pub filling-again : (b : Bool) → b ≡ isMiss (find (placesOf ws o) m p x) → b ≡ false → Filling k bs ws i m o p
+    pub filling-again : (b : Bool) → b ≡ isMiss (find T (4 * n) x) → b ≡ false → Filling k bs ws i m o n
     filling-again b e q = before ws refl (f .built)
         (rw (sofar-more k bs i m here c, ← xe)
-        (holds-again (placesOf ws o) m p (bestAt (listOf bs) m) (sofar k bs m (i + 1)) x (f .holds) (there b e q)))
+        (holds-again T (4 * n) (bestAt (listOf bs) m) (sofar k bs m (i + 1)) x (f .holds) (there b e q)))
 
-    pub filling-room : (b : Bool) → b ≡ isMiss (find (placesOf ws o) m p x) → b ≡ true → Room (placesOf ws o) p
-    filling-room b e q =
-        room-left (placesOf ws o) p
-        (rw (f .holds .count)
-        (room-for k bs (i + 1) m x p (f .list) (f .upto) (rw xe (head-entry k bs i m here (f .list) c)) (away b e q) (f .size)))
+    pub filling-room : (b : Bool) → b ≡ isMiss (find T (4 * n) x) → b ≡ true → Space ws o m n
+    filling-room b e q = record {
+      fits = f .fits;
+      small = f .small;
+      room = room-left T (4 * n)
+          (rw (f .holds .count)
+          (room-for k bs (i + 1) m x n (f .list) (f .upto) (rw xe (head-entry k bs i m here (f .list) c)) (away b e q)
+          (f .size)));
+    }
 
-    pub filling-new : (b : Bool) → b ≡ isMiss (find (placesOf ws o) m p x) → b ≡ true → candidateAt bs i .len ≢ m
+    pub filling-new : (b : Bool) → b ≡ isMiss (find T (4 * n) x) → b ≡ true → candidateAt bs i .len ≢ m
         → heldAt (listOf bs) m x ≡ 0
     filling-new b e q n = no-route k bs (i + 1) m x (candidateAt bs i .len) (f .most) (f .list) (away b e q) c n
 
-    pub filling-put : (us : List ℕ) (b : Bool) (y : ℕ) → b ≡ isMiss (find (placesOf ws o) m p x) → b ≡ true
-        → y ≡ bestAt (listOf bs) m x → Put ws us o p x y → Filled k bs ws us i m o p
+    pub filling-put : (us : List ℕ) (b : Bool) (y : ℕ) → b ≡ isMiss (find T (4 * n) x) → b ≡ true
+        → y ≡ bestAt (listOf bs) m x → Put ws us o m n x y → Filled k bs ws us i m o n
     filling-put us b y e q w s = record {
       filling = before us (s .kept .long)
-          (standing-kept (listOf bs) ws us o m (o + 4 * p) (f .low) (omega (arith, f .most)) (s .kept) (f .built))
+          (standing-kept (listOf bs) ws us o m (o + 8 * n) (f .low) (omega (arith, f .most)) (s .kept) (f .built))
           (rw (sofar-more k bs i m here c, ← xe)
-          (holds-put (placesOf ws o) (placesOf us o) m p (s .at) (bestAt (listOf bs) m) (sofar k bs m (i + 1)) x (f .holds)
-          (away b e q)
-          (best-fine (listOf bs) m x (f .most) (winners-list 32 (candidatesIn bs) (f .list) .routes))
-          (s .free) (rw (← w) (s .puts))));
+          (holds-put T (placesOf us m o (4 * n)) (4 * n) (s .at) (bestAt (listOf bs) m) (sofar k bs m (i + 1)) x (f .holds)
+          (away b e q) (s .free) (rw (← w) (s .puts))));
       kept = s .kept;
     }
+
+    -- an entry's words do not say that its place is free: up to 31 bits its key is not 0, and of 32 it is a route's own, whose
+    -- best match is not
+    pub filling-taken : (y : ℕ) → y ≡ bestAt (listOf bs) m x → takenBy m (keyOf x) y ≡ true
+    filling-taken y w =
+        less m 32
+        (λ h _. (let a = head-fits bs (f .list) i here m (f .most) in
+        let b : 2 ^ m ≤ 2 ^ 31 = pow-mono {i = m} {j = 31} (omega arith) in
+        or-left (not (eqb (keyOf x) 0)) (leb 32 m && not (eqb y 0)) (rw (ne-eqb (keyOf x) 0 (λ z. omega (arith, xe, a, b))))))
+        (λ h _. (let a = best-own bs (f .list) i here m x (f .most) (own-32 k (candidateAt bs i .len) h
+        (candidate-of bs (f .list) i here .route .wf .fits) c) xe in
+        or-right (not (eqb (keyOf x) 0)) (leb 32 m && not (eqb y 0))
+        (rw (le-leb 32 m h, ne-eqb y 0 (λ z. omega (arith, w, a))))))
+      where
+        own-32 : (k : Bool) (l : ℕ) → 32 ≤ m → l ≤ 32 → chosen k m l ≡ true → l ≡ m
+        own-32 false l h j c = eqb-true l m c
+        own-32 true l h j c = absurd (omega (arith, turn-below 4 16 l m c))
 
 -- ---- its begin, its turn and its end
 
 -- an empty table, before the first pass
-pub filling-start : (bs ws : List ℕ) (m o p : ℕ) → IsList 32 (candidatesIn bs) → 1 ≤ m → m ≤ 32 → headerWords ≤ o
-    → o + 4 * p ≤ length ws → p ≡ 2 * distinct (entries m (listOf bs))
-    → Standing (listOf bs) ws o m → ((i : ℕ) → o ≤ i → i < o + 4 * p → getD ws i 0 ≡ 0)
-    → Filling false bs ws (recordsIn bs) m o p
-filling-start bs ws m o p l a b c d e f z = record {
+pub filling-start : (bs ws : List ℕ) (m o n : ℕ) → IsList 32 (candidatesIn bs) → 1 ≤ m → m ≤ 32 → headerWords ≤ o
+    → o + 8 * n ≤ length ws → n < 2 ^ 32 → n ≡ distinct (entries m (listOf bs))
+    → Standing (listOf bs) ws o m → ((i : ℕ) → o ≤ i → i < o + 8 * n → getD ws i 0 ≡ 0)
+    → Filling false bs ws (recordsIn bs) m o n
+filling-start bs ws m o n l a b c d g e f z = record {
   list = l;
   few = a;
   most = b;
   upto = omega arith;
   low = c;
   fits = d;
+  small = g;
   size = e;
   built = f;
   holds = rw (tail-end bs (recordsIn bs))
-      (holds-none (placesOf ws o) m p (bestAt (listOf bs) m) (λ i h. z (o + 4 * i) (omega arith) (omega arith)));
+      (holds-none (placesOf ws m o (4 * n)) (4 * n) (bestAt (listOf bs) m) (λ i h.
+      rw (z (o + i) (omega arith) (omega arith), z (o + i + 4 * n) (omega arith) (omega arith)) (none (leb 32 m))));
 }
+  where
+    none : (b : Bool) → (b && false) ≡ false
+    none true = refl
+    none false = refl
 
 -- the end of the first pass begins the second
-pub filling-turn : (bs ws : List ℕ) (m o p : ℕ) → Filling false bs ws 0 m o p → Filling true bs ws (recordsIn bs) m o p
-filling-turn bs ws m o p f = record {
+pub filling-turn : (bs ws : List ℕ) (m o n : ℕ) → Filling false bs ws 0 m o n → Filling true bs ws (recordsIn bs) m o n
+filling-turn bs ws m o n f = record {
   list = f .list;
   few = f .few;
   most = f .most;
   upto = omega arith;
   low = f .low;
   fits = f .fits;
+  small = f .small;
   size = f .size;
   built = f .built;
   holds = rw (tail-end bs (recordsIn bs)) (f .holds);
@@ -268,12 +300,12 @@ sofar-all bs m z l =
     swap false false = refl
 
 -- and then the table stands
-pub filling-end : (bs ws : List ℕ) (m o p e : ℕ) → p ≡ 2 * e → beginOf ws m ≡ o → sizeOf ws m ≡ e → Filling true bs ws 0 m o p
-    → Table (listOf bs) ws (o + 8 * e) m
-filling-end bs ws m o p e q b s f = record {
+pub filling-end : (bs ws : List ℕ) (m o n : ℕ) → beginOf ws m ≡ o → sizeOf ws m ≡ n → Filling true bs ws 0 m o n
+    → Table (listOf bs) ws (o + 8 * n) m
+filling-end bs ws m o n b s f = record {
   begins = rw b (f .low);
   ends = rw (b, s) (omega arith);
-  finds = λ v. rw (b, s, ← q) (f .holds .finds v ∙ rw (sofar-all bs m v (f .list)));
+  finds = λ v. rw (b, s) (f .holds .finds v ∙ rw (sofar-all bs m v (f .list)));
 }
 
 table-on : (rs : List Route) (ws : List ℕ) (o to m : ℕ) → o ≤ to → Table rs ws o m → Table rs ws to m

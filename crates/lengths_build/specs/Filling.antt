@@ -14,8 +14,8 @@ use Rattle.lengths.specs.Marks.{entries, bestAt}
 use Rattle.candidates.specs.Candidate.{IsList}
 use Rattle.candidates.specs.Winners.{prefixes}
 use Rattle.listing.specs.Listed.{recordsIn, candidatesFrom, candidatesIn, listOf}
-use Rattle.lengths.specs.Layout.{headerWords, placesOf, look}
-use Rattle.lengths.specs.Hash.{Free, Puts, Holds}
+use Rattle.lengths.specs.Layout.{headerWords, keyOf, placesOf, look}
+use Rattle.lengths.specs.Hash.{Room, Free, Puts, Holds}
 use Rattle.lengths.specs.Laid.{Table}
 
 -- only the words from lo to hi - 1 may differ
@@ -49,33 +49,41 @@ base true bs m = picks (chosen false m) m (tail bs 0) ++ []
 abbrev pub sofar : Bool → List ℕ → ℕ → ℕ → List ℕ
 sofar k bs m i = picks (chosen k m) m (tail bs i) ++ base k bs m
 
-pub record Filling (k : Bool) (bs ws : List ℕ) (i m o p : ℕ) : Type 0 where
+-- a table of n entries at word o
+pub record Filling (k : Bool) (bs ws : List ℕ) (i m o n : ℕ) : Type 0 where
   pub list : IsList 32 (candidatesIn bs)
   pub few : 1 ≤ m
   pub most : m ≤ 32
   pub upto : i ≤ recordsIn bs
   pub low : headerWords ≤ o
-  pub fits : o + 4 * p ≤ length ws
-  pub size : p ≡ 2 * distinct (entries m (listOf bs))
+  pub fits : o + 8 * n ≤ length ws
+  pub small : n < 2 ^ 32
+  pub size : n ≡ distinct (entries m (listOf bs))
   pub built : Standing (listOf bs) ws o m
-  pub holds : Holds (placesOf ws o) m p (bestAt (listOf bs) m) (sofar k bs m i)
+  pub holds : Holds (placesOf ws m o (4 * n)) (4 * n) (bestAt (listOf bs) m) (sofar k bs m i)
 
-pub record Filled (k : Bool) (bs ws us : List ℕ) (i m o p : ℕ) : Type 0 where
-  pub filling : Filling k bs us i m o p
-  pub kept : Kept ws us o (o + 4 * p)
+pub record Filled (k : Bool) (bs ws us : List ℕ) (i m o n : ℕ) : Type 0 where
+  pub filling : Filling k bs us i m o n
+  pub kept : Kept ws us o (o + 8 * n)
 
 -- ---- one entry
 
--- the words with an entry put at word `at`
-unfoldable pub putAt : List ℕ → ℕ → ℕ → ℕ → List ℕ
-putAt ws at v b = set (set (set ws at 1) (at + 1) v) (at + 2) b
+-- the table of n entries at word o lies inside the words, and one of its places is free
+pub record Space (ws : List ℕ) (o m n : ℕ) : Type 0 where
+  pub fits : o + 8 * n ≤ length ws
+  pub small : n < 2 ^ 32
+  pub room : Room (placesOf ws m o (4 * n)) (4 * n)
+
+-- the words with an entry put at place j of the p at word o
+unfoldable pub putAt : List ℕ → ℕ → ℕ → ℕ → ℕ → ℕ → List ℕ
+putAt ws o p j v b = set (set ws (o + j) (keyOf v)) (o + j + p) b
 
 -- put at the first free place of its way
-pub record Put (ws us : List ℕ) (o p v b : ℕ) : Type 0 where
+pub record Put (ws us : List ℕ) (o m n v b : ℕ) : Type 0 where
   pub at : ℕ
-  pub free : Free (placesOf ws o) p v at
-  pub puts : Puts (placesOf ws o) (placesOf us o) p at v b
-  pub kept : Kept ws us o (o + 4 * p)
+  pub free : Free (placesOf ws m o (4 * n)) (4 * n) v at
+  pub puts : Puts (placesOf ws m o (4 * n)) (placesOf us m o (4 * n)) (4 * n) at v b
+  pub kept : Kept ws us o (o + 8 * n)
 
 abbrev pub isMiss : Look → Bool
 isMiss miss = true

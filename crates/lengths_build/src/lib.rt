@@ -1,21 +1,26 @@
 // A list laid out by lengths from its written-out bytes: the words that it needs, and the build, one length after the other. The
 // tables of the shorter lengths tell the best match of a marker, so nothing is kept beside the lent words.
+use lengths::ENTRY_WORDS;
 use lengths::HEADER_WORDS;
+use lengths::HOP_UNIT;
 use lengths::Look;
+use lengths::MOST_BITS;
+use lengths::PLACES;
 ghost use mathlib.Core.Path.{_≡_};
 ghost use mathlib.Core.Bool.{true};
-ghost use Prim.Native.Nat.{_+_, _*_, _-_, _/_, _<_, _≤_};
+ghost use Prim.Native.Nat.{_+_, _*_, _-_, _/_, _^_, _<_, _≤_};
 ghost use lib.ListN.{length};
 ghost use Rattle.routes.specs.Room.{distinct};
 ghost use Rattle.candidates.specs.Candidate.{IsList};
 ghost use Rattle.lengths.specs.Marks.{bestAt, markers, entries as entriesOf};
 ghost use Rattle.lengths.specs.Entries.{tally};
 ghost use Rattle.listing.specs.Listed.{recordsIn, candidateAt, candidatesIn, listOf, listedIn};
-ghost use Rattle.listing.specs.Records.{keyBound};
-ghost use Rattle.lengths.specs.Layout.{headerWords, placesOf, find};
-ghost use Rattle.lengths.specs.Hash.{Room, Free};
-ghost use Rattle.lengths_build.specs.Filling.{chosen, Filling, Filled, Put, isMiss, below};
-ghost use Rattle.lengths_build.specs.Build.{LeavesOn, Bests, Cleared, Headed, Makes, Made, Starts, Ends};
+ghost use Rattle.lengths.specs.Layout.{headerWords, keyOf, takenBy, placesOf, findIn, look};
+ghost use Rattle.lengths.specs.Answer.{Looked};
+ghost use Rattle.lengths.specs.Hash.{Free};
+ghost use Rattle.lengths_build.specs.Filling.{chosen, Filling, Filled, Space, Put, isMiss, below};
+ghost use Rattle.lengths_build.specs.Build.{LeavesOn, Taken, entriesBound, Bests, Cleared};
+ghost use Rattle.lengths_build.specs.Build.{Headed, Makes, Made, Starts, Ends};
 ghost use Rattle.lengths_build.specs.Answer.{needOn, buildOn, needAnswer, buildAnswer};
 ghost use Rattle.lengths_build.specs.Reach.{stride as strideOf, reach as reachOf};
 
@@ -64,10 +69,10 @@ fn reach(m: u32) -> u32
     next - 1
 }
 
-// How many entries the length m has.
+// How many entries the length m has: few enough for a word, as the list has room in a table.
 fn entries(bytes: &[u8], m: u32) -> usize
-    requires { ⌜ IsList 32 (candidatesIn (now bytes)) × (1 ≤ m) × (m ≤ 32) ⌝ }
-    ensures { λ r. ⌜ (r ≡ distinct (entriesOf m (listOf (now (bytes .entry))))) × (r ≤ keyBound) ⌝ }
+    requires { ⌜ Taken (now bytes) × (1 ≤ m) × (m ≤ 32) ⌝ }
+    ensures { λ r. ⌜ (r ≡ distinct (entriesOf m (listOf (now (bytes .entry))))) × (r ≤ entriesBound) ⌝ }
 {
     listing::count(bytes, m, reach(m), m)
 }
@@ -88,8 +93,9 @@ fn defaults(bytes: &[u8]) -> usize
 
 // The entries of all lengths, and the default route: as many as there are routes and markers.
 fn total(bytes: &[u8]) -> usize
-    requires { ⌜ IsList 32 (candidatesIn (now bytes)) ⌝ }
-    ensures { λ r. ⌜ (r ≡ length (listOf (now (bytes .entry))) + markers (listOf (now (bytes .entry)))) × (r ≤ 33 * keyBound) ⌝ }
+    requires { ⌜ Taken (now bytes) ⌝ }
+    ensures { λ r. ⌜ (r ≡ length (listOf (now (bytes .entry))) + markers (listOf (now (bytes .entry))))
+        × (r ≤ 33 * entriesBound) ⌝ }
 {
     let mut sum = defaults(bytes);
     let mut m: u32 = 0;
@@ -107,22 +113,22 @@ pub fn need(bytes: &[u8]) -> Needs
     if !listing::is_listed(bytes) {
         return Needs::Refused(2);
     }
-    Needs::Words(8 * total(bytes) + HEADER_WORDS)
+    Needs::Words(ENTRY_WORDS * total(bytes) + HEADER_WORDS)
 }
 
 // ---- one entry
 
 // The first free place on the way of v.
-fn free(words: &[u32], o: usize, p: usize, v: u32) -> usize
-    requires { ⌜ (o + 4 * p ≤ length (now words)) × Room (placesOf (now words) o) p ⌝ }
-    ensures { λ r. ⌜ Free (placesOf (now (words .entry)) o) p v r × (r < p) ⌝ }
+fn free(words: &[u32], o: usize, m: u32, size: usize, v: u32) -> usize
+    requires { ⌜ Space (now words) o m size ⌝ }
+    ensures { λ r. ⌜ Free (placesOf (now (words .entry)) m o (4 * size)) (4 * size) v r × (r < 4 * size) ⌝ }
 {
-    let s = lengths::start(v, p);
+    let p = PLACES * size;
+    let s = lengths::start(v, size);
     let mut d = 0;
     while d < p {
         let j = lengths::place(s, p, d);
-        let at = o + 4 * j;
-        if words[at] == 0 {
+        if lengths::is_free(words, m, o + j, p) {
             return j;
         }
         d += 1;
@@ -130,26 +136,41 @@ fn free(words: &[u32], o: usize, p: usize, v: u32) -> usize
     0
 }
 
-fn put(words: &mut [u32], o: usize, p: usize, v: u32, best: u32)
-    requires { ⌜ (o + 4 * p ≤ length (now words)) × Room (placesOf (now words) o) p ⌝ }
-    ensures { λ _. ⌜ Put (now (words .entry)) (now (words .exit)) o p v best ⌝ }
+// An entry put at the first free place on its way. Its words must not read as a free place's: a later probe would end there.
+fn put(words: &mut [u32], o: usize, m: u32, size: usize, v: u32, best: u32)
+    requires { ⌜ Space (now words) o m size × (takenBy m (keyOf v) best ≡ true) ⌝ }
+    ensures { λ _. ⌜ Put (now (words .entry)) (now (words .exit)) o m size v best ⌝ }
 {
-    let at = o + 4 * free(words, o, p, v);
-    words[at] = 1;
-    words[at + 1] = v;
-    words[at + 2] = best;
+    let p = PLACES * size;
+    let at = o + free(words, o, m, size, v);
+    words[at] = MOST_BITS - v;
+    words[at + p] = best;
 }
 
-// The table at word o has no entry v.
-fn absent(words: &[u32], o: usize, m: u32, p: usize, v: u32) -> bool
-    requires { ⌜ o + 4 * p ≤ length (now words) ⌝ }
-    ensures { λ r. ⌜ r ≡ isMiss (find (placesOf (now (words .entry)) o) m p v) ⌝ }
+// The table of so many entries at word o has no entry v.
+fn absent(words: &[u32], o: usize, m: u32, size: usize, v: u32) -> bool
+    requires { ⌜ (o + 8 * size ≤ length (now words)) × (size < 2 ^ 32) ⌝ }
+    ensures { λ r. ⌜ r ≡ isMiss (findIn (now (words .entry)) m o size v) ⌝ }
 {
-    match lengths::probe(words, o, m, p, v) {
+    match lengths::probe(words, o, m, size, v) {
         Look::Miss => true,
         Look::Hit(_) => false,
         Look::Outside => false,
     }
+}
+
+// What the table of length m has for the m bits v. The search has such a look of its own, as a part of its loop.
+fn look_at(words: &[u32], m: u32, v: u32) -> Look
+    requires { ⌜ (headerWords ≤ length (now words)) × (m ≤ 32) ⌝ }
+    ensures { λ r. ⌜ Looked (now (words .entry)) r (look (now (words .entry)) m v) ⌝ }
+{
+    let head = 2 * m as usize;
+    let o = words[head] as usize;
+    let size = words[head + 1] as usize;
+    if o + ENTRY_WORDS * size > words.len() {
+        return Look::Outside;
+    }
+    lengths::probe(words, o, m, size, v)
 }
 
 // The best match that the tables shorter than m have for the m bits v.
@@ -161,9 +182,9 @@ fn shorter(words: &[u32], m: u32, v: u32) -> u32
     while l > 0 {
         let k = l;
         l -= 1;
-        match lengths::look_in(words, k, v >> (m - k)) {
+        match look_at(words, k, v >> (m - k)) {
             Look::Hit(b) => {
-                return b;
+                return words[b];
             }
             Look::Miss => {}
             Look::Outside => {}
@@ -178,23 +199,23 @@ fn best_of(bytes: &[u8], words: &[u32], i: usize, m: u32, v: u32) -> u32
     ensures { λ r. ⌜ r ≡ bestAt (listOf (now (bytes .entry))) m v ⌝ }
 {
     if listing::bits(bytes, i) == m {
-        return listing::winner(bytes, i) * 256 + m;
+        return listing::winner(bytes, i) * HOP_UNIT + m;
     }
     shorter(words, m, v)
 }
 
 // The head of record i, entered unless it is there.
-fn enter(bytes: &[u8], words: &mut [u32], marks: bool, i: usize, m: u32, o: usize, p: usize)
-    requires { ⌜ Filling marks (now bytes) (now words) (i + 1) m o p
+fn enter(bytes: &[u8], words: &mut [u32], marks: bool, i: usize, m: u32, o: usize, size: usize)
+    requires { ⌜ Filling marks (now bytes) (now words) (i + 1) m o size
         × (chosen marks m (candidateAt (now bytes) i .len) ≡ true) ⌝ }
-    ensures { λ _. ⌜ Filled marks (now (bytes .entry)) (now (words .entry)) (now (words .exit)) i m o p ⌝ }
+    ensures { λ _. ⌜ Filled marks (now (bytes .entry)) (now (words .entry)) (now (words .exit)) i m o size ⌝ }
 {
     let v = listing::head(bytes, i, m);
-    if !absent(words, o, m, p, v) {
+    if !absent(words, o, m, size, v) {
         return;
     }
     let best = best_of(bytes, words, i, m, v);
-    put(words, o, p, v, best);
+    put(words, o, m, size, v, best);
 }
 
 // ---- one table
@@ -211,15 +232,15 @@ fn is_chosen(marks: bool, m: u32, l: u32) -> bool
 }
 
 // A pass over all records, from the last to the first.
-fn fill(bytes: &[u8], words: &mut [u32], marks: bool, m: u32, o: usize, p: usize)
-    requires { ⌜ Filling marks (now bytes) (now words) (recordsIn (now bytes)) m o p ⌝ }
-    ensures { λ _. ⌜ Filled marks (now (bytes .entry)) (now (words .entry)) (now (words .exit)) 0 m o p ⌝ }
+fn fill(bytes: &[u8], words: &mut [u32], marks: bool, m: u32, o: usize, size: usize)
+    requires { ⌜ Filling marks (now bytes) (now words) (recordsIn (now bytes)) m o size ⌝ }
+    ensures { λ _. ⌜ Filled marks (now (bytes .entry)) (now (words .entry)) (now (words .exit)) 0 m o size ⌝ }
 {
     let mut i = listing::records(bytes);
     while i > 0 {
         i -= 1;
         if is_chosen(marks, m, listing::bits(bytes, i)) {
-            enter(bytes, words, marks, i, m, o, p);
+            enter(bytes, words, marks, i, m, o, size);
         }
     }
 }
@@ -238,14 +259,12 @@ fn clear(words: &mut [u32], from: usize, to: usize)
 
 // Where the table of length m begins and how many entries it has, in the header.
 fn enter_header(words: &mut [u32], m: u32, o: usize, size: usize)
-    requires { ⌜ (m ≤ 32) × (headerWords ≤ length (now words)) ⌝ }
+    requires { ⌜ (m ≤ 32) × (headerWords ≤ length (now words)) × (o < 2 ^ 32) × (size < 2 ^ 32) ⌝ }
     ensures { λ _. ⌜ Headed (now (words .entry)) (now (words .exit)) m o size ⌝ }
 {
-    let at = 8 * m as usize;
-    words[at] = (o / 4294967296) as u32;
-    words[at + 1] = (o % 4294967296) as u32;
-    words[at + 2] = (size / 4294967296) as u32;
-    words[at + 3] = (size % 4294967296) as u32;
+    let at = 2 * m as usize;
+    words[at] = o as u32;
+    words[at + 1] = size as u32;
 }
 
 // The table of length m, made at word o for `size` entries.
@@ -254,10 +273,10 @@ fn table(bytes: &[u8], words: &mut [u32], m: u32, o: usize, size: usize)
     ensures { λ _. ⌜ Made (now (bytes .entry)) (now (words .entry)) (now (words .exit)) m (o + 8 * size) ⌝ }
 {
     enter_header(words, m, o, size);
-    let end = o + 8 * size;
+    let end = o + ENTRY_WORDS * size;
     clear(words, o, end);
-    fill(bytes, words, false, m, o, 2 * size);
-    fill(bytes, words, true, m, o, 2 * size);
+    fill(bytes, words, false, m, o, size);
+    fill(bytes, words, true, m, o, size);
 }
 
 // ---- all tables
@@ -272,7 +291,7 @@ fn tables(bytes: &[u8], words: &mut [u32])
     while m <= 32 {
         let size = entries(bytes, m);
         table(bytes, words, m, o, size);
-        o += 8 * size;
+        o += ENTRY_WORDS * size;
         m += 1;
     }
 }
@@ -288,7 +307,7 @@ fn default_of(bytes: &[u8]) -> u32
     if listing::bits(bytes, 0) != 0 {
         return 0;
     }
-    listing::winner(bytes, 0) * 256
+    listing::winner(bytes, 0) * HOP_UNIT
 }
 
 // A written-out list laid out: the counts of its routes and markers.
@@ -305,5 +324,5 @@ pub fn build(bytes: &[u8], words: &mut [u32]) -> Built
     words[0] = default_of(bytes);
     tables(bytes, words);
     let routes = listing::routes(bytes);
-    Built::Counts(routes, (n - HEADER_WORDS) / 8 - routes)
+    Built::Counts(routes, (n - HEADER_WORDS) / ENTRY_WORDS - routes)
 }

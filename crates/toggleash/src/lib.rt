@@ -234,10 +234,10 @@ fn write_out(words: &[u32], family: Family, buffer: &mut [u8]) -> Written
 // The version is in the name, so that a caller made for another one does not link (bindings/c/toggleash.h). It rises with any
 // change that such a caller would not notice: of a call, of its answer, or of what words are a table or a copy.
 #[no_mangle]
-pub extern "C" fn toggleash_version_4() -> u32
-    ensures { λ r. ⌜ r ≡ 4 ⌝ }
+pub extern "C" fn toggleash_version_5() -> u32
+    ensures { λ r. ⌜ r ≡ 5 ⌝ }
 {
-    4
+    5
 }
 
 #[no_mangle]

@@ -4,21 +4,19 @@ use std::collections::BTreeMap;
 
 use super::walk::{look, table};
 use super::{markers, Built, HEADER};
-use crate::layout::Found;
 use crate::list::{Prefix, RouteList};
 
-/// Bits of one length as numbers, each with its best match.
-type Entries = BTreeMap<u32, Found>;
+/// Bits of one length as numbers, each with its best match as a number.
+type Entries = BTreeMap<u32, u32>;
 
 const DEFAULT: Prefix = Prefix { address: 0, length: 0 };
 
 /// Whether the words are a copy of the list.
 pub fn stands(list: &RouteList, words: &[u32]) -> bool {
     let need = Built::of(list).need();
-    let default = list.hop(DEFAULT).map_or(0, |hop| hop * 256);
     let entries = entries(list);
     words.len() >= need
-        && words[0] == default
+        && words[0] == best(list, DEFAULT)
         && (1..=32).all(|m| lies(words, m, need) && tells(words, m, &entries[m as usize]))
 }
 
@@ -33,32 +31,30 @@ fn entries(list: &RouteList) -> Vec<Entries> {
     entries
 }
 
-/// The longest route of at most the prefix's bits that matches them.
-fn best(list: &RouteList, prefix: Prefix) -> Found {
-    (0..=prefix.length).rev().find_map(|length| Some((list.hop(Prefix::around(prefix.address, length))?, length)))
+/// The longest route of at most the prefix's bits that matches them, as a number.
+fn best(list: &RouteList, prefix: Prefix) -> u32 {
+    let route = |length| Some(list.hop(Prefix::around(prefix.address, length))? * 256 + length);
+    (0..=prefix.length).rev().find_map(route).unwrap_or(0)
 }
 
 /// The table of length m begins past the header and ends by the words needed.
 fn lies(words: &[u32], m: u32, need: usize) -> bool {
-    let begin = u64::from(words[8 * m as usize]) << 32 | u64::from(words[8 * m as usize + 1]);
-    begin >= HEADER as u64 && table(&words[..need], m).is_some()
+    words[2 * m as usize] >= HEADER as u32 && table(&words[..need], m).is_some()
 }
 
 /// The probe for any bits finds the best match if they are an entry, and nothing otherwise. Bits that are no entry and
-/// stand at no place are not found by any probe, so they need not be tried; a place that is neither free nor taken is
-/// not allowed, though perhaps no probe meets it.
+/// stand at no place are not found by any probe, so they need not be tried. A key that no bits of this length have
+/// tells a number that is no entry either.
 fn tells(words: &[u32], m: u32, entries: &Entries) -> bool {
-    let places = table(words, m).expect("it lies inside").chunks_exact(4);
-    let right = |&bits: &u32| look(words, m, bits) == Ok(entries.get(&bits).copied());
-    places.clone().all(|place| place[0] <= 1)
-        && places.filter(|place| place[0] == 1).all(|place| right(&place[1]))
-        && entries.keys().all(right)
+    let right = |bits: u32| look(words, m, bits) == Ok(entries.get(&bits).copied());
+    let table = table(words, m).expect("it lies inside");
+    table.entries().all(|entry| right(entry.bits)) && entries.keys().all(|&bits| right(bits))
 }
 
 /// Of so many words, those that a build leaves as they are: the header's without a use, the last eight needed if the
 /// default route is held, and all past the need.
 pub fn kept(list: &RouteList, words: usize) -> Vec<usize> {
-    let header = (1..HEADER).filter(|at| !(8..8 * 33).contains(at) || at % 8 > 3);
+    let header = (1..HEADER).filter(|at| !(2..2 * 33).contains(at));
     let tables_end = Built::of(list).need() - if list.hop(DEFAULT).is_some() { 8 } else { 0 };
     header.chain(tables_end..words).collect()
 }

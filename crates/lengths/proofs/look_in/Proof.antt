@@ -1,61 +1,168 @@
--- `lengths::look_in` meets its contract: the table lies inside the words, or the walk meets a number outside its range. Assumes
--- nothing.
-use mathlib.Core.Path.{_∙_}
-use Rattle.lengths.proofs.Probing.{look-past, look-long, look-there}
+-- `lengths::look_in` meets its contract: the table lies outside the words, or the first place of the probe tells, or those after
+-- it. Assumes nothing.
+use mathlib.Core.Path.{ap, _∙_}
+use Prim.Native.Nat.{ℕ, _+_, _*_}
+use lib.ListN.{getD}
+use Rattle.lengths.specs.Layout.{placesOf, place}
+use Rattle.lengths.proofs.Probing.{key-own, key-other, place-first, probe-free, probe-own, probe-on, find-none, find-all}
+use Rattle.lengths.proofs.Probing.{look-out, look-there}
+use native.Mathlib.Omega.{arith}
 use borrow.Author.Needs.{needs}
 use Rattle.lengths.proofs.look_in.Statement.{statement}
 use Rattle.lengths.proofs.look_in.Tie as tie
 
-mul-at : tie.Need-mul-at
-mul-at c = search needs
+mul-o : tie.Need-mul-o
+mul-o c = search needs
 
-wide-requires : tie.Need-wide-requires
-wide-requires c κs = search needs
+mul-o-2 : tie.Need-mul-o-2
+mul-o-2 c = search needs
 
-add-wide : tie.Need-add-wide
-add-wide c = search needs
+shared-slice-read-o : tie.Need-shared-slice-read-o
+shared-slice-read-o c = search needs
 
-wide-requires-2 : tie.Need-wide-requires-2
-wide-requires-2 c κs = search needs
+cast-o : tie.Need-cast-o
+cast-o c = omega (arith, c .shared-slice-known2 .given (2 * c .before .before .args .m))
+
+mul-size : tie.Need-mul-size
+mul-size c = search needs
+
+add-size : tie.Need-add-size
+add-size c = search needs
+
+mul-size-2 : tie.Need-mul-size-2
+mul-size-2 c = search needs
+
+shared-slice-read-size : tie.Need-shared-slice-read-size
+shared-slice-read-size c = search needs
+
+cast-size : tie.Need-cast-size
+cast-size c = omega (arith, c .shared-slice-known3 .given (2 * c .before .before .before .args .m + 1))
+
+mul-if1 : tie.Need-mul-if1
+mul-if1 c = omega (arith, c .shared-slice-known3 .given (2 * c .before .before .before .args .m + 1))
+
+add-if1 : tie.Need-add-if1
+add-if1 c =
+    let m = c .before .before .before .args .m in
+    omega (arith, c .before .shared-slice-known2 .given (2 * m), c .shared-slice-known3 .given (2 * m + 1))
 
 returns : tie.Need-returns
 returns c =
     let a = c .before .before .before .before .args in
-    let wide = c .before .before .wide in
-    look-past (a .words .now) (a .m) (a .v) (wide .result) (c .before .wide2 .result) (wide .ensures) (c .before .wide2 .ensures) (c .if1 .taken)
+    record { told = look-out (a .words .now) (a .m) (a .v) (c .if1 .taken); inside = tt }
 
 returns-2 : tie.Need-returns-2
 returns-2 c =
     let a = c .before .before .before .before .before .args in
-    let wide = c .before .before .before .wide in
-    let wide2 = c .before .before .wide2 in
-    look-long (a .words .now) (a .m) (a .v) (wide .result) (wide2 .result) (wide .ensures) (wide2 .ensures) (c .before .if1 .left) (c .if2 .taken)
+    let ws = a .words .now in
+    let p = 4 * getD ws (2 * a .m + 1) 0 in
+    let T = placesOf ws (a .m) (getD ws (2 * a .m) 0) p in
+    record { told = find-none T p (a .v) (omega arith) ∙ look-there ws (a .m) (a .v) (c .before .if1 .left); inside = tt }
 
-mul-probe : tie.Need-mul-probe
-mul-probe c = search needs
+mul-p : tie.Need-mul-p
+mul-p c = search needs
 
-probe-requires : tie.Need-probe-requires
-probe-requires c κs = search needs
+start-requires : tie.Need-start-requires
+start-requires c κs =
+    let m = c .before .before .before .before .before .args .m in
+    (omega arith, omega (arith, c .before .before .shared-slice-known3 .given (2 * m + 1)))
+
+add-at : tie.Need-add-at
+add-at c = search needs
+
+is-free-requires : tie.Need-is-free-requires
+is-free-requires c κs = search needs
 
 returns-3 : tie.Need-returns-3
 returns-3 c =
-    let a = c .before .before .before .before .before .before .args in
-    let wide = c .before .before .before .before .wide in
-    let wide2 = c .before .before .before .wide2 in
-    let if1 = c .before .before .if1 in
-    c .probe .ensures ∙ look-there (a .words .now) (a .m) (a .v) (wide .result) (wide2 .result) (wide .ensures) (wide2 .ensures) (if1 .left)
-    (c .before .if2 .left)
+    let a = c .before .before .before .before .before .before .before .before .args in
+    let ws = a .words .now in
+    let p = 4 * getD ws (2 * a .m + 1) 0 in
+    let T = placesOf ws (a .m) (getD ws (2 * a .m) 0) p in
+    let s = c .before .before .start in
+    let here = place-first (s .result) p (s .ensures .1) ∙ ap (λ (x : ℕ). place x p 0) (s .ensures .0) in
+    let f = c .before .is-free in
+    record {
+      told = probe-free T p (a .v) 0 (omega arith) (s .result) here (f .result) (f .ensures) (c .if3 .taken) ∙ find-all T p (a .v)
+          ∙ look-there ws (a .m) (a .v) (c .before .before .before .before .if1 .left);
+      inside = tt;
+    }
+
+mul-if4 : tie.Need-mul-if4
+mul-if4 c = search needs
+
+shared-slice-read-if4 : tie.Need-shared-slice-read-if4
+shared-slice-read-if4 c = search needs
+
+sub-if4 : tie.Need-sub-if4
+sub-if4 c = search needs
+
+add-t20 : tie.Need-add-t20
+add-t20 c = search needs
+
+returns-4 : tie.Need-returns-4
+returns-4 c =
+    let a = c .before .before .before .before .before .before .before .before .before .before .args in
+    let ws = a .words .now in
+    let p = 4 * getD ws (2 * a .m + 1) 0 in
+    let T = placesOf ws (a .m) (getD ws (2 * a .m) 0) p in
+    let s = c .before .before .before .before .start in
+    let here = place-first (s .result) p (s .ensures .1) ∙ ap (λ (x : ℕ). place x p 0) (s .ensures .0) in
+    let f = c .before .before .before .is-free in
+    let own = key-own _ (a .v) (omega arith) (c .if4 .taken) in
+    record {
+      told = probe-own T p (a .v) 0 (omega arith) (s .result) here (f .result) (f .ensures) (c .before .before .if3 .left) own
+          ∙ find-all T p (a .v) ∙ look-there ws (a .m) (a .v) (c .before .before .before .before .before .before .if1 .left);
+      inside = omega (arith, s .ensures .1, c .before .before .before .before .before .before .if1 .left);
+    }
+
+probe-on-requires : tie.Need-probe-on-requires
+probe-on-requires c κs = search needs
+
+returns-5 : tie.Need-returns-5
+returns-5 c =
+    let a = c .before .before .before .before .before .before .before .before .before .before .before .args in
+    let ws = a .words .now in
+    let p = 4 * getD ws (2 * a .m + 1) 0 in
+    let T = placesOf ws (a .m) (getD ws (2 * a .m) 0) p in
+    let s = c .before .before .before .before .before .start in
+    let here = place-first (s .result) p (s .ensures .1) ∙ ap (λ (x : ℕ). place x p 0) (s .ensures .0) in
+    let f = c .before .before .before .before .is-free in
+    let word = c .before .before .shared-slice-known4 .given (getD ws (2 * a .m) 0 + s .result) in
+    let other = key-other _ (a .v) (omega (arith, word)) (c .before .if4 .left) in
+    record {
+      told = c .probe-on .ensures .told ∙ probe-on T p (a .v) 0 (omega arith) (s .result) here (f .result) (f .ensures)
+          (c .before .before .before .if3 .left) other ∙ find-all T p (a .v)
+          ∙ look-there ws (a .m) (a .v) (c .before .before .before .before .before .before .before .if1 .left);
+      inside = c .probe-on .ensures .inside;
+    }
 
 pub look-in-spec : {M : Type 1} → statement M
 look-in-spec =
     tie.close
     (tie.spec
-    mul-at
-    wide-requires
-    add-wide
-    wide-requires-2
+    mul-o
+    mul-o-2
+    shared-slice-read-o
+    cast-o
+    mul-size
+    add-size
+    mul-size-2
+    shared-slice-read-size
+    cast-size
+    mul-if1
+    add-if1
     returns
     returns-2
-    mul-probe
-    probe-requires
-    returns-3)
+    mul-p
+    start-requires
+    add-at
+    is-free-requires
+    returns-3
+    mul-if4
+    shared-slice-read-if4
+    sub-if4
+    add-t20
+    returns-4
+    probe-on-requires
+    returns-5)

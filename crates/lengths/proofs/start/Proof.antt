@@ -1,8 +1,8 @@
--- `lengths::start` meets its contract: a rest is below its divisor. Assumes nothing.
-use mathlib.Core.Path.{refl}
-use native.Mathlib.Nat.{mod-lt}
-use Rattle.lengths.specs.Layout.{start}
+-- `lengths::start` meets its contract: the product has 64 bits, and is as far among them as the start among the places.
+-- Assumes nothing.
+use Rattle.lengths.proofs.Probing.{product-fits, start-is}
 use borrow.Author.Needs.{needs}
+use native.Mathlib.Omega.{arith}
 use Rattle.lengths.proofs.start.Statement.{statement}
 use Rattle.lengths.proofs.start.Tie as tie
 
@@ -10,17 +10,12 @@ mul-mixed : tie.Need-mul-mixed
 mul-mixed c = search needs
 
 mul-result : tie.Need-mul-result
-mul-result c = search needs
-
-add-result : tie.Need-add-result
-add-result c = search needs
-
-rem-result : tie.Need-rem-result
-rem-result c = search needs
+mul-result c = omega (arith, product-fits (c .args .v) (c .args .size) (c .pre .0) (c .pre .1))
 
 returns : tie.Need-returns
-unfolding start
-returns c = (refl, mod-lt _ (c .pre))
+returns c =
+    let s = start-is (c .args .v) (c .args .size) (c .pre .0) in
+    (s .0, rw (s .0) (s .1))
 
 pub start-spec : {M : Type 1} → statement M
-start-spec = tie.close (tie.spec mul-mixed mul-result add-result rem-result returns)
+start-spec = tie.close (tie.spec mul-mixed mul-result returns)

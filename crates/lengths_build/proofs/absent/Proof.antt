@@ -1,7 +1,5 @@
 -- `lengths_build::absent` meets its contract: by what the probe gives. Assumes nothing.
-use mathlib.Core.Path.{sym, ap, _∙_}
-use Rattle.lengths.specs.Answer.{lookOf}
-use Rattle.lengths_build.specs.Filling.{isMiss}
+use Rattle.lengths_build.proofs.Entry.{saw-miss}
 use borrow.Author.Needs.{needs}
 use Rattle.lengths_build.proofs.absent.Statement.{statement}
 use Rattle.lengths_build.proofs.absent.Tie as tie
@@ -19,13 +17,22 @@ enum-told-3 : tie.Need-enum-told-3
 enum-told-3 c = search needs
 
 returns : tie.Need-returns
-returns c = sym (ap isMiss (sym (c .before .before .probe .ensures) ∙ ap lookOf (c .enum-told .given .1)))
+returns c =
+    let a = c .before .before .before .before .args in
+    let probe = c .before .before .probe in
+    saw-miss (a .words .now) (probe .result) _ (probe .ensures) _ (c .enum-told .given .1)
 
 returns-2 : tie.Need-returns-2
-returns-2 c = sym (ap isMiss (sym (c .before .before .probe .ensures) ∙ ap lookOf (c .enum-told2 .given .1)))
+returns-2 c =
+    let a = c .before .before .before .before .args in
+    let probe = c .before .before .probe in
+    saw-miss (a .words .now) (probe .result) _ (probe .ensures) _ (c .enum-told2 .given .1)
 
 returns-3 : tie.Need-returns-3
-returns-3 c = sym (ap isMiss (sym (c .before .before .probe .ensures) ∙ ap lookOf (c .enum-told3 .given .1)))
+returns-3 c =
+    let a = c .before .before .before .before .args in
+    let probe = c .before .before .probe in
+    saw-miss (a .words .now) (probe .result) _ (probe .ensures) _ (c .enum-told3 .given .1)
 
 pub absent-spec : {M : Type 1} → statement M
 absent-spec =

@@ -1,4 +1,4 @@
--- `lengths_build::enter_header` meets its contract: it writes four words of the header, which no other table uses. Assumes
+-- `lengths_build::enter_header` meets its contract: it writes two words of the header, which no other table uses. Assumes
 -- nothing.
 use lib.ListN.{length-set}
 use Rattle.lengths_build.proofs.Making.{headed}
@@ -31,30 +31,6 @@ mul-words-2 c = search needs
 slice-write-words-2 : tie.Need-slice-write-words-2
 slice-write-words-2 c = simp length-set (omega arith)
 
-cast-words-3 : tie.Need-cast-words-3
-cast-words-3 c = search needs
-
-add-words-2 : tie.Need-add-words-2
-add-words-2 c = search needs
-
-mul-words-3 : tie.Need-mul-words-3
-mul-words-3 c = search needs
-
-slice-write-words-3 : tie.Need-slice-write-words-3
-slice-write-words-3 c = simp length-set (omega arith)
-
-cast-words-4 : tie.Need-cast-words-4
-cast-words-4 c = search needs
-
-add-words-3 : tie.Need-add-words-3
-add-words-3 c = search needs
-
-mul-words-4 : tie.Need-mul-words-4
-mul-words-4 c = search needs
-
-slice-write-words-4 : tie.Need-slice-write-words-4
-slice-write-words-4 c = simp length-set (omega arith)
-
 same-length : tie.Need-same-length
 same-length c = search needs
 
@@ -73,13 +49,5 @@ enter-header-spec =
     add-words
     mul-words-2
     slice-write-words-2
-    cast-words-3
-    add-words-2
-    mul-words-3
-    slice-write-words-3
-    cast-words-4
-    add-words-3
-    mul-words-4
-    slice-write-words-4
     same-length
     returns)

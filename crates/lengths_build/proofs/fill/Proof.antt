@@ -10,10 +10,10 @@ use Rattle.lengths_build.proofs.fill.Statement.{statement}
 use Rattle.lengths_build.proofs.fill.Tie as tie
 
 abbrev Inv-loop : tie.InvT-loop
-Inv-loop bytes words₀ marks m o p i₀ words i = Filled marks bytes words₀ words i m o p
+Inv-loop bytes words₀ marks m o size i₀ words i = Filled marks bytes words₀ words i m o size
 
 abbrev μ-loop : tie.MeasureT-loop
-μ-loop bytes words₀ marks m o p i₀ words i = i
+μ-loop bytes words₀ marks m o size i₀ words i = i
 
 records-requires : tie.Need-records-requires Inv-loop μ-loop
 records-requires c κs = search needs
@@ -22,7 +22,7 @@ loop-holds : tie.Need-loop-holds Inv-loop μ-loop
 loop-holds c =
     let a = c .before .before .before .args in
     let p = c .before .before .before .pre in
-    rw (c .records .ensures .0) (fill-none (a .marks) (a .bytes .now) (a .m) (a .o) (a .p) (a .words .now) (recordsIn (a .bytes .now)) p)
+    rw (c .records .ensures .0) (fill-none (a .marks) (a .bytes .now) (a .m) (a .o) (a .size) (a .words .now) (recordsIn (a .bytes .now)) p)
 
 sub-i : tie.Need-sub-i Inv-loop μ-loop
 sub-i c = omega arith
@@ -34,7 +34,7 @@ is-chosen-requires : tie.Need-is-chosen-requires Inv-loop μ-loop
 is-chosen-requires c κs =
     let a = c .before .before .before .before .before .before .args in
     let l = c .before .before .loop in
-    fill-asks (a .marks) (a .bytes .now) (a .m) (a .o) (a .p) (l .words) (l .i) (l .i - 1) (c .bits .result) (omega arith) (l .inv .filling)
+    fill-asks (a .marks) (a .bytes .now) (a .m) (a .o) (a .size) (l .words) (l .i) (l .i - 1) (c .bits .result) (omega arith) (l .inv .filling)
     (c .bits .ensures .0)
 
 enter-requires : tie.Need-enter-requires Inv-loop μ-loop
@@ -43,7 +43,7 @@ enter-requires c κs =
     let l = c .before .before .before .before .before .loop in
     let bits = c .before .before .before .bits in
     let is-chosen = c .before .before .is-chosen in (
-      fill-at (a .marks) (a .bytes .now) (a .m) (a .o) (a .p) (l .words) (l .i) (l .i - 1) (omega arith) (l .inv .filling),
+      fill-at (a .marks) (a .bytes .now) (a .m) (a .o) (a .size) (l .words) (l .i) (l .i - 1) (omega arith) (l .inv .filling),
       sym (is-chosen .ensures ∙ ap (chosen (a .marks) (a .m)) (bits .ensures .0)) ∙ c .before .if1 .taken,
     )
 
@@ -55,7 +55,7 @@ loop-again c =
     let a = c .before .before .before .before .before .before .before .before .before .before .before .before .args in
     let l = c .before .before .before .before .before .before .before .before .loop in
     let enter = c .before .before .enter in
-    fill-join (a .marks) (a .bytes .now) (a .m) (a .o) (a .p) (a .words .now) (l .words) (enter .last .1 .0) (l .i) (l .i - 1) (l .inv) (enter .ensures)
+    fill-join (a .marks) (a .bytes .now) (a .m) (a .o) (a .size) (a .words .now) (l .words) (enter .last .1 .0) (l .i) (l .i - 1) (l .inv) (enter .ensures)
 
 loop-less-2 : tie.Need-loop-less-2 Inv-loop μ-loop
 loop-less-2 c = omega arith
@@ -65,8 +65,8 @@ loop-again-2 c =
     let a = c .before .before .before .before .before .before .before .before .args in
     let l = c .before .before .before .before .loop in
     let bits = c .before .before .bits in
-    fill-skip (a .marks) (a .bytes .now) (a .m) (a .o) (a .p) (a .words .now) (l .words) (l .i) (l .i - 1) (omega arith) (l .inv) (c .before .is-chosen .result)
-    (c .before .is-chosen .ensures ∙ ap (chosen (a .marks) (a .m)) (bits .ensures .0)) (c .if1 .left)
+    fill-skip (a .marks) (a .bytes .now) (a .m) (a .o) (a .size) (a .words .now) (l .words) (l .i) (l .i - 1) (omega arith) (l .inv)
+    (c .before .is-chosen .result) (c .before .is-chosen .ensures ∙ ap (chosen (a .marks) (a .m)) (bits .ensures .0)) (c .if1 .left)
 
 same-length : tie.Need-same-length Inv-loop μ-loop
 same-length c = c .before .loop .inv .kept .long
@@ -75,7 +75,7 @@ returns : tie.Need-returns Inv-loop μ-loop
 returns c =
     let a = c .before .before .before .before .before .args in
     let l = c .before .loop in
-    fill-end (a .marks) (a .bytes .now) (a .m) (a .o) (a .p) (a .words .now) (l .words) (l .i) (c .loop-test .left) (l .inv)
+    fill-end (a .marks) (a .bytes .now) (a .m) (a .o) (a .size) (a .words .now) (l .words) (l .i) (c .loop-test .left) (l .inv)
 
 pub fill-spec : {M : Type 1} → statement M
 fill-spec =

@@ -1,7 +1,7 @@
 -- `lengths_build::need` meets its contract: each return is one law of the answer. Assumes nothing.
-use Rattle.logic.specs.Bools.{not-false}
-use Rattle.lengths_build.proofs.Words.{need-unlisted, need-words}
+use Rattle.lengths_build.proofs.Words.{need-unlisted, need-words, need-taken}
 use borrow.Author.Needs.{needs}
+use native.Mathlib.Omega.{arith}
 use Rattle.lengths_build.proofs.need.Statement.{statement}
 use Rattle.lengths_build.proofs.need.Tie as tie
 
@@ -16,8 +16,10 @@ returns c =
 
 total-requires : tie.Need-total-requires
 total-requires c κs =
+    let a = c .before .before .before .args in
     let test = c .before .is-listed in
-    test .ensures .list (not-false (test .result) (c .if1 .left))
+    need-taken (a .bytes .now) (test .result) (test .ensures) (λ i. omega (arith, c .before .before .shared-slice-known .given i))
+    (c .if1 .left)
 
 mul-t5 : tie.Need-mul-t5
 mul-t5 c = search needs

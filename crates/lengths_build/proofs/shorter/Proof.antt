@@ -1,9 +1,8 @@
 -- `lengths_build::shorter` meets its contract. The loop keeps that what is left says what the whole says. Assumes nothing.
-use mathlib.Core.Path.{_≡_, refl, sym, ap, _∙_}
+use mathlib.Core.Path.{_≡_, refl, _∙_}
 use Prim.Native.Nat.{_-_, _<_}
-use Rattle.lengths.specs.Answer.{lookOf}
 use Rattle.lengths_build.specs.Filling.{below}
-use Rattle.lengths_build.proofs.Entry.{below-hit, below-miss, below-outside, below-end}
+use Rattle.lengths_build.proofs.Entry.{saw, saw-inside, below-hit, below-miss, below-outside, below-end}
 use borrow.Author.Needs.{needs}
 use native.Mathlib.Omega.{arith}
 use Rattle.lengths_build.proofs.shorter.Statement.{statement}
@@ -24,25 +23,40 @@ loop-holds c = (omega arith, refl)
 sub-l-2 : tie.Need-sub-l-2 Inv-loop μ-loop
 sub-l-2 c = omega arith
 
-sub-look-in : tie.Need-sub-look-in Inv-loop μ-loop
-sub-look-in c = omega arith
+sub-look-at : tie.Need-sub-look-at Inv-loop μ-loop
+sub-look-at c = omega arith
 
-shr-look-in : tie.Need-shr-look-in Inv-loop μ-loop
-shr-look-in c = omega arith
+shr-look-at : tie.Need-shr-look-at Inv-loop μ-loop
+shr-look-at c = omega arith
 
-look-in-requires : tie.Need-look-in-requires Inv-loop μ-loop
-look-in-requires c κs = (c .before .before .before .pre .0, omega arith)
+look-at-requires : tie.Need-look-at-requires Inv-loop μ-loop
+look-at-requires c κs = (c .before .before .before .pre .0, omega arith)
 
 enum-known-b : tie.Need-enum-known-b Inv-loop μ-loop
 enum-known-b c = search needs
 
+mul-result : tie.Need-mul-result Inv-loop μ-loop
+mul-result c =
+    let a = c .before .before .before .before .before .before .before .args in
+    let look-at = c .before .before .before .look-at in
+    let b = c .before .b in
+    omega (arith, saw-inside (a .words .now) (look-at .result) _ (look-at .ensures) (b .given .0 .0) (b .given .1))
+
+shared-slice-read-result : tie.Need-shared-slice-read-result Inv-loop μ-loop
+shared-slice-read-result c =
+    let a = c .before .before .before .before .before .before .before .before .args in
+    let look-at = c .before .before .before .before .look-at in
+    let b = c .before .before .b in
+    saw-inside (a .words .now) (look-at .result) _ (look-at .ensures) (b .given .0 .0) (b .given .1)
+
 returns : tie.Need-returns Inv-loop μ-loop
 returns c =
-    let a = c .before .before .before .before .before .before .before .args in
-    let l = c .before .before .before .before .before .loop in
-    let look-in = c .before .before .before .look-in in
-    below-hit (a .words .now) (a .m) (a .v) (l .l) (c .before .b .given .0 .0) (omega arith) (sym (look-in .ensures) ∙ ap lookOf (c .before .b .given .1))
-    ∙ l .inv .1
+    let a = c .before .before .before .before .before .before .before .before .args in
+    let l = c .before .before .before .before .before .before .loop in
+    let look-at = c .before .before .before .before .look-at in
+    let b = c .before .before .b in
+    let x = saw (a .words .now) (look-at .result) _ (look-at .ensures) _ (b .given .1) in
+    below-hit (a .words .now) (a .m) (a .v) (l .l) _ (omega arith) x ∙ l .inv .1
 
 enum-told : tie.Need-enum-told Inv-loop μ-loop
 enum-told c = search needs
@@ -54,8 +68,9 @@ loop-again : tie.Need-loop-again Inv-loop μ-loop
 loop-again c =
     let a = c .before .before .before .before .before .before .args in
     let l = c .before .before .before .before .loop in
-    let look-in = c .before .before .look-in in
-    (omega arith, below-miss (a .words .now) (a .m) (a .v) (l .l) (omega arith) (sym (look-in .ensures) ∙ ap lookOf (c .enum-told .given .1)) ∙ l .inv .1)
+    let look-at = c .before .before .look-at in
+    let x = saw (a .words .now) (look-at .result) _ (look-at .ensures) _ (c .enum-told .given .1) in
+    (omega arith, below-miss (a .words .now) (a .m) (a .v) (l .l) (omega arith) x ∙ l .inv .1)
 
 enum-told-2 : tie.Need-enum-told-2 Inv-loop μ-loop
 enum-told-2 c = search needs
@@ -67,11 +82,12 @@ loop-again-2 : tie.Need-loop-again-2 Inv-loop μ-loop
 loop-again-2 c =
     let a = c .before .before .before .before .before .before .args in
     let l = c .before .before .before .before .loop in
-    let look-in = c .before .before .look-in in
-    (omega arith, below-outside (a .words .now) (a .m) (a .v) (l .l) (omega arith) (sym (look-in .ensures) ∙ ap lookOf (c .enum-told2 .given .1)) ∙ l .inv .1)
+    let look-at = c .before .before .look-at in
+    let x = saw (a .words .now) (look-at .result) _ (look-at .ensures) _ (c .enum-told2 .given .1) in
+    (omega arith, below-outside (a .words .now) (a .m) (a .v) (l .l) (omega arith) x ∙ l .inv .1)
 
-shared-slice-read-result : tie.Need-shared-slice-read-result Inv-loop μ-loop
-shared-slice-read-result c = omega (arith, c .before .before .before .before .pre .0)
+shared-slice-read-result-2 : tie.Need-shared-slice-read-result-2 Inv-loop μ-loop
+shared-slice-read-result-2 c = omega (arith, c .before .before .before .before .pre .0)
 
 returns-2 : tie.Need-returns-2 Inv-loop μ-loop
 returns-2 c =
@@ -88,10 +104,12 @@ shorter-spec =
     sub-l
     loop-holds
     sub-l-2
-    sub-look-in
-    shr-look-in
-    look-in-requires
+    sub-look-at
+    shr-look-at
+    look-at-requires
     enum-known-b
+    mul-result
+    shared-slice-read-result
     returns
     enum-told
     loop-less
@@ -99,5 +117,5 @@ shorter-spec =
     enum-told-2
     loop-less-2
     loop-again-2
-    shared-slice-read-result
+    shared-slice-read-result-2
     returns-2)

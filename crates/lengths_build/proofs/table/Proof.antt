@@ -17,9 +17,6 @@ add-end c = search needs
 clear-requires : tie.Need-clear-requires
 clear-requires c κs = search needs
 
-mul-fill : tie.Need-mul-fill
-mul-fill c = search needs
-
 fill-requires : tie.Need-fill-requires
 fill-requires c κs =
     let s = c .before .before .before .before .before .before .before .before .before .before .before in
@@ -27,9 +24,6 @@ fill-requires c κs =
     let k = c .before .before .before .clear in
     make-first (s .args .bytes .now) (s .args .words .now) (s .args .m) (s .args .o) (s .args .size) (s .pre) (h .last .0) (h .ensures)
     (k .last .0) _ (omega arith) (k .ensures)
-
-mul-fill-2 : tie.Need-mul-fill-2
-mul-fill-2 c = search needs
 
 fill-requires-2 : tie.Need-fill-requires-2
 fill-requires-2 c κs =
@@ -61,9 +55,7 @@ table-spec =
     mul-end
     add-end
     clear-requires
-    mul-fill
     fill-requires
-    mul-fill-2
     fill-requires-2
     same-length
     returns)

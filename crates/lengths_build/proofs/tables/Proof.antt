@@ -16,7 +16,7 @@ loop-holds : tie.Need-loop-holds Inv-loop μ-loop
 loop-holds c = going-start (c .before .before .args .bytes .now) (c .before .before .args .words .now) (c .before .before .pre)
 
 entries-requires : tie.Need-entries-requires Inv-loop μ-loop
-entries-requires c κs = (c .before .before .before .before .pre .list, c .before .loop .inv .few, c .loop-test .taken)
+entries-requires c κs = (c .before .before .before .before .pre .taken, c .before .loop .inv .few, c .loop-test .taken)
 
 table-requires : tie.Need-table-requires Inv-loop μ-loop
 table-requires c κs =

@@ -5,20 +5,20 @@ use Prim.Native.Nat.{_+_, _*_, _-_, _≤_}
 use Rattle.lengths.specs.Entries.{entriesTo, tally}
 use Rattle.rivals.specs.Won.{winners-list}
 use Rattle.listing.specs.Listed.{candidatesIn, listOf}
-use Rattle.listing.specs.Records.{keyBound}
+use Rattle.lengths_build.specs.Build.{entriesBound}
 use Rattle.lengths_build.proofs.Words.{total-none, total-more, total-all}
 use native.Mathlib.Omega.{arith}
 use Rattle.lengths_build.proofs.total.Statement.{statement}
 use Rattle.lengths_build.proofs.total.Tie as tie
 
 abbrev Inv-loop : tie.InvT-loop
-Inv-loop bytes sum₀ m₀ sum m = (m ≤ 32) × (sum ≡ entriesTo m (listOf bytes) + tally 0 (listOf bytes)) × (sum ≤ keyBound * m + keyBound)
+Inv-loop bytes sum₀ m₀ sum m = (m ≤ 32) × (sum ≡ entriesTo m (listOf bytes) + tally 0 (listOf bytes)) × (sum ≤ entriesBound * m + entriesBound)
 
 abbrev μ-loop : tie.MeasureT-loop
 μ-loop bytes sum₀ m₀ sum m = 32 - m
 
 defaults-requires : tie.Need-defaults-requires Inv-loop μ-loop
-defaults-requires c κs = c .before .pre
+defaults-requires c κs = c .before .pre .list
 
 loop-holds : tie.Need-loop-holds Inv-loop μ-loop
 loop-holds c =
@@ -52,7 +52,7 @@ returns c =
     let a = c .before .before .before .before .args in
     let p = c .before .before .before .before .pre in
     let l = c .before .loop in
-    let w = winners-list 32 (candidatesIn (a .bytes .now)) p in
+    let w = winners-list 32 (candidatesIn (a .bytes .now)) (p .list) in
     (total-all (listOf (a .bytes .now)) (l .m) (l .sum) w (omega arith) (omega arith) (l .inv .1), omega (arith, l .inv .2))
 
 pub total-spec : {M : Type 1} → statement M
