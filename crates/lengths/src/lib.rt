@@ -18,21 +18,21 @@ ghost use Rattle.replies.specs.Said.{saidMatch};
 // The words of the header.
 pub const HEADER_WORDS: usize = 1024;
 
-// The words and the places of an entry.
+// The words of an entry.
 pub const ENTRY_WORDS: usize = 8;
-
+// Its places, of a key and a best match each.
 pub const PLACES: usize = 4;
 // Less an entry's bits, its key.
 pub const MOST_BITS: u32 = 4294967295;
-// By this bits are mixed, ..
+// The factor by which bits are mixed.
 const MIXER: usize = 2654435769;
-// .. below this, which is one past the numbers of a word; ..
+// One past the numbers of a word.
 const WORD_BOUND: usize = 4294967296;
-// .. and WORD_BOUND / PLACES mixed bits fall on a place for each entry.
+// WORD_BOUND / PLACES, by which a product with the entries is divided, as one with the places would have more than 64 bits.
 const PLACE_SHARE: usize = 1073741824;
-// A best match is hop * HOP_UNIT + length, below BEST_BOUND.
+// A best match is hop * HOP_UNIT + length.
 pub const HOP_UNIT: u32 = 256;
-
+// One past the best matches.
 const BEST_BOUND: u32 = 16777216;
 // The longest length.
 const LONGEST: u32 = 32;
