@@ -1,6 +1,7 @@
 /* Two archives of the library in one program, by turns: two OLD.so NEW.so. Prints for each list what a lookup, an update inside a
- * run and the check take with either, the least of the rounds, and the new one's time over the old one's; and, where the new one
- * has toggleash_within, its time over that of a lookup. bench/two builds and runs it. */
+ * run and the check take with either, the least of the rounds, and the new one's time over the old one's, the median of the rounds;
+ * and, where the new one has toggleash_within, its time over that of a lookup. Of the last list there are updates that gain and
+ * free arrays too. bench/two builds and runs it. */
 #define _GNU_SOURCE
 #include <dlfcn.h>
 #include <stdio.h>
@@ -42,7 +43,9 @@ static const kind kinds[] = {
     {"3,000 routes of 9 to 32 bits", 3000, 9, 32, 256},
     {"200,000 routes of 8 to 20 bits in 16 first bytes", 200000, 8, 20, 16},
     {"5,600 routes of 1 to 32 bits", 5600, 1, 32, 256},
+    {"3,000 routes of 9 to 24 bits in 224 first bytes", 3000, 9, 24, 224},
 };
+enum { KINDS = sizeof kinds / sizeof *kinds };
 
 static uint64_t state = 88172645463325252u;
 
@@ -80,8 +83,8 @@ static archive opened(const char *name) {
 }
 
 /* A record of kind 1 or, without its hop, of kind 2. Gives its size. */
-static size_t record(uint8_t *at, uint8_t sort, prefix p) {
-    const uint8_t bytes[8] = {sort, p.address >> 24, p.address >> 16, p.address >> 8, p.address, p.length, 0, 1 + p.address % 7};
+static size_t record(uint8_t *at, uint8_t sort, prefix p, uint8_t hop) {
+    const uint8_t bytes[8] = {sort, p.address >> 24, p.address >> 16, p.address >> 8, p.address, p.length, 0, hop};
     size_t size = sort == TOGGLEASH_KIND_ANNOUNCE ? 8 : 6;
     memcpy(at, bytes, size);
     return size;
@@ -100,7 +103,7 @@ static size_t fill(archive *two, const kind *k, prefix *held) {
     size_t size = 0, count = 0;
     for (size_t i = 0; i < k->routes; i++) {
         sent[i] = any_prefix(k);
-        size += record(feed + size, TOGGLEASH_KIND_ANNOUNCE, sent[i]);
+        size += record(feed + size, TOGGLEASH_KIND_ANNOUNCE, sent[i], 1);
     }
     for (int i = 0; i < 2; i++) {
         if (two[i].clear(two[i].words, WORDS) || two[i].run(two[i].words, WORDS, feed, size, reply, 5 * k->routes).refusal)
@@ -151,13 +154,9 @@ static double run(const archive *a, size_t size) {
     return time;
 }
 
-static double runs(const archive *a) {
-    return run(a, feed_size);
-}
-
-/* What a run takes before its first record: the test of the table. */
-static double starts(const archive *a) {
-    return run(a, 0);
+/* An update of the feed, without what a run takes before its first record: the test of the table. */
+static double updates(const archive *a) {
+    return (run(a, feed_size) - run(a, 0)) / UPDATES;
 }
 
 static double checks(const archive *a) {
@@ -170,28 +169,25 @@ static double least(double a, double b) {
     return a < b ? a : b;
 }
 
-typedef struct {
-    double old, new;
-} times;
+static int by_size(const void *a, const void *b) {
+    double x = *(const double *)a, y = *(const double *)b;
+    return (x > y) - (x < y);
+}
 
-/* The least time of both by turns. */
-static times timed(archive *two, double (*time)(const archive *)) {
-    times best = {1e18, 1e18};
+/* The least time of both by turns, each first in every second round, and the median of the rounds' ratios. */
+static void compare(const char *what, archive *two, double (*time)(const archive *)) {
+    double best[2] = {1e18, 1e18}, ratios[ROUNDS];
     for (int round = 0; round < ROUNDS; round++) {
-        best.old = least(best.old, time(&two[0]));
-        best.new = least(best.new, time(&two[1]));
+        double took[2];
+        for (int turn = 0; turn < 2; turn++) {
+            int i = (round + turn) % 2;
+            took[i] = time(&two[i]);
+            best[i] = least(best[i], took[i]);
+        }
+        ratios[round] = took[1] / took[0];
     }
-    return best;
-}
-
-static void say(const char *what, times t, double calls) {
-    printf("  %-36s %12.1f ns %12.1f ns  new/old %.2f\n", what, t.old / calls, t.new / calls, t.new / t.old);
-}
-
-static void compare(archive *two) {
-    times whole = timed(two, runs), start = timed(two, starts);
-    say("update inside a run", (times){whole.old - start.old, whole.new - start.new}, UPDATES);
-    say("check", timed(two, checks), 1);
+    qsort(ratios, ROUNDS, sizeof *ratios, by_size);
+    printf("  %-36s %12.1f ns %12.1f ns  new/old %.2f\n", what, best[0], best[1], ratios[ROUNDS / 2]);
 }
 
 /* The same of a lookup and of within, with the new archive. */
@@ -205,13 +201,58 @@ static void beside(const char *what, const archive *new) {
         printf("  %-36s %12.1f ns %12.1f ns  within/lookup %.2f\n", what, lookup, within, within / lookup);
 }
 
+/* So few of the prefixes, spread over the list. */
+static prefix one_of(const prefix *held, size_t count) {
+    return held[any() % FEW * (count / FEW)];
+}
+
 /* Routes taken out and put back, as one feed. */
 static void flap(const prefix *held, size_t count) {
     feed_size = 0;
     for (size_t i = 0; i < UPDATES / 2; i++) {
-        prefix p = held[any() % FEW * (count / FEW)];
-        feed_size += record(feed + feed_size, TOGGLEASH_KIND_WITHDRAW, p);
-        feed_size += record(feed + feed_size, TOGGLEASH_KIND_ANNOUNCE, p);
+        prefix p = one_of(held, count);
+        feed_size += record(feed + feed_size, TOGGLEASH_KIND_WITHDRAW, p, 0);
+        feed_size += record(feed + feed_size, TOGGLEASH_KIND_ANNOUNCE, p, 1);
+    }
+}
+
+/* Routes that get another hop and their own again. */
+static void rehop(const prefix *held, size_t count) {
+    feed_size = 0;
+    for (size_t i = 0; i < UPDATES / 2; i++) {
+        prefix p = one_of(held, count);
+        feed_size += record(feed + feed_size, TOGGLEASH_KIND_ANNOUNCE, p, 2);
+        feed_size += record(feed + feed_size, TOGGLEASH_KIND_ANNOUNCE, p, 1);
+    }
+}
+
+/* A prefix that lacks one array, below that of a held prefix of 17 bits or more, or three, below a first byte that has none. No
+ * list but the last has room for them and no route over 24 bits. */
+static prefix lacking(const prefix *held, size_t count, int arrays) {
+    prefix p = held[any() % count];
+    while (p.length < 17)
+        p = held[any() % count];
+    uint32_t address = arrays == 1 ? p.address >> 16 << 16 | any() % 65536 : any() | 224u << 24;
+    uint32_t length = 25 + any() % 8;
+    return (prefix){address & UINT32_MAX << (32 - length), length};
+}
+
+/* Such prefixes announced and withdrawn again. */
+static void gain(archive *two, const prefix *held, size_t count, int arrays) {
+    prefix few[FEW];
+    for (int i = 0; i < FEW; i++) {
+        few[i] = lacking(held, count, arrays);
+        uint32_t used = two[1].words[0];
+        run(&two[1], record(feed, TOGGLEASH_KIND_ANNOUNCE, few[i], 1));
+        if (two[1].words[0] != used + arrays)
+            exit((fputs("two: another number of arrays is gained\n", stderr), 2));
+        run(&two[1], record(feed, TOGGLEASH_KIND_WITHDRAW, few[i], 0));
+    }
+    feed_size = 0;
+    for (size_t i = 0; i < UPDATES / 2; i++) {
+        prefix p = few[any() % FEW];
+        feed_size += record(feed + feed_size, TOGGLEASH_KIND_ANNOUNCE, p, 1);
+        feed_size += record(feed + feed_size, TOGGLEASH_KIND_WITHDRAW, p, 0);
     }
 }
 
@@ -230,18 +271,25 @@ int main(int words, char **word) {
         return fputs("two OLD.so NEW.so\n", stderr), 2;
     archive two[2] = {opened(word[1]), opened(word[2])};
     prefix *held = room(200000, sizeof *held);
-    for (size_t i = 0; i < sizeof kinds / sizeof *kinds; i++) {
+    for (size_t i = 0; i < KINDS; i++) {
         size_t count = fill(two, &kinds[i], held);
         toggleash_counts counts = two[1].check(two[1].words, WORDS);
         printf("%s: %u prefixes, %u arrays\n", kinds[i].name, counts.routes, counts.arrays);
         ask(held, count, 0);
-        say("lookup, random addresses", timed(two, lookups), 1);
+        compare("lookup, random addresses", two, lookups);
         beside("within, random prefixes", &two[1]);
         ask(held, count, 1);
-        say("lookup, addresses of held prefixes", timed(two, lookups), 1);
+        compare("lookup, addresses of held prefixes", two, lookups);
         beside("within, held prefixes", &two[1]);
+        rehop(held, count);
+        compare("update inside a run, another hop", two, updates);
         flap(held, count);
-        compare(two);
+        compare("the same, withdrawn and announced", two, updates);
+        for (int arrays = 1; i == KINDS - 1 && arrays < 4; arrays += 2) {
+            gain(two, held, count, arrays);
+            compare(arrays == 1 ? "the same, an array gained and freed" : "the same, three gained and freed", two, updates);
+        }
+        compare("check", two, checks);
     }
     return 0;
 }

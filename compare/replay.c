@@ -108,6 +108,22 @@ static toggleash_update v4_withdraw(uint32_t *at, size_t n, octets a, uint32_t l
     return toggleash_withdraw(at, n, number(a), length, feed);
 }
 
+static toggleash_update v4_announce_local(uint32_t *at, size_t n, octets a, uint32_t length, uint32_t hop, uint32_t feed,
+                                          uint8_t preference) {
+    return toggleash_announce_local(at, n, number(a), length, hop, feed, preference);
+}
+
+static toggleash_update v4_withdraw_local(uint32_t *at, size_t n, octets a, uint32_t length, uint32_t feed) {
+    return toggleash_withdraw_local(at, n, number(a), length, feed);
+}
+
+/* The calls that come twice: those that test the whole table, and the local ones. */
+typedef struct {
+    toggleash_update (*announce)(uint32_t *, size_t, octets, uint32_t, uint32_t, uint32_t, uint8_t);
+    toggleash_update (*withdraw)(uint32_t *, size_t, octets, uint32_t, uint32_t);
+    toggleash_ran (*run)(uint32_t *, size_t, const uint8_t *, size_t, uint8_t *, size_t);
+} updates;
+
 /* The bytes of an address, the kinds of records that name a feed and of lookups, and the calls. */
 typedef struct {
     size_t bytes;
@@ -116,19 +132,19 @@ typedef struct {
     toggleash_counts (*check)(const uint32_t *, size_t);
     toggleash_answer (*lookup)(const uint32_t *, size_t, octets);
     toggleash_total (*within)(const uint32_t *, size_t, octets, uint32_t);
-    toggleash_update (*announce)(uint32_t *, size_t, octets, uint32_t, uint32_t, uint32_t, uint8_t);
-    toggleash_update (*withdraw)(uint32_t *, size_t, octets, uint32_t, uint32_t);
     toggleash_written (*write_out)(const uint32_t *, size_t, uint8_t *, size_t);
-    toggleash_ran (*run)(uint32_t *, size_t, const uint8_t *, size_t, uint8_t *, size_t);
+    updates whole, local;
 } family;
 
 static const family four = {
     4, TOGGLEASH_KIND_ANNOUNCE_FOR, TOGGLEASH_KIND_WITHDRAW_FOR, TOGGLEASH_KIND_LOOKUP, toggleash_clear, toggleash_check,
-    v4_lookup, v4_within, v4_announce, v4_withdraw, toggleash_write_out, toggleash_run};
+    v4_lookup, v4_within, toggleash_write_out, {v4_announce, v4_withdraw, toggleash_run},
+    {v4_announce_local, v4_withdraw_local, toggleash_run_local}};
 static const family six = {
     16, TOGGLEASH_KIND_V6_ANNOUNCE, TOGGLEASH_KIND_V6_WITHDRAW, TOGGLEASH_KIND_V6_LOOKUP, toggleash_v6_clear,
-    toggleash_v6_check, toggleash_v6_lookup, toggleash_v6_within, toggleash_v6_announce, toggleash_v6_withdraw,
-    toggleash_v6_write_out, toggleash_v6_run};
+    toggleash_v6_check, toggleash_v6_lookup, toggleash_v6_within, toggleash_v6_write_out,
+    {toggleash_v6_announce, toggleash_v6_withdraw, toggleash_v6_run},
+    {toggleash_v6_announce_local, toggleash_v6_withdraw_local, toggleash_v6_run_local}};
 
 /* ---- Records */
 
@@ -183,8 +199,9 @@ static candidate any_candidate(const family *f) {
     return c;
 }
 
-/* One record by its own call, and added to the feed, by either kind where both can say it. */
-static void record(const family *f, words table, bytes *feed) {
+/* One record by its own call, on the second table by the local one, and added to the feed, by either kind where both can
+ * say it. */
+static void record(const family *f, words table, words near, bytes *feed) {
     uint32_t choice = any() % 10, plain = any() % 2;
     candidate c = any_candidate(f);
     plain = plain && c.feed == 1 && f == &four;
@@ -199,7 +216,8 @@ static void record(const family *f, words table, bytes *feed) {
         put(feed, c.length);
         if (!plain)
             put(feed, c.feed);
-        say_update("withdraw", f->withdraw(table.at, table.n, c.address, c.length, c.feed));
+        say_update("withdraw", f->whole.withdraw(table.at, table.n, c.address, c.length, c.feed));
+        say_update("withdraw_local", f->local.withdraw(near.at, near.n, c.address, c.length, c.feed));
         return;
     }
     if (plain)
@@ -208,20 +226,42 @@ static void record(const family *f, words table, bytes *feed) {
     put(feed, c.length), put(feed, c.hop >> 8), put(feed, c.hop);
     if (!plain)
         put(feed, c.feed), put(feed, c.preference);
-    say_update("announce", f->announce(table.at, table.n, c.address, c.length, c.hop, c.feed, c.preference));
+    say_update("announce", f->whole.announce(table.at, table.n, c.address, c.length, c.hop, c.feed, c.preference));
+    say_update("announce_local", f->local.announce(near.at, near.n, c.address, c.length, c.hop, c.feed, c.preference));
 }
 
-/* The records one by one on the table, and as one run on the other. */
-static void records(const family *f, words table, words other, size_t count) {
-    bytes feed = {room((f->bytes + 6) * count + 1, 1), 0}, reply = {room(5 * count, 1), 5 * count};
-    for (size_t i = 0; i < count; i++)
-        record(f, table, &feed);
-    put(&feed, TOGGLEASH_KIND_END);
-    toggleash_ran r = f->run(other.at, other.n, feed.at, feed.n, reply.at, reply.n);
+/* A feed as one run, and the words then. */
+static void run(const updates *u, words table, bytes feed, bytes reply) {
+    toggleash_ran r = u->run(table.at, table.n, feed.at, feed.n, reply.at, reply.n);
     printf("run %" PRIu32 " %" PRIu32 " %" PRIu64 " %" PRIu64 " %" PRIu64 " %" PRIu64 "\n", r.refusal, r.stop, r.consumed,
            r.written, r.accepted, r.refused);
-    printf("replies %016" PRIx64 " words %016" PRIx64 " %016" PRIx64 "\n", sum_of_bytes(reply.at, r.written),
-           sum_of_words(table), sum_of_words(other));
+    printf("replies %016" PRIx64 " words %016" PRIx64 "\n", sum_of_bytes(reply.at, r.written), sum_of_words(table));
+}
+
+/* The same table twice: by calls that test it whole, and by the local ones. */
+typedef struct {
+    words whole, local;
+} pair;
+
+/* The records one by one on two tables, and as one run on two others; then the run again on words damaged more and more. */
+static void records(const family *f, pair tables, pair others, size_t count) {
+    bytes feed = {room((f->bytes + 6) * count + 1, 1), 0}, reply = {room(5 * count, 1), 5 * count};
+    for (size_t i = 0; i < count; i++)
+        record(f, tables.whole, tables.local, &feed);
+    put(&feed, TOGGLEASH_KIND_END);
+    printf("words %016" PRIx64 " %016" PRIx64 "\n", sum_of_words(tables.whole), sum_of_words(tables.local));
+    run(&f->whole, others.whole, feed, reply);
+    run(&f->local, others.local, feed, reply);
+    for (size_t i = 0; i < DAMAGES; i++) {
+        candidate c = any_candidate(f);
+        words near = others.local;
+        near.at[any() % near.n] ^= 1u << any() % 32;
+        say_update("announce_local, damaged",
+                   f->local.announce(near.at, near.n, c.address, c.length, c.hop, c.feed, c.preference));
+        c = any_candidate(f);
+        say_update("withdraw_local, damaged", f->local.withdraw(near.at, near.n, c.address, c.length, c.feed));
+    }
+    run(&f->local, others.local, feed, reply);
     free(feed.at);
     free(reply.at);
 }
@@ -274,14 +314,15 @@ static void damage_copy(words copy) {
 }
 
 /* A family's calls on foreign words, on a table of random records, and on what little damage leaves of it. */
-static void replay(const family *f, words table, words other, size_t many) {
+static void replay(const family *f, pair tables, pair others, size_t many) {
+    words all[4] = {tables.whole, tables.local, others.whole, others.local}, table = tables.whole;
     for (size_t i = 0; i < table.n; i++)
-        table.at[i] = other.at[i] = any();
+        table.at[i] = any();
     say_counts("check, foreign", f->check(table.at, table.n));
     looks(f, table);
-    printf("clear %" PRIu32 "\n", f->clear(table.at, table.n));
-    printf("clear %" PRIu32 "\n", f->clear(other.at, other.n));
-    records(f, table, other, many);
+    for (size_t i = 0; i < 4; i++)
+        printf("clear %" PRIu32 "\n", f->clear(all[i].at, all[i].n));
+    records(f, tables, others, many);
     for (size_t i = 0; i < many; i++)
         looks(f, table);
     for (size_t i = 0; i < DAMAGES; i++)
@@ -296,15 +337,20 @@ static void replay(const family *f, words table, words other, size_t many) {
     free(list.at);
 }
 
+static pair two(size_t n) {
+    pair tables = {{room(n, sizeof(uint32_t)), n}, {room(n, sizeof(uint32_t)), n}};
+    return tables;
+}
+
 int main(int count, char **word) {
     if (count != 4) {
         fputs("replay ARRAYS SEED RECORDS\n", stderr);
         return 2;
     }
     size_t n = TOGGLEASH_WORDS(strtoul(word[1], NULL, 10)), many = strtoul(word[3], NULL, 10);
-    words table = {room(n, sizeof(uint32_t)), n}, other = {room(n, sizeof(uint32_t)), n};
+    pair tables = two(n), others = two(n);
     state = strtoull(word[2], NULL, 10) * 0x9E3779B97F4A7C15u + 1;
-    replay(&four, table, other, many);
-    replay(&six, table, other, many);
+    replay(&four, tables, others, many);
+    replay(&six, tables, others, many);
     return 0;
 }

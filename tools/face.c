@@ -27,6 +27,10 @@ void proved_announce(toggleash_update *r, slice *words, uint32_t address, uint32
 void proved_withdraw(toggleash_update *r, slice *words, uint32_t address, uint32_t length, uint32_t feed);
 void proved_write_out(toggleash_written *r, slice *words, slice *buffer);
 void proved_run(toggleash_ran *r, slice *words, slice *feed, slice *reply);
+void proved_announce_local(toggleash_update *r, slice *words, uint32_t address, uint32_t length, uint32_t hop, uint32_t feed,
+                           uint8_t preference);
+void proved_withdraw_local(toggleash_update *r, slice *words, uint32_t address, uint32_t length, uint32_t feed);
+void proved_run_local(toggleash_ran *r, slice *words, slice *feed, slice *reply);
 uint32_t proved_v6_clear(slice *words);
 void proved_v6_check(toggleash_counts *r, slice *words);
 void proved_v6_lookup(toggleash_answer *r, slice *words, toggleash_ipv6 *address);
@@ -36,6 +40,10 @@ void proved_v6_announce(toggleash_update *r, slice *words, toggleash_ipv6 *addre
 void proved_v6_withdraw(toggleash_update *r, slice *words, toggleash_ipv6 *address, uint32_t length, uint32_t feed);
 void proved_v6_write_out(toggleash_written *r, slice *words, slice *buffer);
 void proved_v6_run(toggleash_ran *r, slice *words, slice *feed, slice *reply);
+void proved_v6_announce_local(toggleash_update *r, slice *words, toggleash_ipv6 *address, uint32_t length, uint32_t hop,
+                              uint32_t feed, uint8_t preference);
+void proved_v6_withdraw_local(toggleash_update *r, slice *words, toggleash_ipv6 *address, uint32_t length, uint32_t feed);
+void proved_v6_run_local(toggleash_ran *r, slice *words, slice *feed, slice *reply);
 void proved_copy_need(toggleash_needed *r, slice *bytes);
 void proved_copy_build(toggleash_built *r, slice *bytes, slice *words);
 void proved_copy_lookup(toggleash_match *r, slice *words, uint32_t address);
@@ -105,6 +113,29 @@ toggleash_ran toggleash_run(uint32_t *words, size_t n, const uint8_t *feed, size
     return r;
 }
 
+toggleash_update toggleash_announce_local(uint32_t *words, size_t n, uint32_t address, uint32_t length, uint32_t hop,
+                                          uint32_t feed, uint8_t preference) {
+    toggleash_update r;
+    slice w = of(words, n);
+    proved_announce_local(&r, &w, address, length, hop, feed, preference);
+    return r;
+}
+
+toggleash_update toggleash_withdraw_local(uint32_t *words, size_t n, uint32_t address, uint32_t length, uint32_t feed) {
+    toggleash_update r;
+    slice w = of(words, n);
+    proved_withdraw_local(&r, &w, address, length, feed);
+    return r;
+}
+
+toggleash_ran toggleash_run_local(uint32_t *words, size_t n, const uint8_t *feed, size_t feed_len, uint8_t *reply,
+                                  size_t reply_len) {
+    toggleash_ran r;
+    slice w = of(words, n), f = of(feed, feed_len), p = of(reply, reply_len);
+    proved_run_local(&r, &w, &f, &p);
+    return r;
+}
+
 uint32_t toggleash_v6_clear(uint32_t *words, size_t n) {
     slice w = of(words, n);
     return proved_v6_clear(&w);
@@ -159,6 +190,30 @@ toggleash_ran toggleash_v6_run(uint32_t *words, size_t n, const uint8_t *feed, s
     toggleash_ran r;
     slice w = of(words, n), f = of(feed, feed_len), p = of(reply, reply_len);
     proved_v6_run(&r, &w, &f, &p);
+    return r;
+}
+
+toggleash_update toggleash_v6_announce_local(uint32_t *words, size_t n, toggleash_ipv6 address, uint32_t length,
+                                             uint32_t hop, uint32_t feed, uint8_t preference) {
+    toggleash_update r;
+    slice w = of(words, n);
+    proved_v6_announce_local(&r, &w, &address, length, hop, feed, preference);
+    return r;
+}
+
+toggleash_update toggleash_v6_withdraw_local(uint32_t *words, size_t n, toggleash_ipv6 address, uint32_t length,
+                                             uint32_t feed) {
+    toggleash_update r;
+    slice w = of(words, n);
+    proved_v6_withdraw_local(&r, &w, &address, length, feed);
+    return r;
+}
+
+toggleash_ran toggleash_v6_run_local(uint32_t *words, size_t n, const uint8_t *feed, size_t feed_len, uint8_t *reply,
+                                     size_t reply_len) {
+    toggleash_ran r;
+    slice w = of(words, n), f = of(feed, feed_len), p = of(reply, reply_len);
+    proved_v6_run_local(&r, &w, &f, &p);
     return r;
 }
 

@@ -77,7 +77,7 @@ dropping {
         dropping = 0
     next
 }
-/^define internal .*@"(toggleash::((copies|six)::)?|resolver::|packing::|shortener::|damper::)toggleash_/ {
+/^define internal .*@"(toggleash::((copies|local|six)::)?|resolver::|packing::|shortener::|damper::)toggleash_/ {
     call = name_after("toggleash_")
     if (!(call in given) || types(given[call]) != types(parameters()) || plain(result[call]) != plain(returned()))
         fail("the module has toggleash_" call " with other types than " face ": " $0)

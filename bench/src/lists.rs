@@ -24,20 +24,36 @@ pub fn sparse(random: &mut Random, arrays: usize) -> Load {
 /// The same and then random routes, spread evenly over the arrays and in each over its lengths, until there are so many.
 pub fn dense(random: &mut Random, arrays: usize, routes: usize) -> Load {
     let mut growing = filled(random, arrays);
+    spread(random, &mut growing, arrays, routes);
+    load("denser list", &growing)
+}
+
+/// Random routes in the arrays that there are, until there are so many.
+fn spread(random: &mut Random, growing: &mut Growing, arrays: usize, routes: usize) {
     let heads: Vec<(u32, u32)> = growing.heads().chain([(0, 0)]).collect();
     while growing.count() < routes {
         let (level, head) = random.pick(&heads);
         let length = 8 * level + random.within(1..=8) as u32;
         growing.grow(Prefix::around(head | random.word() >> (8 * level), length), hop(random), arrays);
     }
-    load("denser list", &growing)
+}
+
+/// As the denser list, but of unicast addresses: no array is for a first byte from 224 on, so that the root has cells without a link.
+pub fn unicast(random: &mut Random, arrays: usize, routes: usize) -> Load {
+    let mut growing = Growing::default();
+    while growing.need() < arrays {
+        let length = random.within(1..=32) as u32;
+        growing.grow(Prefix::around(random.word() % (224 << 24), length), hop(random), arrays);
+    }
+    spread(random, &mut growing, arrays, routes);
+    load("unicast list", &growing)
 }
 
 /// Lengths that networks of IPv6 have, to 64.
 const NETWORKS: [u32; 12] = [16, 20, 24, 29, 32, 36, 40, 44, 48, 52, 56, 64];
 
-/// Networks of IPv6 inside one another, of lengths to 64, until all arrays are needed; then more in these arrays, until there are
-/// so many.
+/// Networks of IPv6 inside one another, of lengths to 64, until all arrays are needed; then more in these arrays but the root, which
+/// has them where it is alone, until there are so many.
 pub fn networks(random: &mut Random, arrays: usize, routes: usize) -> Load<u128> {
     let mut growing = Growing::default();
     let mut held = vec![Prefix { address: 1 << 125, length: 3 }];
@@ -52,7 +68,8 @@ pub fn networks(random: &mut Random, arrays: usize, routes: usize) -> Load<u128>
         growing.grow(prefix, hop(random), arrays);
         held.push(prefix);
     }
-    let heads: Vec<(u32, u128)> = growing.heads().collect();
+    let root = (growing.need() == 1).then_some((0, 0));
+    let heads: Vec<(u32, u128)> = growing.heads().chain(root).collect();
     while growing.count() < routes {
         let (level, head) = random.pick(&heads);
         let length = 8 * level + random.within(1..=8) as u32;

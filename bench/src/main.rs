@@ -1,7 +1,8 @@
 //! Measures the library beside other ways of doing the same, all in one run: `bench/run`, with `--lookups` for lookups of IPv4
-//! by all engines alone, with `--runs` for the updates inside an IPv4 run alone, with `--six` for IPv6 alone, with `--packed`,
-//! `--shortest` and `--fronts` for compressed tables, the shortest list and fronts alone, with `--quick` for a rough look. A line
-//! gives the median time of one call and how much of it the library takes.
+//! by all engines alone, with `--runs` for the updates inside an IPv4 run alone, with `--local` for local updates alone, with
+//! `--whole` for the calls that read a whole IPv4 table alone, with `--six` for IPv6 alone, with `--packed`, `--shortest` and
+//! `--fronts` for compressed tables, the shortest list and fronts alone, with `--quick` for a rough look. A line gives the median
+//! time of one call and how much of it the library takes.
 
 mod axis;
 mod bars;
@@ -18,6 +19,7 @@ mod growth;
 mod huge;
 mod insides;
 mod lists;
+mod locals;
 mod lookups;
 mod lpm;
 mod packs;
@@ -30,6 +32,7 @@ mod six;
 mod sums;
 mod svg;
 mod trie;
+mod whole;
 
 use clock::{measure, Way};
 use compare::family::Family;
@@ -45,7 +48,7 @@ use trie::Trie;
 const ARRAYS: usize = 4_096;
 const ROUTES: usize = 100_000;
 /// The parts that are measured alone where they are named.
-const PARTS: [&str; 6] = ["--lookups", "--runs", "--six", "--packed", "--shortest", "--fronts"];
+const PARTS: [&str; 8] = ["--lookups", "--runs", "--local", "--whole", "--six", "--packed", "--shortest", "--fronts"];
 /// About as many as the internet's routers hold.
 const MOST: usize = 1_000_000;
 
@@ -74,6 +77,12 @@ fn main() {
     }
     if named("--runs") {
         runs::measure_all(&mut random(), &scale, lpm);
+    }
+    if named("--local") {
+        locals::measure_all(&mut random(), &scale);
+    }
+    if parts == ["--whole"] {
+        whole::measure_all(&mut random(), &scale);
     }
     if named("--six") {
         six::measure_all(&mut random(), &scale);
@@ -104,12 +113,13 @@ fn calls(random: &mut Random, scale: &Scale, lpm: Option<&Lpm>) {
     for load in [sparse, dense, rivalled] {
         insides::counts(random, scale, &load);
         updates(random, scale, &load, ARRAYS, lpm);
-        whole(scale, &load);
+        whole::calls(scale, &load);
         copies::whole(scale, &load);
         packs::whole(scale, &load);
     }
     let most = lists::dense(random, ARRAYS, MOST);
     insides::counts(random, scale, &most);
+    whole::calls(scale, &most);
     packs::whole(scale, &most);
     for arrays in [7, 64] {
         updates(random, scale, &lists::sparse(&mut Random::for_case(1, "small", 0), arrays), arrays, None);
@@ -177,22 +187,4 @@ fn flap<A: Family>(words: &mut [u32], routes: &[Route<A>]) -> u64 {
         accepted += u64::from(A::Sent::announce(words, address, length, Candidate::via(route.hop)).is_ok());
     }
     accepted
-}
-
-/// The calls that read or write the whole table.
-fn whole<A: Family>(scale: &Scale, load: &Load<A>) {
-    let words = &table(&load.candidates, ARRAYS);
-    let mut buffer = vec![0; load.candidates.encoded_size()];
-    let mut cleared = words.clone();
-    let check = || u64::from(A::Sent::check(words).expect("a table").routes);
-    let write_out = || A::Sent::write_out(words, &mut buffer).expect("room enough").len() as u64;
-    let clear = || u64::from(A::Sent::clear(&mut cleared).is_ok());
-    let ways = [
-        ("check", Way::new("the library", check)),
-        ("write out", Way::new("the library", write_out)),
-        ("clear", Way::new("the library", clear)),
-    ];
-    for (what, way) in ways {
-        measure(&title(what, load, "one call"), scale.rounds, 1, vec![way]);
-    }
 }

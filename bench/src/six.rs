@@ -24,7 +24,7 @@ pub fn measure_all(random: &mut Random, scale: &Scale) {
         let load = lists::networks(random, ARRAYS, routes);
         lookups(random, scale, &load);
         updates(random, scale, &load);
-        whole(scale, &load);
+        whole::calls(scale, &load);
     }
 }
 

@@ -68,6 +68,37 @@ static void fed(toggleash_damper damper, toggleash_table table) {
         none);
 }
 
+/* The same by the local calls: on a table each answers as the one that tests all of it. */
+static void locally(toggleash_damper damper, toggleash_table table) {
+    static const uint8_t feed[] = {2, 10, 0, 0, 0, 8, 9, 0};
+    static const uint64_t whole[] = {8, 10, 1, 0};
+    uint8_t reply[10];
+    uint32_t i;
+    for (i = 0; i < 4; i++) {
+        update("local", toggleash_damper_announce_local(damper, table, IP(10, 0, 0, 0), 8, 5, 1, 0), 0, 5, 1);
+        update("local", toggleash_damper_withdraw_local(damper, table, IP(10, 0, 0, 0), 8, 1), 0, 5, 1);
+    }
+    update("kept", toggleash_damper_announce_local(damper, table, IP(10, 0, 0, 0), 8, 6, 1, 0), 0, 6, 0);
+    front("first tick", toggleash_damper_tick_local(damper, table), 0, 1, 1);
+    front("second tick", toggleash_damper_tick_local(damper, table), 0, 1, 1);
+    front("third tick", toggleash_damper_tick_local(damper, table), 0, 1, 0);
+    answer("let go", toggleash_table_find(table, IP(10, 0, 0, 1)), 0, 1, 6, 8, 8);
+    ran("run", toggleash_damper_run_local(damper, table, feed, sizeof feed, reply, sizeof reply), 0, TOGGLEASH_STOP_END, whole);
+    row("after the run", 0, IP(10, 0, 0, 0), 8 * 8 + 1, 2 * 750, 0);
+    /* of words that are no table only the local calls know a candidate that is held back */
+    held[2] = 2 * 4000 + 1;
+    memset(words, 255, sizeof words);
+    memset(words_before, 255, sizeof words);
+    update("kept", toggleash_damper_announce_local(damper, table, IP(10, 0, 0, 0), 8, 6, 1, 0), 0, 6, 0);
+    update("not kept", toggleash_damper_announce(damper, table, IP(10, 0, 0, 0), 8, 6, 1, 0), TOGGLEASH_NOT_A_TABLE, 0, 0);
+    update("another's", toggleash_damper_withdraw_local(damper, table, IP(10, 0, 0, 0), 8, 2), TOGGLEASH_NOT_A_TABLE, 0, 0);
+    for (i = 0; i < 20; i++) {
+        front("kept on", toggleash_damper_tick_local(damper, table), 0, 1, 1);
+    }
+    row("kept on", 0, IP(10, 0, 0, 0), 8 * 8 + 1, 1, 6);
+    same("the words stay", 0, (uint64_t)memcmp(words_before, words, sizeof words));
+}
+
 /* The order of refusals, and that both memories stay. */
 static void refused(toggleash_damper damper, toggleash_table table, uint32_t last) {
     static const uint64_t none[] = {0, 0, 0, 0};
@@ -85,6 +116,15 @@ static void refused(toggleash_damper damper, toggleash_table table, uint32_t las
     front("a wrong size", toggleash_damp_tick(held, 1024, words, 6145), TOGGLEASH_WORD_COUNT, 0, 0);
     front("a front's", toggleash_damp_tick(held, 1025, words, 12288), TOGGLEASH_NOT_A_TABLE, 0, 0);
     front("null", toggleash_damp_check(NULL, 0), TOGGLEASH_NOT_A_TABLE, 0, 0);
+    update("33 bits", toggleash_damper_announce_local(damper, table, 1, 33, 0, 9, 0), TOGGLEASH_LENGTH_OVER_32, 0, 0);
+    update("no feed", toggleash_damper_withdraw_local(damper, table, 0, 8, 0), TOGGLEASH_FEED_OUT_OF_RANGE, 0, 0);
+    update("withdraw", toggleash_damper_withdraw_local(damper, table, 0, 8, 4), last, 0, 0);
+    update("a wrong size", toggleash_damp_withdraw_local(held, 1024, words, 6145, 1, 33, 9), TOGGLEASH_WORD_COUNT, 0, 0);
+    update("a front's", toggleash_damp_withdraw_local(held, 1023, words, 12288, 0, 8, 4), TOGGLEASH_NOT_A_TABLE, 0, 0);
+    front("a wrong size", toggleash_damp_tick_local(held, 1024, words, 6145), TOGGLEASH_WORD_COUNT, 0, 0);
+    front("a front's", toggleash_damp_tick_local(held, 1025, words, 12288), TOGGLEASH_NOT_A_TABLE, 0, 0);
+    ran("a front's", toggleash_damp_run_local(held, 1023, words, 12288, feed, sizeof feed, reply, sizeof reply),
+        TOGGLEASH_NOT_A_TABLE, 0, none);
     same("clear", TOGGLEASH_NOT_A_TABLE, toggleash_damp_clear(held, 1023));
     if (last == TOGGLEASH_NOT_A_TABLE) {
         front("tick", toggleash_damper_tick(damper, table), last, 0, 0);
@@ -111,6 +151,10 @@ int main(void) {
     same("clear", 0, toggleash_damper_clear(damper));
     same("clear", 0, toggleash_table_clear(table));
     fed(damper, table);
+    same("clear", 0, toggleash_damper_clear(damper));
+    same("clear", 0, toggleash_table_clear(table));
+    locally(damper, table);
+    same("clear", 0, toggleash_damper_clear(damper));
     memset(words, 255, sizeof words);
     refused(damper, table, TOGGLEASH_NOT_A_TABLE);
     same("version", TOGGLEASH_VERSION, toggleash_damp_version_5());

@@ -9,12 +9,12 @@ int main(void) {
     toggleash_table table = TOGGLEASH_TABLE(words);
     uint32_t refusal = toggleash_table_clear(table);
     if (!refusal) {
-        toggleash_update done = toggleash_table_announce(table, 0x0A000000, 8, 1, 1, 10); /* feed 1, preference 10 */
+        toggleash_update done = toggleash_table_announce_local(table, 0x0A000000, 8, 1, 1, 10); /* feed 1, preference 10 */
         printf("10.0.0.0/8 via %u takes %u cell\n", done.hop, done.cells);
         refusal = done.refusal;
     }
     if (!refusal) {
-        toggleash_update other = toggleash_table_announce(table, 0x0A000000, 8, 2, 2, 20); /* the other uplink's, worse */
+        toggleash_update other = toggleash_table_announce_local(table, 0x0A000000, 8, 2, 2, 20); /* the other uplink's */
         printf("10.0.0.0/8 via %u takes %u cells\n", other.hop, other.cells);
         refusal = other.refusal;
     }
@@ -25,7 +25,7 @@ int main(void) {
         refusal = found.refusal;
     }
     if (!refusal) {
-        toggleash_update gone = toggleash_table_withdraw(table, 0x0A000000, 8, 1);
+        toggleash_update gone = toggleash_table_withdraw_local(table, 0x0A000000, 8, 1);
         toggleash_answer found = toggleash_table_find(table, 0x0A010509);
         printf("feed 1 withdraws %u, and 10.1.5.9 goes via %u\n", gone.hop, found.hop);
         refusal = gone.refusal;

@@ -19,7 +19,9 @@ uint32_t lent(uint32_t parameter[TOGGLEASH_WORDS(1)], const uint32_t *constant) 
     uint32_t *pointer = parameter;
     uint32_t refusal = toggleash_table_clear(table) + toggleash_copy_make(copy, list, sizeof list).refusal;
     refusal += toggleash_table_announce(table, 0, 0, 1, 1, 0).refusal + toggleash_table_withdraw(table, 0, 0, 1).refusal;
+    refusal += toggleash_table_announce_local(table, 0, 0, 1, 1, 0).refusal;
     refusal += toggleash_v6_table_clear(six) + toggleash_v6_table_find(six, address).refusal;
+    refusal += toggleash_v6_table_withdraw_local(six, address, 0, 1).refusal;
     refusal += toggleash_packed_table_make(packed, table).refusal + toggleash_packed_table_find(packed, 1).refusal;
     refusal += toggleash_table_shortest(table, TOGGLEASH_SCRATCH(odd), list, sizeof list).refusal;
     refusal += toggleash_damper_clear(damper) + toggleash_damper_tick(damper, table).refusal;
@@ -113,5 +115,12 @@ uint32_t lent(uint32_t parameter[TOGGLEASH_WORDS(1)], const uint32_t *constant) 
     return refusal + toggleash_damper_clear(TOGGLEASH_FRONT(pointer));
 #elif MISTAKE == 42 /* there is no front of IPv6 */
     return refusal + toggleash_damper_tick(damper, six).refusal;
+#elif MISTAKE == 43 /* a local call's refusal that nobody sees */
+    toggleash_table_announce_local(table, 0, 0, 1, 1, 0);
+    return refusal;
+#elif MISTAKE == 44 /* a table of the other family */
+    return refusal + toggleash_v6_table_withdraw_local(table, address, 0, 1).refusal;
+#elif MISTAKE == 45
+    return refusal + toggleash_table_run_local(six, list, sizeof list, bytes, sizeof bytes).refusal;
 #endif
 }

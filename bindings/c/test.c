@@ -387,6 +387,147 @@ static void wrong_totals(void) {
     counts("words without a use", toggleash_check(words, ROOM), 0, 0, 1);
 }
 
+/* ---- The local calls, beside those that test the whole table */
+
+static uint32_t others[ROOM];
+
+/* An update, an announcement or a withdrawal. */
+typedef struct {
+    char kind;
+    uint32_t address, length, hop, feed;
+    uint8_t preference;
+} step;
+
+static toggleash_update checked(toggleash_table table, step s) {
+    if (s.kind == 'w')
+        return toggleash_table_withdraw(table, s.address, s.length, s.feed);
+    return toggleash_table_announce(table, s.address, s.length, s.hop, s.feed, s.preference);
+}
+
+static toggleash_update local(toggleash_table table, step s) {
+    if (s.kind == 'w')
+        return toggleash_table_withdraw_local(table, s.address, s.length, s.feed);
+    return toggleash_table_announce_local(table, s.address, s.length, s.hop, s.feed, s.preference);
+}
+
+/* Each update by both calls, on a table each: every field and every word is the same. */
+static void locals(void) {
+    static const step steps[] = {
+        {'a', 0x0A010180, 25, 65535, 1, 0}, {'a', 0x0A010180, 25, 65535, 1, 0}, /* three arrays gained, and held already */
+        {'a', 0x0A010180, 25, 2, 1, 0},     {'a', 0x0A010100, 24, 3, 4, 255},   /* another hop, another prefix */
+        {'a', 0x0A010180, 25, 5, 4, 255},   {'a', 0x0A010200, 25, 2, 1, 0},     /* a loser, no room */
+        {'a', 0, 33, 0, 0, 0},              {'a', 0x0A000001, 24, 0, 0, 0},     /* 3, 4 */
+        {'a', 0, 0, 0, 0, 0},               {'a', 0, 0, 65536, 0, 0},           /* 5 */
+        {'a', 0, 0, 1, 0, 0},               {'a', 0, 0, 1, 4000000000u, 255},   /* 10 */
+        {'w', 0, UINT32_MAX, 0, 0, 0},      {'w', 1, 31, 0, 0, 0},              /* 3, 4 */
+        {'w', 0, 0, 0, 5, 0},               {'w', 0, 0, 0, 1, 0},               /* 10, 7 */
+        {'w', 0x0A010200, 25, 0, 1, 0},     {'w', 0x0A010180, 25, 0, 2, 0},     /* 7: no array there, no word of the feed */
+        {'a', 0, 0, 7, 1, 0},               {'w', 0x0A010180, 25, 0, 1, 0},     /* the default route, and a winner goes */
+        {'w', 0x0A010180, 25, 0, 4, 0},     {'w', 0x0A010100, 24, 0, 4, 0},     /* arrays freed */
+        {'w', 0, 0, 0, 1, 0},
+    };
+    toggleash_table whole = TOGGLEASH_TABLE(words), touched = TOGGLEASH_TABLE(others);
+    same("clear both", 0, toggleash_table_clear(whole) + toggleash_table_clear(touched));
+    for (size_t i = 0; i < sizeof steps / sizeof *steps; i++) {
+        toggleash_update u = checked(whole, steps[i]);
+        update("local update", local(touched, steps[i]), u.refusal, u.hop, u.cells);
+        same("words of a local update", 0, (uint64_t)memcmp(words, others, sizeof words));
+    }
+    counts("all withdrawn", toggleash_table_check(touched), 0, 0, 1);
+}
+
+/* A feed by both runs: every field, every reply and every word is the same. */
+static void local_runs(void) {
+    static const uint8_t feed[] = {
+        1, 10, 1, 1, 128, 25, 0, 1,       4, 10, 1, 1, 128, 25, 0, 2, 2, 9, 3, 10, 1, 1, 255, 1, 11, 0, 0, 0, 9, 0, 3, /* 8 */
+        1, 10, 0, 0, 0,   8,  0, 0,       2, 10, 1, 1, 128, 25, 5, 10, 1, 1, 128, 25, 2, 3, 10, 1, 1, 255,
+        1, 11, 0, 0, 0,   9,  0, 3,       0,
+    };
+    toggleash_table whole = TOGGLEASH_TABLE(words), touched = TOGGLEASH_TABLE(others);
+    uint8_t reply[64], replied[64];
+    memset(reply, 0xEE, sizeof reply);
+    memset(replied, 0xEE, sizeof replied);
+    same("clear both", 0, toggleash_table_clear(whole) + toggleash_table_clear(touched));
+    for (size_t room = 0; room < sizeof reply; room += 7) {
+        toggleash_ran r = toggleash_table_run(whole, feed, sizeof feed, reply, room);
+        const uint64_t rest[4] = {r.consumed, r.written, r.accepted, r.refused};
+        ran("local run", toggleash_table_run_local(touched, feed, sizeof feed, replied, room), 0, r.stop, rest);
+        same("replies of a local run", 0, (uint64_t)memcmp(reply, replied, sizeof reply));
+        same("words of a local run", 0, (uint64_t)memcmp(words, others, sizeof words));
+    }
+    static const uint64_t none[4] = {0, 0, 0, 0};
+    ran("local run, null feed", toggleash_run_local(others, ROOM, NULL, 0, NULL, 0), 0, TOGGLEASH_STOP_NO_BYTE, none);
+}
+
+/* No words, a wrong number, and words of which nothing is as in a table: refusals in their order, and no word is changed. */
+static void local_refused(void) {
+    static const uint8_t feed[] = {1, 10, 0, 0, 0, 8, 0, 1, 3, 10, 0, 0, 0, 2, 10, 0, 0, 0, 8, 0};
+    static const uint8_t refused[6] = {19, 2, 19, 2, 19, 2};
+    static const uint64_t zeros[4] = {0, 0, 0, 0}, three[4] = {sizeof feed, 6, 0, 3};
+    uint8_t reply[15];
+    update("announce_local, null", toggleash_announce_local(NULL, 0, 0, 33, 0, 0, 0), TOGGLEASH_WORD_COUNT, 0, 0);
+    update("withdraw_local, null", toggleash_withdraw_local(NULL, 0, 0, 33, 0), TOGGLEASH_WORD_COUNT, 0, 0);
+    ran("run_local, null", toggleash_run_local(NULL, 0, NULL, 0, NULL, 0), TOGGLEASH_WORD_COUNT, 0, zeros);
+    update("announce_local, a word short", toggleash_announce_local(words, ROOM - 1, 0, 33, 0, 0, 0), 1, 0, 0);
+    memset(words, 0xEE, sizeof words);
+    memset(others, 0xEE, sizeof others);
+    update("announce_local, length", toggleash_announce_local(words, ROOM, 1, 33, 0, 0, 0), 3, 0, 0);
+    update("announce_local, stray bit", toggleash_announce_local(words, ROOM, 1, 31, 0, 0, 0), 4, 0, 0);
+    update("announce_local, hop", toggleash_announce_local(words, ROOM, 1, 32, 0, 0, 0), 5, 0, 0);
+    update("announce_local, feed", toggleash_announce_local(words, ROOM, 1, 32, 1, 5, 0), 10, 0, 0);
+    update("announce_local, no table", toggleash_announce_local(words, ROOM, 1, 32, 1, 1, 0), 2, 0, 0);
+    update("withdraw_local, feed", toggleash_withdraw_local(words, ROOM, 1, 32, 0), 10, 0, 0);
+    update("withdraw_local, no table", toggleash_withdraw_local(words, ROOM, 1, 32, 1), 2, 0, 0);
+    ran("run_local, no table", toggleash_run_local(words, ROOM, feed, sizeof feed, reply, sizeof reply), 0, 0, three);
+    same("replies on no table", 0, (uint64_t)memcmp(reply, refused, sizeof refused));
+    same("words of refused calls", 0, (uint64_t)memcmp(words, others, sizeof words));
+}
+
+/* What a damaged word does to an update: its place, the word in its place, the update, and its refusal. */
+typedef struct {
+    size_t at;
+    uint32_t word;
+    step s;
+    uint32_t refusal;
+} damage;
+
+/* 10.0.0.0/9 is in array 2 and 11.0.0.0/9 in array 3; array 4 is free. An update sees what it touches, and the check sees all. */
+static void local_damage(void) {
+    const damage damages[] = {
+        {3 * 3072, 8192 + 11 * 32 + 3, {'a', 0x0B000000, 10, 1, 1, 0}, 2}, /* the tag of the array below names no such level */
+        {3 * 3072, 8192 + 12 * 32 + 2, {'w', 0x0B000000, 9, 0, 1, 0}, 2},  /* no such cell */
+        {3 * 3072, 8192 + 12 * 32 + 2, {'a', 0x0A000000, 10, 1, 1, 0}, 0}, /* which is off this update's path */
+        {3072, 0, {'a', 0, 0, 1, 1, 0}, 2},                                /* the root's tag */
+        {3072 + 2048 + 11, leads(0, 0, 5), {'w', 0x0B000000, 9, 0, 1, 0}, 2}, /* a link past the last array */
+        {3072 + 2048 + 11, leads(9, 0, 3), {'w', 0x0B000000, 9, 0, 1, 0}, 2}, /* a best out of its range beside it */
+        {3072 + 2048 + 12, ends(9, 0, 8), {'a', 0x0C000000, 9, 1, 1, 0}, 2},  /* in the cell that would get a link */
+        {3072 + 2048 + 12, ends(0, 0, 9), {'a', 0x0C000000, 9, 1, 1, 0}, 2},  /* a block out of its range there */
+        {4 * 3072 + 4 + 2299, 1, {'a', 0x0C000000, 9, 1, 1, 0}, 2},           /* a free array that is not blank */
+        {4 * 3072 + 4 + 2299, 1, {'a', 0x0B000000, 10, 1, 1, 0}, 0},          /* which this update does not gain */
+        {0, 4, {'a', 0x0C000000, 9, 1, 1, 0}, 8},                             /* the header knows of no free array */
+        {0, 4, {'w', 0x0A000000, 9, 0, 2, 0}, 7},                             /* and a withdrawal does not ask */
+    };
+    toggleash_table whole = TOGGLEASH_TABLE(words), touched = TOGGLEASH_TABLE(others);
+    same("clear", 0, toggleash_table_clear(whole));
+    same("announce", 0, toggleash_table_announce_local(whole, 0x0A000000, 9, 1, 1, 0).refusal);
+    same("announce", 0, toggleash_table_announce_local(whole, 0x0B000000, 9, 2, 1, 0).refusal);
+    for (size_t i = 0; i < sizeof damages / sizeof *damages; i++) {
+        const damage d = damages[i];
+        const uint32_t was = words[d.at];
+        words[d.at] = d.word;
+        memcpy(others, words, sizeof words);
+        same("the check sees it", 2, toggleash_table_check(touched).refusal);
+        same("and the checked call", 2, checked(touched, d.s).refusal);
+        same("local update of damaged words", d.refusal, local(touched, d.s).refusal);
+        if (d.refusal)
+            same("words of a refused one", 0, (uint64_t)memcmp(words, others, sizeof words));
+        const size_t spared = d.s.address == 0x0A000000 ? 3 : 2; /* an array off the path */
+        same("words off its path", 0, (uint64_t)memcmp(words + 3072 * spared, others + 3072 * spared, 3072 * 4));
+        words[d.at] = was;
+    }
+    counts("mended", toggleash_table_check(whole), 0, 2, 3);
+}
+
 /* Lent memory whose size is not in a type: by arrays, or by the need. */
 static void sizes(void) {
     toggleash_table whole = toggleash_table_at(words, 4);
@@ -433,6 +574,10 @@ int main(void) {
     copies();
     no_copies();
     tables();
+    locals();
+    local_runs();
+    local_refused();
+    local_damage();
     sizes();
     texts();
     return told();

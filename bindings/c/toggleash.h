@@ -47,10 +47,22 @@
  * is lent through a pointer to const is not changed.
  *
  * Threads. Calls on the same words may go on at once only where none of them changes words: check, find, within and
- * write do not, clear, announce, withdraw, run and make do. bindings/c/swap.c looks up beside updates, with two tables.
+ * write do not, clear, announce, withdraw, run, the local calls and make do. bindings/c/swap.c looks up beside updates,
+ * with two tables.
  *
- * Time. A single announcement or withdrawal tests the whole table first, which takes milliseconds at 4,096 arrays. A run
- * tests it once: hand many updates over as one feed, and each takes about a microsecond or less. docs/MEASURED.md.
+ * Which update. announce, withdraw and run test the whole table before they change a word, a run once: they are for words
+ * that come from elsewhere, or that something else may have written to. The test takes milliseconds at 4,096 arrays.
+ * announce_local, withdraw_local and run_local test what they touch, and no more, which takes less than a microsecond an
+ * update however large the table is (docs/MEASURED.md). On a table they answer the same and leave the same words, which are
+ * a table again. So check once, where the words come from elsewhere, and take the local calls from then on; words that were
+ * cleared need no check:
+ *
+ *     if (toggleash_table_check(table).refusal) ..
+ *     toggleash_update done = toggleash_table_announce_local(table, 0x0A000000, 8, 1, 1, 10);
+ *
+ * On words that are no table the local calls are safe too. They refuse with 2 where what they touch is not as in a table;
+ * else they may answer, and change nothing but the arrays on the prefix's path, those gained or freed for it, and the
+ * header. They do not see damage elsewhere: where words may be damaged, check.
  */
 #ifndef TOGGLEASH_H
 #define TOGGLEASH_H
@@ -74,6 +86,8 @@ enum {
                                    sixteen (docs/LAYOUT.md).
                                    Nor does toggleash_within; it gives 2 where its walk meets a link to an array that the
                                    words do not have, or a total over 511 for each array of the words.
+                                   Nor do the local calls; they give 2 where the path to the prefix's array, or an array
+                                   that they would gain, is not as in a table (docs/LAYOUT.md).
                                    From toggleash_copy_need and making a copy: the bytes are not one whole list of a
                                    table, of any room, in records of kind 4 or of kind 1 alone. From a lookup in a copy:
                                    the words are fewer than 1,024, its walk meets a hash table that does not lie inside
@@ -225,7 +239,7 @@ typedef struct {
 
 /* What a run did. */
 typedef struct {
-    uint32_t refusal;  /* 0, 1 or 2 */
+    uint32_t refusal;  /* 0, 1 or 2; from a local run 0 or 1 */
     uint32_t stop;     /* TOGGLEASH_STOP_END .. TOGGLEASH_STOP_REPLY */
     uint64_t consumed; /* feed bytes taken; a record that stops the run is not, the end is */
     uint64_t written;  /* reply bytes written */
@@ -286,6 +300,19 @@ TOGGLEASH_ANSWER toggleash_written toggleash_write_out(const uint32_t *words, si
 TOGGLEASH_ANSWER toggleash_ran toggleash_run(uint32_t *words, size_t n, const uint8_t *feed, size_t feed_len,
                                              uint8_t *reply, size_t reply_len);
 
+/* As toggleash_announce and toggleash_withdraw, testing what they touch and no more (Which update, above): on a table the
+ * answer and the words are the same. Refuse with 1, 3, 4, 5 or 10 as those do, then with 2 where what they touch is not as in
+ * a table, then with 7 or 8. */
+TOGGLEASH_ANSWER toggleash_update toggleash_announce_local(uint32_t *words, size_t n, uint32_t address, uint32_t length,
+                                                           uint32_t hop, uint32_t feed, uint8_t preference);
+TOGGLEASH_ANSWER toggleash_update toggleash_withdraw_local(uint32_t *words, size_t n, uint32_t address, uint32_t length,
+                                                           uint32_t feed);
+
+/* As toggleash_run, without its test: each record is answered as by its local call, or as by toggleash_lookup, and one that
+ * is refused with 2 is replied to as any other refused one. Refuses with 1, before any record. */
+TOGGLEASH_ANSWER toggleash_ran toggleash_run_local(uint32_t *words, size_t n, const uint8_t *feed, size_t feed_len,
+                                                   uint8_t *reply, size_t reply_len);
+
 /* Counts the words that a copy of a written-out list's winners needs. Refuses with 2 exactly where the bytes, all of them, are
  * not what toggleash_write_out writes for some table: records of candidates in order, the end, nothing after it. A list of
  * kind 1 records, one for each prefix, is taken too; one of both kinds is not. 0 bytes, which may be null, are no list; the
@@ -316,6 +343,13 @@ TOGGLEASH_ANSWER toggleash_update toggleash_v6_withdraw(uint32_t *words, size_t 
 TOGGLEASH_ANSWER toggleash_written toggleash_v6_write_out(const uint32_t *words, size_t n, uint8_t *buffer, size_t room);
 TOGGLEASH_ANSWER toggleash_ran toggleash_v6_run(uint32_t *words, size_t n, const uint8_t *feed, size_t feed_len,
                                                 uint8_t *reply, size_t reply_len);
+TOGGLEASH_ANSWER toggleash_update toggleash_v6_announce_local(uint32_t *words, size_t n, toggleash_ipv6 address,
+                                                              uint32_t length, uint32_t hop, uint32_t feed,
+                                                              uint8_t preference);
+TOGGLEASH_ANSWER toggleash_update toggleash_v6_withdraw_local(uint32_t *words, size_t n, toggleash_ipv6 address,
+                                                              uint32_t length, uint32_t feed);
+TOGGLEASH_ANSWER toggleash_ran toggleash_v6_run_local(uint32_t *words, size_t n, const uint8_t *feed, size_t feed_len,
+                                                      uint8_t *reply, size_t reply_len);
 
 /* ---- Tables and copies */
 
@@ -433,6 +467,23 @@ TOGGLEASH_ANSWER static inline toggleash_ran toggleash_table_run(toggleash_table
     return toggleash_run(table.words, table.n, feed, feed_len, reply, reply_len);
 }
 
+TOGGLEASH_ANSWER static inline toggleash_update toggleash_table_announce_local(toggleash_table table, uint32_t address,
+                                                                               uint32_t length, uint32_t hop,
+                                                                               uint32_t feed, uint8_t preference) {
+    return toggleash_announce_local(table.words, table.n, address, length, hop, feed, preference);
+}
+
+TOGGLEASH_ANSWER static inline toggleash_update toggleash_table_withdraw_local(toggleash_table table, uint32_t address,
+                                                                               uint32_t length, uint32_t feed) {
+    return toggleash_withdraw_local(table.words, table.n, address, length, feed);
+}
+
+TOGGLEASH_ANSWER static inline toggleash_ran toggleash_table_run_local(toggleash_table table, const uint8_t *feed,
+                                                                       size_t feed_len, uint8_t *reply,
+                                                                       size_t reply_len) {
+    return toggleash_run_local(table.words, table.n, feed, feed_len, reply, reply_len);
+}
+
 TOGGLEASH_ANSWER static inline uint32_t toggleash_v6_table_clear(toggleash_v6_table table) {
     return toggleash_v6_clear(table.words, table.n);
 }
@@ -471,6 +522,25 @@ TOGGLEASH_ANSWER static inline toggleash_written toggleash_v6_table_write(toggle
 TOGGLEASH_ANSWER static inline toggleash_ran toggleash_v6_table_run(toggleash_v6_table table, const uint8_t *feed,
                                                                     size_t feed_len, uint8_t *reply, size_t reply_len) {
     return toggleash_v6_run(table.words, table.n, feed, feed_len, reply, reply_len);
+}
+
+TOGGLEASH_ANSWER static inline toggleash_update toggleash_v6_table_announce_local(toggleash_v6_table table,
+                                                                                  toggleash_ipv6 address,
+                                                                                  uint32_t length, uint32_t hop,
+                                                                                  uint32_t feed, uint8_t preference) {
+    return toggleash_v6_announce_local(table.words, table.n, address, length, hop, feed, preference);
+}
+
+TOGGLEASH_ANSWER static inline toggleash_update toggleash_v6_table_withdraw_local(toggleash_v6_table table,
+                                                                                  toggleash_ipv6 address,
+                                                                                  uint32_t length, uint32_t feed) {
+    return toggleash_v6_withdraw_local(table.words, table.n, address, length, feed);
+}
+
+TOGGLEASH_ANSWER static inline toggleash_ran toggleash_v6_table_run_local(toggleash_v6_table table, const uint8_t *feed,
+                                                                          size_t feed_len, uint8_t *reply,
+                                                                          size_t reply_len) {
+    return toggleash_v6_run_local(table.words, table.n, feed, feed_len, reply, reply_len);
 }
 
 TOGGLEASH_ANSWER static inline toggleash_built toggleash_copy_make(toggleash_copy copy, const uint8_t *bytes,

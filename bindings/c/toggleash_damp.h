@@ -20,7 +20,12 @@
  * Words. A front is 1,024 words of its own beside the table's. Updates that are to be calmed go through both; lookups, checks and
  * lists are of the table alone, which the front's calls change only as announcements and withdrawals do. Each call tests both runs
  * of words, and refuses with 2 where one is not what it should be; a refused call has changed neither. What toggleash.h says of
- * pointers and threads holds for the front too; the two must not overlap. */
+ * pointers and threads holds for the front too; the two must not overlap.
+ *
+ * Tests. Testing a whole table takes milliseconds. The calls that end in _local test the front's words, and of the table's only
+ * what they touch themselves; before a table they answer and leave the same words. Check both once where the words come from
+ * elsewhere, and use the local calls from then on: every call here, and in toggleash.h, leaves a front a front and a table a
+ * table. On any other words they stay inside them too, and a refused one has changed neither. */
 #ifndef TOGGLEASH_DAMP_H
 #define TOGGLEASH_DAMP_H
 
@@ -84,6 +89,19 @@ TOGGLEASH_ANSWER toggleash_front toggleash_damp_tick(uint32_t *front, size_t m, 
 TOGGLEASH_ANSWER toggleash_ran toggleash_damp_run(uint32_t *front, size_t m, uint32_t *words, size_t n, const uint8_t *feed,
                                                   size_t feed_len, uint8_t *reply, size_t reply_len);
 
+/* The same, testing the front's words, and of the table's only what they touch. Of a candidate that is held back the table's words
+ * are not even read. Refuses with the first of 1, 3, 4, 5, 10, then 2 for words that are no front, then 2, 7 or 8 as
+ * toggleash_announce_local and toggleash_withdraw_local do. At a tick a refused announcement, by 2 too, is kept and tried again. */
+TOGGLEASH_ANSWER toggleash_update toggleash_damp_announce_local(uint32_t *front, size_t m, uint32_t *words, size_t n,
+                                                                uint32_t address, uint32_t length, uint32_t hop,
+                                                                uint32_t feed, uint8_t preference);
+TOGGLEASH_ANSWER toggleash_update toggleash_damp_withdraw_local(uint32_t *front, size_t m, uint32_t *words, size_t n,
+                                                                uint32_t address, uint32_t length, uint32_t feed);
+TOGGLEASH_ANSWER toggleash_front toggleash_damp_tick_local(uint32_t *front, size_t m, uint32_t *words, size_t n);
+TOGGLEASH_ANSWER toggleash_ran toggleash_damp_run_local(uint32_t *front, size_t m, uint32_t *words, size_t n,
+                                                        const uint8_t *feed, size_t feed_len, uint8_t *reply,
+                                                        size_t reply_len);
+
 /* ---- Fronts */
 
 /* Words that are a front, or are to become one by toggleash_damper_clear, and their number. Neither a table nor a copy can be
@@ -145,6 +163,31 @@ TOGGLEASH_ANSWER static inline toggleash_ran toggleash_damper_run(toggleash_damp
                                                                   const uint8_t *feed, size_t feed_len, uint8_t *reply,
                                                                   size_t reply_len) {
     return toggleash_damp_run(damper.words, damper.n, table.words, table.n, feed, feed_len, reply, reply_len);
+}
+
+TOGGLEASH_ANSWER static inline toggleash_update toggleash_damper_announce_local(toggleash_damper damper,
+                                                                                toggleash_table table, uint32_t address,
+                                                                                uint32_t length, uint32_t hop,
+                                                                                uint32_t feed, uint8_t preference) {
+    return toggleash_damp_announce_local(damper.words, damper.n, table.words, table.n, address, length, hop, feed,
+                                         preference);
+}
+
+TOGGLEASH_ANSWER static inline toggleash_update toggleash_damper_withdraw_local(toggleash_damper damper,
+                                                                                toggleash_table table, uint32_t address,
+                                                                                uint32_t length, uint32_t feed) {
+    return toggleash_damp_withdraw_local(damper.words, damper.n, table.words, table.n, address, length, feed);
+}
+
+TOGGLEASH_ANSWER static inline toggleash_front toggleash_damper_tick_local(toggleash_damper damper,
+                                                                           toggleash_table table) {
+    return toggleash_damp_tick_local(damper.words, damper.n, table.words, table.n);
+}
+
+TOGGLEASH_ANSWER static inline toggleash_ran toggleash_damper_run_local(toggleash_damper damper, toggleash_table table,
+                                                                        const uint8_t *feed, size_t feed_len,
+                                                                        uint8_t *reply, size_t reply_len) {
+    return toggleash_damp_run_local(damper.words, damper.n, table.words, table.n, feed, feed_len, reply, reply_len);
 }
 
 /* What a refusal says, for a log. Never null. */

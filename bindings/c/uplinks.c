@@ -31,15 +31,15 @@ int main(void) {
     toggleash_table table = TOGGLEASH_TABLE(words);
     uint32_t refusal = toggleash_table_clear(table);
     if (!refusal) /* 192.0.2.0/24 is on the link itself */
-        refusal = toggleash_table_announce(table, 0xC0000200, 24, HOP_LINK, 1, 0).refusal;
+        refusal = toggleash_table_announce_local(table, 0xC0000200, 24, HOP_LINK, 1, 0).refusal;
     if (!refusal)
-        refusal = toggleash_table_announce(table, 0, 0, HOP_A, 1, 10).refusal;
+        refusal = toggleash_table_announce_local(table, 0, 0, HOP_A, 1, 10).refusal;
     if (!refusal)
-        refusal = toggleash_table_announce(table, 0, 0, HOP_B, 2, 20).refusal;
+        refusal = toggleash_table_announce_local(table, 0, 0, HOP_B, 2, 20).refusal;
     if (!refusal)
         refusal = show(table);
     if (!refusal)
-        refusal = toggleash_table_withdraw(table, 0, 0, 1).refusal; /* provider A is gone */
+        refusal = toggleash_table_withdraw_local(table, 0, 0, 1).refusal; /* provider A is gone */
     if (!refusal)
         refusal = show(table);
     if (refusal)

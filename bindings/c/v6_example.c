@@ -12,12 +12,12 @@ int main(void) {
     toggleash_v6_table table = TOGGLEASH_V6_TABLE(words);
     uint32_t refusal = toggleash_v6_table_clear(table);
     if (!refusal) {
-        toggleash_update done = toggleash_v6_table_announce(table, network, 32, 1, 1, 10); /* feed 1, preference 10 */
+        toggleash_update done = toggleash_v6_table_announce_local(table, network, 32, 1, 1, 10); /* feed 1, preference 10 */
         printf("2001:db8::/32 via %u takes %u cell\n", done.hop, done.cells);
         refusal = done.refusal;
     }
     if (!refusal)
-        refusal = toggleash_v6_table_announce(table, address, 128, 2, 1, 10).refusal;
+        refusal = toggleash_v6_table_announce_local(table, address, 128, 2, 1, 10).refusal;
     if (!refusal) {
         toggleash_answer found = toggleash_v6_table_find(table, address);
         printf("2001:db8::1 goes via %u, length %u, as all that share its first %u bits\n", found.hop, found.length,

@@ -6,7 +6,7 @@
 #define ROOM TOGGLEASH_WORDS(16)
 #define FEW TOGGLEASH_WORDS(4)
 
-static uint32_t words[ROOM];
+static uint32_t words[ROOM], others[ROOM]; /* the others for local calls, beside those that test the whole table */
 static const toggleash_ipv6 zero = {{0}};
 
 /* An address in four groups of 32 bits. */
@@ -65,7 +65,7 @@ static const worked cases[] = {
      "06 20000000000000000000000000000000 03 0007 03 00  06 20010000000000000000000000000000 10 0005 02 01  00"},
 };
 
-/* Each feed, and its list as a feed that gives the same list. */
+/* Each feed, by both runs, and its list as a feed that gives the same list. */
 static void worked_feeds(void) {
     for (size_t i = 0; i < sizeof cases / sizeof *cases; i++) {
         const worked c = cases[i];
@@ -76,6 +76,11 @@ static void worked_feeds(void) {
         same(c.name, 0, toggleash_v6_table_clear(table));
         ran(c.name, toggleash_v6_table_run(table, feed, sent, reply, sizeof reply), 0, TOGGLEASH_STOP_END, rest);
         same(c.name, 0, (uint64_t)memcmp(reply, replies, replied));
+        toggleash_v6_table touched = toggleash_v6_table_at(others, c.arrays);
+        same(c.name, 0, toggleash_v6_table_clear(touched));
+        ran(c.name, toggleash_v6_table_run_local(touched, feed, sent, reply, sizeof reply), 0, TOGGLEASH_STOP_END, rest);
+        same(c.name, 0, (uint64_t)memcmp(reply, replies, replied));
+        same(c.name, 0, (uint64_t)memcmp(words, others, table.n * sizeof *words));
         counts(c.name, toggleash_v6_table_check(table), 0, c.routes, c.needed);
         written(c.name, toggleash_v6_table_write(table, buffer, left - 1), TOGGLEASH_BUFFER_SHORT, 0);
         for (unsigned twice = 0; twice < 2; twice++) {
@@ -200,6 +205,8 @@ static void refused(void) {
         const no_prefix p = none[i];
         update("announce no prefix", toggleash_v6_table_announce(table, p.address, p.length, 0, 0, 0), p.refusal, 0, 0);
         update("withdraw no prefix", toggleash_v6_table_withdraw(table, p.address, p.length, 0), p.refusal, 0, 0);
+        update("announce no prefix", toggleash_v6_table_announce_local(table, p.address, p.length, 0, 0, 0), p.refusal, 0, 0);
+        update("withdraw no prefix", toggleash_v6_table_withdraw_local(table, p.address, p.length, 0), p.refusal, 0, 0);
         total("within no prefix", toggleash_v6_table_within(table, p.address, p.length), p.refusal, 0);
     }
     const toggleash_ipv6 last = six(0, 0, 0, 1);
@@ -209,6 +216,10 @@ static void refused(void) {
     update("feed", toggleash_v6_table_withdraw(table, last, 128, 4000000000u), TOGGLEASH_FEED_OUT_OF_RANGE, 0, 0);
     update("no table", toggleash_v6_table_announce(table, last, 128, 1, 1, 0), TOGGLEASH_NOT_A_TABLE, 0, 0);
     update("no table", toggleash_v6_table_withdraw(table, last, 128, 1), TOGGLEASH_NOT_A_TABLE, 0, 0);
+    update("hop, local", toggleash_v6_table_announce_local(table, last, 128, 65536, 5, 0), TOGGLEASH_HOP_OUT_OF_RANGE, 0, 0);
+    update("feed, local", toggleash_v6_table_withdraw_local(table, last, 128, 5), TOGGLEASH_FEED_OUT_OF_RANGE, 0, 0);
+    update("no table, local", toggleash_v6_table_announce_local(table, last, 128, 1, 1, 0), TOGGLEASH_NOT_A_TABLE, 0, 0);
+    update("no table, local", toggleash_v6_table_withdraw_local(table, last, 128, 1), TOGGLEASH_NOT_A_TABLE, 0, 0);
     uint64_t changed = 0;
     for (size_t i = 0; i < ROOM; i++)
         changed += words[i] != 0xEEEEEEEE;
@@ -262,6 +273,53 @@ static void foreign(void) {
     total("a link past the last array", toggleash_v6_within(words, FEW, zero, 9), TOGGLEASH_NOT_A_TABLE, 0);
 }
 
+/* A path of sixteen arrays gained at once, and freed at once, by both calls: every field and every word is the same. */
+static void locals(void) {
+    const toggleash_ipv6 path = six(0x01020304, 0x05060708, 0x090A0B0C, 0x0D0E0F10), beside = six(0x01020304, 0x80000000, 0, 0);
+    toggleash_v6_table whole = TOGGLEASH_V6_TABLE(words), touched = TOGGLEASH_V6_TABLE(others);
+    same("clear both", 0, toggleash_v6_table_clear(whole) + toggleash_v6_table_clear(touched));
+    for (uint32_t i = 0; i < 9; i++) {
+        const uint32_t length = i < 6 ? 128 : 33, hop = i % 3 < 2 ? 7 : 65535, feed = 1 + i % 3;
+        const toggleash_ipv6 a = i < 6 ? path : beside;
+        toggleash_update u = toggleash_v6_table_announce(whole, a, length, hop, feed, (uint8_t)i);
+        update("local announce", toggleash_v6_table_announce_local(touched, a, length, hop, feed, (uint8_t)i), u.refusal, u.hop,
+               u.cells);
+        same("words of a local announce", 0, (uint64_t)memcmp(words, others, sizeof words));
+    }
+    same("full", TOGGLEASH_NO_ROOM, toggleash_v6_announce_local(others, ROOM, six(0x02000000, 0, 0, 0), 9, 1, 1, 0).refusal);
+    for (uint32_t i = 0; i < 8; i++) {
+        const uint32_t length = i < 4 ? 33 : 128, feed = 1 + i % 4;
+        const toggleash_ipv6 a = i < 4 ? beside : path;
+        toggleash_update u = toggleash_v6_table_withdraw(whole, a, length, feed);
+        update("local withdraw", toggleash_v6_table_withdraw_local(touched, a, length, feed), u.refusal, u.hop, u.cells);
+        same("words of a local withdraw", 0, (uint64_t)memcmp(words, others, sizeof words));
+    }
+    counts("all withdrawn", toggleash_v6_table_check(touched), 0, 0, 1);
+}
+
+/* A tag of level 9 on the way is wrong: an update below it sees that, one beside it does not and leaves it, and the check does. */
+static void local_damage(void) {
+    const toggleash_ipv6 path = six(0x01020304, 0x05060708, 0x090A0B0C, 0x0D0E0F10);
+    const uint64_t zeros[4] = {0, 0, 0, 0};
+    toggleash_v6_table table = TOGGLEASH_V6_TABLE(words);
+    uint32_t *tag = words + 10 * 3072; /* a cleared table gives its arrays out in order */
+    same("clear", 0, toggleash_v6_table_clear(table));
+    update("sixteen arrays", toggleash_v6_table_announce_local(table, path, 128, 1, 1, 0), 0, 1, 1);
+    same("its tag", 9 * 8192 + 0x09 * 32 + 9 + 1, *tag);
+    *tag += 32;
+    memcpy(others, words, sizeof words);
+    update("below it", toggleash_v6_table_withdraw_local(table, path, 128, 1), TOGGLEASH_NOT_A_TABLE, 0, 0);
+    update("below it", toggleash_v6_table_announce_local(table, path, 128, 2, 1, 0), TOGGLEASH_NOT_A_TABLE, 0, 0);
+    same("words of a refused call", 0, (uint64_t)memcmp(words, others, sizeof words));
+    update("above it", toggleash_v6_table_announce(table, six(0x01020304, 0x05060708, 0, 0), 64, 2, 1, 0), 2, 0, 0);
+    update("above it", toggleash_v6_table_announce_local(table, six(0x01020304, 0x05060708, 0, 0), 64, 2, 1, 0), 0, 2, 1);
+    same("words below", 0, (uint64_t)memcmp(words + 9 * 3072, others + 9 * 3072, 8 * 3072 * 4));
+    counts("the check", toggleash_v6_table_check(table), TOGGLEASH_NOT_A_TABLE, 0, 0);
+    update("announce_local, null", toggleash_v6_announce_local(NULL, 0, path, 129, 0, 0, 0), TOGGLEASH_WORD_COUNT, 0, 0);
+    update("withdraw_local, null", toggleash_v6_withdraw_local(NULL, 0, path, 129, 0), TOGGLEASH_WORD_COUNT, 0, 0);
+    ran("run_local, null", toggleash_v6_run_local(NULL, 0, NULL, 0, NULL, 0), TOGGLEASH_WORD_COUNT, 0, zeros);
+}
+
 /* An IPv4 table is an IPv6 table too; a path of five arrays is deeper than an IPv4 table goes. */
 static void depth(void) {
     toggleash_v6_table table = toggleash_v6_table_at(words, 5);
@@ -289,6 +347,8 @@ int main(void) {
     refused();
     nothing();
     foreign();
+    locals();
+    local_damage();
     depth();
     return told();
 }

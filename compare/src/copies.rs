@@ -23,7 +23,8 @@ pub fn list(random: &mut Random, prefixes: usize, tally: &mut Tally) -> Same {
     let side = random.pick(&[Side::Front, Side::Back]);
     let arrays = (list.winners().need() + random.below(3)).min(MOST_ARRAYS);
     let words = Lent::copy_of(&scattered(random, &list, arrays), side);
-    let table = Pair { memory: Memory::new(words.len(), Some(list.clone())), words };
+    let memory = Memory::new(words.len(), Some(list.clone()));
+    let table = Pair::new(words, memory);
     table.write_out(list.encoded_size(), side)?;
     let bytes = Lent::copy_of(&any_encoding(random, &list), side);
     let Some(need) = need(&bytes, tally)? else { return Err("a written-out list is refused".into()) };

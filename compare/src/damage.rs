@@ -5,7 +5,7 @@ use std::collections::VecDeque;
 use reference::layout::{self, cells, fill_totals, tag_below, unused, winners, word, Arrays, Cell, End};
 use reference::layout::{CELLS, HOPS, LINKS, SLOT, TOTALS, UNUSED};
 use reference::memory::ARRAY_WORDS;
-use reference::{Address, CandidateList, Prefix};
+use reference::{Address, Candidate, CandidateList, Prefix};
 
 use crate::family::Family;
 use crate::feeds::{preference, Mood, Source, Terrain};
@@ -67,7 +67,7 @@ pub fn size<A: Family>(random: &mut Random, count: usize, tally: &mut Counts) ->
     every_call(random, (&terrain, &CandidateList::default()), (&words, &words), &[], tally)
 }
 
-fn border(random: &mut Random) -> u32 {
+pub fn border(random: &mut Random) -> u32 {
     match random.below(10) {
         0..=5 => random.pick(&BORDERS),
         6 | 7 => random.pick(&CELL_BORDERS),
@@ -76,7 +76,8 @@ fn border(random: &mut Random) -> u32 {
 }
 
 /// The calls that change no word first, on words that cannot be written, then updates in a row, a run and clearing. Beside the
-/// words stand those that they were before any damage; the prefixes are counted inside, and their first addresses looked up, too.
+/// words stand those that they were before any damage; the prefixes are counted inside, their first addresses looked up, and they are
+/// announced and withdrawn, too.
 fn every_call<A: Family>(
     random: &mut Random,
     (terrain, list): (&Terrain<A>, &CandidateList<A>),
@@ -107,7 +108,11 @@ fn every_call<A: Family>(
         crate::rooms::update(&mut pair, record, |number| number)?;
         pair.stands()?;
     }
-    tally.updates += updates.len() as u64;
+    for &prefix in besides {
+        pair.announce(Candidate { prefix, feed: 4, preference: 1, hop: 1 })?;
+        pair.withdraw(prefix, 4)?;
+    }
+    tally.updates += (updates.len() + 2 * besides.len()) as u64;
     tally.records += Pair::<A>::seen(words, side).run(&feed, random.below(70), side)?;
     tally.feeds += 1;
     Pair::<A>::seen(words, side).clear()
@@ -139,16 +144,16 @@ fn every_cell<A: Family>(random: &mut Random, words: &[u32], whole: &[u32]) -> V
     addresses
 }
 
-/// What can be planted in an array: something in a cell, or a total, that no table has.
-const PLANTS: u64 = 4;
+/// What can be planted in an array: something in a cell, a total or a tag that no table has.
+const PLANTS: u64 = 6;
 
 /// The number of cases of `depth` for a family: each of these on each level.
 pub const fn depths(levels: u32) -> u64 {
     PLANTS * levels as u64
 }
 
-/// A table with a way to one address, and on a chosen level of that way something that no table has: a length, a block or a
-/// link at the way's cell, or a total.
+/// A table with a way to one address, and on a chosen level of that way something that no table has: at the way's cell a length
+/// beside a link or without one, a block or a link; a total, or the tag of the array below.
 pub fn depth<A: Family>(random: &mut Random, case: u64, tally: &mut Counts) -> Same {
     let (level, plant) = ((case / PLANTS) as u32 % A::LEVELS, case % PLANTS);
     let arrays = A::LEVELS as usize + random.below(9);
@@ -162,8 +167,9 @@ pub fn depth<A: Family>(random: &mut Random, case: u64, tally: &mut Counts) -> S
     let list = rivalled(random, &growing.list());
     let whole = scattered(random, &list, arrays);
     let mut words = whole.clone();
-    let on_the_way = Arrays::new(&whole).and_then(|all| array_on(&all, way.address, level));
-    let page = ARRAY_WORDS * on_the_way.expect("the way is held");
+    let on_the_way =
+        |level| Arrays::new(&whole).and_then(|all| array_on(&all, way.address, level)).expect("the way is held");
+    let page = ARRAY_WORDS * on_the_way(level);
     let at = page + CELLS + way.address.byte(level);
     let cell = Cell::of(words[at]);
     let no_array = (arrays as u32 + 1).min(LINKS);
@@ -171,6 +177,10 @@ pub fn depth<A: Family>(random: &mut Random, case: u64, tally: &mut Counts) -> S
         0 => words[at] = Cell { length: random.within(9..=14) as u32, ..cell }.word(),
         1 => words[at] = Cell { end: End::Block(random.within(9..=15) as u32), ..cell }.word(),
         2 => words[at] = Cell { end: End::Link(no_array), ..cell }.word(),
+        3 => words[at] = Cell { length: random.within(9..=255) as u32, end: End::Block(0), ..cell }.word(),
+        4 if level + 1 < A::LEVELS => {
+            words[ARRAY_WORDS * on_the_way(level + 1)] ^= random.pick(&[1, 31, 32, 1 << 13, 1 << 31])
+        }
         _ => words[page + TOTALS + 256 + way.address.byte(level)] = 511 * arrays as u32 + 1,
     }
     let inside = Prefix::around(way.address, 8 * level + 8);

@@ -1,5 +1,6 @@
 //! Fronts before tables: direct calls, runs with ticks, the check and clearing, by the library and by the reference, under guard.
-//! Both memories are compared after each call, word for word the front's, by what they stand for the table's.
+//! Both memories are compared after each call, word for word the front's, by what they stand for the table's. Each call is made on a
+//! copy of both too, by the one that tests only what it touches.
 
 use reference::feed::{Answer, Record};
 use reference::front::{self, held, lay, Damped, Held, Place, Places, Told, FRONT_WORDS, MOST_PLACES, RELEASE_BELOW};
@@ -20,7 +21,7 @@ use crate::tally::Tally;
 const FRONTS: u64 = 900;
 const DAMAGED: u64 = 2_500;
 /// What reply bytes hold before a run.
-const UNTOUCHED: u8 = 0xA5;
+pub const UNTOUCHED: u8 = 0xA5;
 
 /// What can happen to a candidate, each of which must be met.
 #[derive(Clone, Copy)]
@@ -57,17 +58,20 @@ pub struct Damps {
     refusals: [u64; 11],
     foreign: [u64; 2],
     stops: [u64; 5],
+    /// Local updates on words that are no table: answered by the front alone, done by the table, refused by it.
+    others: [u64; 3],
 }
 
 impl Damps {
     /// Prints what was met. An answer that never was the right one has shown nothing: gives how many differences that makes.
     fn told(&self) -> u64 {
-        let Damps { fronts, damaged, updates, feeds, records, ticks, events, refusals, foreign, stops } = self;
+        let Damps { fronts, damaged, updates, feeds, records, ticks, events, refusals, foreign, stops, others } = self;
         println!("{fronts} fronts and {damaged} damaged ones or tables, {updates} direct updates and ticks, {records} records and");
         println!("{ticks} ticks in {feeds} feeds; {EVENTS} {events:?} times;");
         let refusals = [1, 2, 3, 4, 5, 7, 8, 10].map(|number| refusals[number]);
         println!("refusals 1, 2, 3, 4, 5, 7, 8, 10 {refusals:?} times, 2 for the table and for the front {foreign:?}, stops {stops:?}");
-        let missing = [&events[..], &refusals, foreign, stops].concat().contains(&0);
+        println!("local updates on words that are no table by the front alone, done and refused by the table {others:?} times");
+        let missing = [&events[..], &refusals, foreign, stops, others].concat().contains(&0);
         if missing {
             println!("difference: one of them was never met");
         }
@@ -104,6 +108,11 @@ impl Damps {
         }
     }
 
+    /// A local update on words that are no table, by whether it was passed on to them, and done.
+    pub fn other(&mut self, passed: bool, done: bool) {
+        self.others[usize::from(passed) + usize::from(passed && !done)] += 1;
+    }
+
     fn refused(&mut self, both: &Damped, number: u8) {
         self.refusals[usize::from(number)] += 1;
         if number == 2 {
@@ -130,10 +139,10 @@ pub fn compare(random: impl Fn(&'static str, u64) -> Random, times: u64, tally: 
 }
 
 /// The lent words of a front and of a table, and what they must stand for.
-struct Both {
-    front: Lent<u32>,
-    words: Lent<u32>,
-    is: Damped,
+pub struct Both {
+    pub front: Lent<u32>,
+    pub words: Lent<u32>,
+    pub is: Damped,
 }
 
 impl Both {
@@ -153,7 +162,7 @@ impl Both {
         unused_left(what, words, &self.words)
     }
 
-    fn before(&self) -> (Vec<u32>, Vec<u32>) {
+    pub fn before(&self) -> (Vec<u32>, Vec<u32>) {
         (self.front.to_vec(), self.words.to_vec())
     }
 
@@ -164,8 +173,8 @@ impl Both {
         same(|| "check of a front".into(), told, plain(expected))
     }
 
-    fn update(&mut self, record: Record<u32>, seen: &mut Damps) -> Same {
-        let (front, words) = self.before();
+    fn update(&mut self, record: Record<u32>, side: Side, seen: &mut Damps) -> Same {
+        let ((front, words), twin) = (self.before(), self.twin(side));
         let what = || format!("{record:?} through a front");
         let known = self.known(record);
         begin_call("an update through a front");
@@ -187,7 +196,8 @@ impl Both {
         let expected = expected.map(|update| (update.hop, update.cells)).map_err(Refusal::number);
         let _ = expected.inspect_err(|&number| seen.refused(&self.is, number));
         same(what, told, expected)?;
-        self.after(what, (&front, &words), told.is_err())
+        self.after(what, (&front, &words), told.is_err())?;
+        twin.update_local(record, (told, self), seen)
     }
 
     /// What the front knows of a record's candidate, and whether all places are taken.
@@ -202,8 +212,8 @@ impl Both {
         (place, places.len() == MOST_PLACES)
     }
 
-    fn tick(&mut self, seen: &mut Damps) -> Same {
-        let ((front, words), places) = (self.before(), self.is.places.clone());
+    fn tick(&mut self, side: Side, seen: &mut Damps) -> Same {
+        let ((front, words), twin, places) = (self.before(), self.twin(side), self.is.places.clone());
         begin_call("a tick");
         let told = library(damp::tick(&mut self.front, &mut self.words)).map(|held| (held.places, held.held_back));
         let expected = plain(self.is.tick());
@@ -214,12 +224,13 @@ impl Both {
             _ => (),
         }
         same(|| "a tick".into(), told, expected)?;
-        self.after(|| "a tick".into(), (&front, &words), told.is_err())
+        self.after(|| "a tick".into(), (&front, &words), told.is_err())?;
+        twin.tick_local(told, self)
     }
 
     fn run(&mut self, feed: &[u8], room: usize, side: Side, seen: &mut Damps) -> Same {
         let what = || format!("run of {} bytes through a front with {room} for replies", feed.len());
-        let (front, words) = self.before();
+        let ((front, words), twin) = (self.before(), self.twin(side));
         let mut expected = vec![UNTOUCHED; room];
         let mut replies = Lent::copy_of(&expected, side);
         begin_call("a run through a front");
@@ -241,7 +252,8 @@ impl Both {
         let ran = ran.map(|ran| (ran.stop as u8, ran.consumed, ran.written, ran.accepted, ran.refused));
         same(what, told, ran.map_err(Refusal::number))?;
         left(|| format!("replies of {}", what()), &expected, &replies)?;
-        self.after(what, (&front, &words), told.is_err())
+        self.after(what, (&front, &words), told.is_err())?;
+        twin.run_local(feed, side, (told, &expected), self)
     }
 
     fn clear(&mut self) -> Same {
@@ -254,7 +266,7 @@ impl Both {
     }
 }
 
-fn plain(held: Result<Held, Refusal>) -> Result<(u32, u32), u8> {
+pub fn plain(held: Result<Held, Refusal>) -> Result<(u32, u32), u8> {
     held.map(|held| (held.places, held.held_back)).map_err(Refusal::number)
 }
 
@@ -281,8 +293,8 @@ fn whole(random: &mut Random, seen: &mut Damps) -> Same {
     }
     for _ in 0..40 {
         match flock.record(random) {
-            Some(record) => both.update(record, seen)?,
-            None => both.tick(seen)?,
+            Some(record) => both.update(record, side, seen)?,
+            None => both.tick(side, seen)?,
         }
         both.check()?;
     }
@@ -300,10 +312,10 @@ fn damaged(random: &mut Random, seen: &mut Damps) -> Same {
     let (flock, places, mut words) = any(random);
     seen.damaged += 1;
     let mut front = lay(&places);
-    match random.below(8) {
+    match random.below(10) {
         0..=4 => front = hardly(random, &places),
         5 => front = vec![random.pick(&[0, 0, 7]); random.pick(&flapping::SIZES)],
-        6 => (0..random.within(1..=3)).for_each(|_| damage(random, &mut words)),
+        6..=8 => (0..random.within(1..=3)).for_each(|_| damage(random, &mut words)),
         _ => words = vec![1; random.pick(&SIZES[..13])],
     }
     if random.chance(10) {
@@ -314,11 +326,11 @@ fn damaged(random: &mut Random, seen: &mut Damps) -> Same {
     both.check()?;
     for _ in 0..4 {
         match flock.record(random) {
-            Some(record) => both.update(record, seen)?,
-            None => both.tick(seen)?,
+            Some(record) => both.update(record, side, seen)?,
+            None => both.tick(side, seen)?,
         }
     }
-    both.tick(seen)?;
+    both.tick(side, seen)?;
     let feed = flock.feed(random, 8);
     both.run(&feed, random.below(60), side, seen)?;
     both.clear()
@@ -343,6 +355,14 @@ fn far() -> Same {
         same(what, update, Update { refusal: 3, ..Update::default() })?;
         let ran = unsafe { ffi::toggleash_damp_run(none, count, none, count, none.cast(), 0, reply, 0) };
         same(what, ran, Ran { refusal: 1, ..Ran::default() })?;
+        let tick = unsafe { ffi::toggleash_damp_tick_local(f, FRONT_WORDS, none, count) };
+        same(what, tick, Front { refusal: 1, ..Front::default() })?;
+        let update = unsafe { ffi::toggleash_damp_withdraw_local(none, count, w, 6_144, 0, 8, 1) };
+        same(what, update, Update { refusal: 2, ..Update::default() })?;
+        let update = unsafe { ffi::toggleash_damp_announce_local(none, count, w, 6_144, 1, 33, 0, 9, 0) };
+        same(what, update, Update { refusal: 3, ..Update::default() })?;
+        let ran = unsafe { ffi::toggleash_damp_run_local(none, count, w, 6_144, none.cast(), 0, reply, 0) };
+        same(what, ran, Ran { refusal: 2, ..Ran::default() })?;
     }
     Ok(())
 }

@@ -4,8 +4,9 @@
 use std::ptr::{null, null_mut};
 
 use reference::feed::{kind_of, Role};
-use toggleash::ffi::{self, Answer, Built, Counts, Ipv6, Match, Needed, Ran, Total, Update, Written};
+use toggleash::ffi::{self, Answer, Built, Counts, Match, Needed, Ran, Total, Update, Written};
 
+use crate::calls::Updates;
 use crate::family::Family;
 use crate::guard::{begin_call, Lent, Side};
 use crate::pair::{same, Same};
@@ -13,64 +14,9 @@ use crate::pair::{same, Same};
 /// Lengths that no memory has, some of them multiples of an array's; none may be read.
 const FAR: [usize; 6] = [3 << 23, 1 << 32, (3 << 32) + 6_144, 1 << 60, usize::MAX - 1_023, usize::MAX];
 
-/// The calls of a family as C has them, to which an address passes as a `P`.
-struct Calls<P> {
-    clear: unsafe extern "C" fn(*mut u32, usize) -> u32,
-    check: unsafe extern "C" fn(*const u32, usize) -> Counts,
-    lookup: unsafe extern "C" fn(*const u32, usize, P) -> Answer,
-    within: unsafe extern "C" fn(*const u32, usize, P, u32) -> Total,
-    announce: unsafe extern "C" fn(*mut u32, usize, P, u32, u32, u32, u8) -> Update,
-    withdraw: unsafe extern "C" fn(*mut u32, usize, P, u32, u32) -> Update,
-    write_out: unsafe extern "C" fn(*const u32, usize, *mut u8, usize) -> Written,
-    run: unsafe extern "C" fn(*mut u32, usize, *const u8, usize, *mut u8, usize) -> Ran,
-}
-
-trait InC: Family {
-    type Passed: Copy;
-    const CALLS: Calls<Self::Passed>;
-
-    fn passed(self) -> Self::Passed;
-
-    /// The address whose last byte this is, all others being 0.
-    fn last(byte: u8) -> Self::Passed {
-        Self::with_byte(byte, Self::LEVELS - 1).passed()
-    }
-}
-
-impl InC for u32 {
-    type Passed = u32;
-    const CALLS: Calls<u32> = Calls {
-        clear: ffi::toggleash_clear,
-        check: ffi::toggleash_check,
-        lookup: ffi::toggleash_lookup,
-        within: ffi::toggleash_within,
-        announce: ffi::toggleash_announce,
-        withdraw: ffi::toggleash_withdraw,
-        write_out: ffi::toggleash_write_out,
-        run: ffi::toggleash_run,
-    };
-
-    fn passed(self) -> u32 {
-        self
-    }
-}
-
-impl InC for u128 {
-    type Passed = Ipv6;
-    const CALLS: Calls<Ipv6> = Calls {
-        clear: ffi::toggleash_v6_clear,
-        check: ffi::toggleash_v6_check,
-        lookup: ffi::toggleash_v6_lookup,
-        within: ffi::toggleash_v6_within,
-        announce: ffi::toggleash_v6_announce,
-        withdraw: ffi::toggleash_v6_withdraw,
-        write_out: ffi::toggleash_v6_write_out,
-        run: ffi::toggleash_v6_run,
-    };
-
-    fn passed(self) -> Ipv6 {
-        Ipv6 { bytes: self.to_be_bytes() }
-    }
+/// The address whose last byte this is, all others being 0.
+fn last<A: Family>(byte: u8) -> A::Passed {
+    A::with_byte(byte, A::LEVELS - 1).passed()
 }
 
 pub fn compare() -> Same {
@@ -79,16 +25,23 @@ pub fn compare() -> Same {
     copy_fields()
 }
 
-fn tables<A: InC>() -> Same {
+fn tables<A: Family>() -> Same {
     nothing_lent::<A>()?;
     FAR.into_iter().try_for_each(far_lengths::<A>)?;
-    refused_fields::<A>().map_err(|text| format!("{}, {text}", A::NAME))
+    // A run that checks no table takes its end.
+    let ends = [
+        (A::CALLS.checked, Ran { refusal: 2, ..Ran::default() }),
+        (A::CALLS.local, Ran { consumed: 1, ..Ran::default() }),
+    ];
+    ends.iter().try_for_each(|(updates, end)| {
+        refused_fields::<A>(updates, *end).map_err(|text| format!("{}, {}, {text}", A::NAME, updates.name))
+    })
 }
 
 /// Refusal 1 from every call, whatever else applies, with words that lead nowhere.
-fn refused_by_size<A: InC>(words: *mut u32, n: usize) -> Same {
+fn refused_by_size<A: Family>(words: *mut u32, n: usize) -> Same {
     begin_call("a call of C with a wrong number of words");
-    let (calls, one) = (A::CALLS, A::last(1));
+    let (calls, one) = (A::CALLS, last::<A>(1));
     let told = |call: &str| format!("{} {call} {n}", A::NAME);
     unsafe {
         same(|| told("clear"), (calls.clear)(words, n), 1)?;
@@ -98,17 +51,21 @@ fn refused_by_size<A: InC>(words: *mut u32, n: usize) -> Same {
         same(|| told("lookup"), (calls.lookup)(words, n, one), answer)?;
         let total = Total { refusal: 1, ..Total::default() };
         same(|| told("within"), (calls.within)(words, n, one, A::BITS + 1), total)?;
-        let update = Update { refusal: 1, ..Update::default() };
-        same(|| told("announce"), (calls.announce)(words, n, one, A::BITS + 1, 0, 0, 0), update)?;
-        same(|| told("withdraw"), (calls.withdraw)(words, n, one, A::BITS + 1, 0), update)?;
         let written = Written { refusal: 1, ..Written::default() };
         same(|| told("write out"), (calls.write_out)(words, n, null_mut(), 0), written)?;
-        let ran = Ran { refusal: 1, ..Ran::default() };
-        same(|| told("run"), (calls.run)(words, n, null(), 0, null_mut(), 0), ran)
+        for updates in [calls.checked, calls.local] {
+            let told = |call: &str| told(&format!("{} {call}", updates.name));
+            let update = Update { refusal: 1, ..Update::default() };
+            same(|| told("announce"), (updates.announce)(words, n, one, A::BITS + 1, 0, 0, 0), update)?;
+            same(|| told("withdraw"), (updates.withdraw)(words, n, one, A::BITS + 1, 0), update)?;
+            let ran = Ran { refusal: 1, ..Ran::default() };
+            same(|| told("run"), (updates.run)(words, n, null(), 0, null_mut(), 0), ran)?;
+        }
     }
+    Ok(())
 }
 
-fn nothing_lent<A: InC>() -> Same {
+fn nothing_lent<A: Family>() -> Same {
     refused_by_size::<A>(null_mut(), 0)?;
     let mut words = Lent::copy_of(&[0; 6_144], Side::Back);
     begin_call("a call of C with null beside words");
@@ -118,34 +75,38 @@ fn nothing_lent<A: InC>() -> Same {
         same(|| "clear".into(), (calls.clear)(first, n), 0)?;
         let written = Written { refusal: 9, ..Written::default() };
         same(|| "write out to null".into(), (calls.write_out)(first, n, null_mut(), 0), written)?;
-        let ran = Ran { stop: 1, ..Ran::default() };
-        same(|| "run null".into(), (calls.run)(first, n, null(), 0, null_mut(), 0), ran)?;
-        let ran = Ran { stop: 4, ..Ran::default() };
-        same(|| "run to null".into(), (calls.run)(first, n, lookup.as_ptr(), lookup.len(), null_mut(), 0), ran)
+        for run in [calls.checked.run, calls.local.run] {
+            let ran = Ran { stop: 1, ..Ran::default() };
+            same(|| "run null".into(), run(first, n, null(), 0, null_mut(), 0), ran)?;
+            let ran = Ran { stop: 4, ..Ran::default() };
+            same(|| "run to null".into(), run(first, n, lookup.as_ptr(), lookup.len(), null_mut(), 0), ran)?;
+        }
     }
+    Ok(())
 }
 
 /// The words end where the guard begins, so a call that believes the length faults.
-fn far_lengths<A: InC>(n: usize) -> Same {
+fn far_lengths<A: Family>(n: usize) -> Same {
     let mut words = Lent::copy_of(&[0; 1], Side::Back);
     refused_by_size::<A>(words.as_mut_ptr(), n)
 }
 
-/// The fields of refusals by other numbers, and of a lookup that finds none.
-fn refused_fields<A: InC>() -> Same {
+/// The fields of refusals by other numbers, and of a lookup that finds none, by the calls that check or by the local ones. On words
+/// that are no table the run of an end alone gives `end`.
+fn refused_fields<A: Family>(updates: &Updates<A::Passed>, end: Ran) -> Same {
     let mut words = Lent::copy_of(&[0; 6_144], Side::Back);
     begin_call("a refused call of C");
     let (calls, first, n) = (A::CALLS, words.as_mut_ptr(), words.len());
-    let (zero, seven, half) = (A::last(0), A::last(7), A::with_byte(128, 0).passed());
+    let (zero, seven, half) = (last::<A>(0), last::<A>(7), A::with_byte(128, 0).passed());
     let update = |refusal| Update { refusal, ..Update::default() };
     unsafe {
         same(|| "check".into(), (calls.check)(first, n), Counts { refusal: 2, ..Counts::default() })?;
-        same(|| "announce".into(), (calls.announce)(first, n, zero, 0, 1, 4, 255), update(2))?;
-        same(|| "withdraw".into(), (calls.withdraw)(first, n, zero, 0, 4), update(2))?;
+        same(|| "announce".into(), (updates.announce)(first, n, zero, 0, 1, 4, 255), update(2))?;
+        same(|| "withdraw".into(), (updates.withdraw)(first, n, zero, 0, 4), update(2))?;
         for feed in [0, 5, 256 + 1, u32::MAX] {
-            let got = (calls.announce)(first, n, zero, 0, 1, feed, 0);
+            let got = (updates.announce)(first, n, zero, 0, 1, feed, 0);
             same(|| format!("announce by {feed}"), got, update(10))?;
-            same(|| format!("withdraw by {feed}"), (calls.withdraw)(first, n, zero, 0, feed), update(10))?;
+            same(|| format!("withdraw by {feed}"), (updates.withdraw)(first, n, zero, 0, feed), update(10))?;
         }
         let total = |refusal, prefixes| Total { refusal, prefixes };
         same(|| "within, length".into(), (calls.within)(first, n, seven, A::BITS + 1), total(3, 0))?;
@@ -154,21 +115,21 @@ fn refused_fields<A: InC>() -> Same {
         same(|| "within, a total".into(), (calls.within)(first, n, zero, 0), total(2, 0))?;
         *first.add(3_072 + 2_304 + 1) = 511;
         same(|| "within, the largest total".into(), (calls.within)(first, n, zero, 0), total(0, 511))?;
-        let ran = (calls.run)(first, n, [0].as_ptr(), 1, null_mut(), 0);
-        same(|| "run".into(), ran, Ran { refusal: 2, ..Ran::default() })?;
+        let ran = (updates.run)(first, n, [0].as_ptr(), 1, null_mut(), 0);
+        same(|| "run".into(), ran, end)?;
         (calls.clear)(first, n);
         same(|| "lookup".into(), (calls.lookup)(first, n, seven), Answer::default())?;
-        same(|| "withdraw none".into(), (calls.withdraw)(first, n, zero, 0, 1), update(7))?;
+        same(|| "withdraw none".into(), (updates.withdraw)(first, n, zero, 0, 1), update(7))?;
         let held = Update { hop: 5, cells: 256, ..update(0) };
-        same(|| "announce".into(), (calls.announce)(first, n, zero, 0, 5, 2, 254), held)?;
+        same(|| "announce".into(), (updates.announce)(first, n, zero, 0, 5, 2, 254), held)?;
         let again = Update { cells: 0, ..held };
-        same(|| "announce again".into(), (calls.announce)(first, n, zero, 0, 5, 2, 254), again)?;
+        same(|| "announce again".into(), (updates.announce)(first, n, zero, 0, 5, 2, 254), again)?;
         let worse = Update { hop: 9, ..again };
-        same(|| "announce a loser".into(), (calls.announce)(first, n, zero, 0, 9, 1, 255), worse)?;
+        same(|| "announce a loser".into(), (updates.announce)(first, n, zero, 0, 9, 1, 255), worse)?;
         let found = Answer { found: 1, hop: 5, ..Answer::default() };
         same(|| "lookup".into(), (calls.lookup)(first, n, seven), found)?;
         let one = Update { hop: 6, cells: 1, ..held };
-        same(|| "announce".into(), (calls.announce)(first, n, half, 8, 6, 3, 0), one)?;
+        same(|| "announce".into(), (updates.announce)(first, n, half, 8, 6, 3, 0), one)?;
         let beside = Answer { block: 1, ..found };
         same(|| "lookup beside a route".into(), (calls.lookup)(first, n, seven), beside)?;
         let inside = Answer { hop: 6, length: 8, block: 8, ..found };
@@ -176,11 +137,11 @@ fn refused_fields<A: InC>() -> Same {
         same(|| "within".into(), (calls.within)(first, n, zero, 0), total(0, 2))?;
         let refusals = [(3, 1, A::BITS + 1, 0, 0), (4, 1, 0, 0, 0), (5, 0, 0, 0, 0), (10, 0, 9, 1, 0), (8, 0, 9, 1, 1)];
         for (refusal, byte, length, hop, feed) in refusals {
-            let got = (calls.announce)(first, n, A::last(byte), length, hop, feed, 0);
+            let got = (updates.announce)(first, n, last::<A>(byte), length, hop, feed, 0);
             same(|| format!("announce refused {refusal}"), got, update(refusal))?;
         }
         let gone = Update { hop: 5, cells: 256 - 1, ..update(0) };
-        same(|| "withdraw a winner".into(), (calls.withdraw)(first, n, zero, 0, 2), gone)?;
+        same(|| "withdraw a winner".into(), (updates.withdraw)(first, n, zero, 0, 2), gone)?;
         let left = Answer { hop: 9, ..beside };
         same(|| "lookup of what waited".into(), (calls.lookup)(first, n, seven), left)?;
     }

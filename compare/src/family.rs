@@ -4,7 +4,9 @@
 use std::net::{Ipv4Addr, Ipv6Addr};
 
 use reference::Address;
+use toggleash::ffi;
 
+use crate::calls::{self, Calls};
 use crate::random::Random;
 use crate::tally::{Counts, Seen, Tally};
 
@@ -12,11 +14,17 @@ use crate::tally::{Counts, Seen, Tally};
 pub trait Family: Address {
     /// An address as the library takes it.
     type Sent: toggleash::Family + From<Self>;
+    /// An address as C passes it.
+    type Passed: Copy;
+
+    const CALLS: Calls<Self::Passed>;
 
     const NAME: &'static str;
 
     /// The cells looked up in an array that no damage was done to. Those of all arrays would be too many where ways are long.
     const CELLS: usize;
+
+    fn passed(self) -> Self::Passed;
 
     /// Any address, mostly one of a network that there can be.
     fn any(random: &mut Random) -> Self;
@@ -42,9 +50,15 @@ pub trait Family: Address {
 
 impl Family for u32 {
     type Sent = Ipv4Addr;
+    type Passed = u32;
 
+    const CALLS: Calls<u32> = calls::FOUR;
     const NAME: &'static str = "IPv4";
     const CELLS: usize = 256;
+
+    fn passed(self) -> u32 {
+        self
+    }
 
     fn any(random: &mut Random) -> u32 {
         random.word()
@@ -83,9 +97,15 @@ const BORDERS: [u32; 20] = [0, 1, 3, 7, 8, 9, 15, 17, 25, 31, 33, 65, 72, 73, 11
 
 impl Family for u128 {
     type Sent = Ipv6Addr;
+    type Passed = ffi::Ipv6;
 
+    const CALLS: Calls<ffi::Ipv6> = calls::SIX;
     const NAME: &'static str = "IPv6";
     const CELLS: usize = 16;
+
+    fn passed(self) -> ffi::Ipv6 {
+        ffi::Ipv6 { bytes: self.to_be_bytes() }
+    }
 
     /// Mostly of 2000::/3; in some as many groups of 16 bits are 0 as are not.
     fn any(random: &mut Random) -> u128 {

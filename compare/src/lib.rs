@@ -1,8 +1,10 @@
 //! The parts of the comparison: random input, guarded memory, and each call made on the library and on the list.
 
+pub mod calls;
 pub mod copies;
 pub mod damage;
 pub mod damps;
+pub mod damps_local;
 pub mod face;
 pub mod family;
 pub mod feeds;
@@ -11,6 +13,8 @@ pub mod foreign;
 pub mod guard;
 pub mod insides;
 pub mod lists;
+pub mod locals;
+pub mod made_up;
 pub mod packs;
 pub mod packs_damaged;
 pub mod pair;

@@ -10,20 +10,21 @@ use compare::pair::Same;
 use compare::random::Random;
 use compare::resolves::{self, Resolves};
 use compare::tally::Tally;
-use compare::{copies, damage, face, foreign, guard, programs, rooms, unlisted};
+use compare::{copies, damage, face, foreign, guard, made_up, programs, rooms, unlisted};
 use reference::CandidateList;
 
 const USAGE: &str = "usage: compare [--long] [--seed NUMBER] [(--programs | --programs6 | --flaps) PROVED SECOND]";
 
-/// What a plain run does of a family's tables: records that the rooms take between them, the largest rooms, and memories that
-/// are damaged; and the feeds that its program takes.
+/// What a plain run does of a family's tables: records that the rooms take between them, the largest rooms, memories that are
+/// damaged, and those that are made up; and the feeds that its program takes.
 struct Share {
     records: u64,
     largest: u64,
     damaged: u64,
+    made_up: u64,
     feeds: usize,
     /// The parts that the cases are of.
-    parts: [&'static str; 5],
+    parts: [&'static str; 7],
 }
 
 /// One record in ten is of IPv6.
@@ -31,19 +32,30 @@ const FOUR: Share = Share {
     records: 216_000,
     largest: 3,
     damaged: 3_600,
+    made_up: 1_500,
     feeds: 800,
-    parts: ["sizes", "damage", "rooms", "largest", "programs"],
+    parts: ["sizes", "damage", "rooms", "largest", "programs", "depths", "made up"],
 };
 const SIX: Share = Share {
     records: 24_000,
     largest: 1,
     damaged: 400,
+    made_up: 500,
     feeds: 200,
-    parts: ["sizes of IPv6", "damage of IPv6", "rooms of IPv6", "largest of IPv6", "programs of IPv6"],
+    parts: [
+        "sizes of IPv6",
+        "damage of IPv6",
+        "rooms of IPv6",
+        "largest of IPv6",
+        "programs of IPv6",
+        "depths of IPv6",
+        "made up of IPv6",
+    ],
 };
 
 /// Of the program through a front.
-const FLAPS: Share = Share { records: 0, largest: 0, damaged: 0, feeds: 200, parts: ["", "", "", "", "flaps"] };
+const FLAPS: Share =
+    Share { records: 0, largest: 0, damaged: 0, made_up: 0, feeds: 200, parts: ["", "", "", "", "flaps", "", ""] };
 
 /// Copies that a plain run builds from lists, and lists and copies that it damages.
 const COPIES: u64 = 600;
@@ -100,7 +112,6 @@ fn compare_library(options: &Options) -> u64 {
     tables::<u128>(options, &SIX, &mut tally);
     others::<u32, u128>(options, "IPv6 tables for IPv4", &mut tally);
     others::<u128, u32>(options, "IPv4 tables for IPv6", &mut tally);
-    depths::<u128>(options, &mut tally);
     all_copies(options, &mut tally);
     damaged_copies(options, &mut tally);
     compare::shorts::compare(|part, case| begin(options, part, case), options.times, &mut tally);
@@ -118,6 +129,8 @@ fn compare_library(options: &Options) -> u64 {
 fn tables<A: Family>(options: &Options, share: &Share, tally: &mut Tally) {
     wrong_sizes::<A>(options, share, tally);
     damaged::<A>(options, share, tally);
+    depths::<A>(options, share, tally);
+    all_made_up::<A>(options, share, tally);
     all_rooms::<A>(options, share, tally);
     largest_rooms::<A>(options, share, tally);
 }
@@ -194,9 +207,16 @@ fn others<A: Family, B: Family>(options: &Options, part: &'static str, tally: &m
 }
 
 /// Something that no table has on each level, where ways are too long for random damage to meet them all.
-fn depths<A: Family>(options: &Options, tally: &mut Tally) {
-    cases(options, tally, ("depths", 3 * damage::depths(A::LEVELS)), |random, case, tally| {
+fn depths<A: Family>(options: &Options, share: &Share, tally: &mut Tally) {
+    cases(options, tally, (share.parts[5], 3 * damage::depths(A::LEVELS)), |random, case, tally| {
         damage::depth::<A>(random, case, A::counts(tally))
+    });
+}
+
+/// Words that are a table on some paths alone.
+fn all_made_up<A: Family>(options: &Options, share: &Share, tally: &mut Tally) {
+    cases(options, tally, (share.parts[6], share.made_up), |random, _, tally| {
+        made_up::memory::<A>(random, A::counts(tally))
     });
 }
 

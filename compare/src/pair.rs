@@ -1,25 +1,28 @@
 //! The library's words beside the reference's memory: each call is made on both and compared, in answer, in lent
 //! bytes, and in what the words stand for.
 
-use reference::feed::Answer;
+use reference::feed::{Answer, Record};
 use reference::layout::{self, unused, Arrays, Walked, TOTALS, UNUSED};
 use reference::memory::ARRAY_WORDS;
 use reference::{Candidate, CandidateList, Lookup, Memory, Prefix, Refusal};
-use toggleash::Family as _;
+use toggleash::{ffi, Family as _};
 
 use crate::family::Family;
 use crate::guard::{begin_call, Lent, Side};
+use crate::locals::{self, Left};
 
 /// Nothing differs, or the text of what does.
 pub type Same = Result<(), String>;
 
 /// What buffers hold before a call, so that a byte written shows.
-const UNTOUCHED: u8 = 0xA5;
+pub const UNTOUCHED: u8 = 0xA5;
 
 /// Lent words and what they must stand for.
 pub struct Pair<A = u32> {
     pub words: Lent<u32>,
     pub memory: Memory<A>,
+    /// Others, as many, for the local calls, once there was one.
+    twin: Option<Lent<u32>>,
 }
 
 /// An answer in the form that both sides share.
@@ -52,9 +55,14 @@ pub fn left<T: PartialEq + std::fmt::Debug>(what: impl Fn() -> String, expected:
 }
 
 impl<A: Family> Pair<A> {
+    /// Words that must stand for this.
+    pub fn new(words: Lent<u32>, memory: Memory<A>) -> Pair<A> {
+        Pair { words, memory, twin: None }
+    }
+
     /// Words as they are, read by the reference.
     pub fn seen(words: &[u32], side: Side) -> Pair<A> {
-        Pair { words: Lent::copy_of(words, side), memory: layout::read(words) }
+        Pair::new(Lent::copy_of(words, side), layout::read(words))
     }
 
     /// Clearing leaves the one table of no candidate whose words without a use are 0; the words stay where it refuses.
@@ -138,7 +146,8 @@ impl<A: Family> Pair<A> {
         if told.is_ok() {
             A::seen().winner(won, self.winning(prefix));
         }
-        self.changed(what, (told.is_ok() && !again).then_some((prefix, won)), &before)
+        self.changed(what, (told.is_ok() && !again).then_some((prefix, won)), &before)?;
+        self.locally(&before, Record::Announce { address, length, hop, feed, preference }, told)
     }
 
     pub fn withdraw(&mut self, prefix: Prefix<A>, feed: u32) -> Same {
@@ -153,7 +162,31 @@ impl<A: Family> Pair<A> {
         if told.is_ok() {
             A::seen().winner(won, self.winning(prefix));
         }
-        self.changed(what, told.is_ok().then_some((prefix, won)), &before)
+        self.changed(what, told.is_ok().then_some((prefix, won)), &before)?;
+        self.locally(&before, Record::Withdraw { address, length, feed }, told)
+    }
+
+    /// The local call of an update on the words before it: on a table it tells and leaves what the checked one did.
+    fn locally(&mut self, before: &[u32], record: Record<A>, checked: Told<toggleash::Update>) -> Same {
+        let table = self.memory.list().is_ok();
+        let (words, twin) = self.with_twin(before);
+        let told = locals::update(twin, before, record)?;
+        if !table {
+            A::seen().local(told.refusal);
+            return Ok(());
+        }
+        let what = || format!("local {record:?} on a table");
+        let fields = |update: toggleash::Update| ffi::Update { refusal: 0, hop: update.hop, cells: update.cells };
+        let refused = |number: u8| ffi::Update { refusal: number.into(), ..ffi::Update::default() };
+        same(what, told, checked.map_or_else(refused, fields))?;
+        left(what, words, twin)
+    }
+
+    /// The words, and the others made as those before.
+    fn with_twin(&mut self, before: &[u32]) -> (&[u32], &mut [u32]) {
+        let twin = self.twin.get_or_insert_with(|| Lent::copy_of(before, Side::Back));
+        twin.copy_from_slice(before);
+        (&self.words, twin)
     }
 
     /// The hop that wins at the prefix.
@@ -215,7 +248,28 @@ impl<A: Family> Pair<A> {
             }
             _ => left(what, &before, &self.words)?,
         }
+        self.run_locally(&before, feed, told.map(locals::in_c), &replies, side)?;
         Ok(records)
+    }
+
+    /// The local run on the words before it tells and leaves what the checked one did, with these replies; where that refused, as
+    /// words that are no table make it, what the records' own local calls do.
+    fn run_locally(
+        &mut self,
+        before: &[u32],
+        feed: &[u8],
+        checked: Told<ffi::Ran>,
+        replies: &[u8],
+        side: Side,
+    ) -> Same {
+        let (words, twin) = self.with_twin(before);
+        match checked {
+            Ok(ran) => locals::run::<A>(twin, feed, &Left { ran, words, replies }, side),
+            Err(_) => {
+                let Left { ran, words, replies } = locals::series::<A>(before, feed, replies.len())?;
+                locals::run::<A>(twin, feed, &Left { ran, words: &words, replies: &replies }, side)
+            }
+        }
     }
 }
 

@@ -3,7 +3,7 @@
 use std::fmt;
 use std::sync::atomic::{AtomicU64, Ordering::Relaxed};
 
-use reference::layout::{Odd, OddTotal};
+use reference::layout::{Odd, OddTotal, Stray};
 
 use crate::family::Family;
 
@@ -60,6 +60,12 @@ pub struct Seen {
     odd: [[AtomicU64; LEVELS]; 3],
     /// A walk to a total that ended so: links and totals, by level.
     odd_totals: [[AtomicU64; LEVELS]; 2],
+    /// A local update of words that are no table, by the number of its refusal; 0 for none.
+    locals: [AtomicU64; 11],
+    /// One that was refused for what it met: links, tags, bests beside a link, bests and blocks of the cell that gets one, by level.
+    strays: [[AtomicU64; LEVELS]; 5],
+    /// The same for the root, too few free arrays, and one that is not blank.
+    other_strays: [AtomicU64; 3],
 }
 
 impl Seen {
@@ -70,6 +76,9 @@ impl Seen {
             winners: [const { AtomicU64::new(0) }; 4],
             odd: [const { [const { AtomicU64::new(0) }; LEVELS] }; 3],
             odd_totals: [const { [const { AtomicU64::new(0) }; LEVELS] }; 2],
+            locals: [const { AtomicU64::new(0) }; 11],
+            strays: [const { [const { AtomicU64::new(0) }; LEVELS] }; 5],
+            other_strays: [const { AtomicU64::new(0) }; 3],
         }
     }
 
@@ -100,9 +109,48 @@ impl Seen {
         self.odd_totals[odd as usize][level as usize].fetch_add(1, Relaxed);
     }
 
+    pub fn local(&self, refusal: u32) {
+        self.locals[refusal as usize].fetch_add(1, Relaxed);
+    }
+
+    pub fn stray(&self, stray: Stray, level: u32) {
+        let level = level as usize;
+        let count = match stray {
+            Stray::Array => &self.strays[0][level],
+            Stray::Tag => &self.strays[1][level],
+            Stray::Best => &self.strays[2][level],
+            Stray::LastBest => &self.strays[3][level],
+            Stray::LastBlock => &self.strays[4][level],
+            Stray::Root => &self.other_strays[0],
+            Stray::Few => &self.other_strays[1],
+            Stray::Filled => &self.other_strays[2],
+        };
+        count.fetch_add(1, Relaxed);
+    }
+
     /// Prints what was met, of so many levels. Tells whether one of them never was.
     fn lacks(&self, levels: usize) -> bool {
-        let counts = |of: &[AtomicU64]| of.iter().map(|count| count.load(Relaxed)).collect::<Vec<u64>>();
+        let of_tables = self.lacks_of_tables(levels);
+        let of_locals = self.lacks_of_locals(levels);
+        of_tables || of_locals
+    }
+
+    /// The same of local updates of words that are no table.
+    fn lacks_of_locals(&self, levels: usize) -> bool {
+        let mut locals = counts(&self.locals);
+        // no update is refused with 6 or 9
+        locals.remove(9);
+        locals.remove(6);
+        println!("  local updates of no table done, and refused with 1, 2, 3, 4, 5, 7, 8, 10, {locals:?} times");
+        // No path leaves the last level.
+        let strays = [0, 1, 2, 3, 4].map(|stray| counts(&self.strays[stray][..levels - 1]));
+        println!("  with 2 for a link, a tag, a best, and the best and block that get a link, on each level {strays:?} times");
+        let others = counts(&self.other_strays);
+        println!("  with 2 for the root, too few free arrays and one that is not blank {others:?} times");
+        [locals, strays.concat(), others].concat().contains(&0)
+    }
+
+    fn lacks_of_tables(&self, levels: usize) -> bool {
         let (mut refusals, stops) = (counts(&self.refusals), counts(&self.stops));
         // there is no 0 and no 6
         refusals.remove(6);
@@ -117,6 +165,10 @@ impl Seen {
         println!("  counts inside a prefix refused with 2 for a link and a total, on each level {odd_totals:?} times");
         [refusals, stops, winners, odd.concat(), odd_totals.concat()].concat().contains(&0)
     }
+}
+
+fn counts(of: &[AtomicU64]) -> Vec<u64> {
+    of.iter().map(|count| count.load(Relaxed)).collect()
 }
 
 impl Default for Seen {

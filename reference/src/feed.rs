@@ -144,23 +144,27 @@ impl<A: Address> Memory<A> {
         mut tell: impl FnMut(Record<A>, Answer<A>),
     ) -> Result<Ran, Refusal> {
         self.list()?;
-        let mut ran = Ran { stop: Stop::End, consumed: 0, written: 0, accepted: 0, refused: 0 };
-        loop {
-            let (record, size) = match first_record(&feed[ran.consumed..]) {
-                Ok(first) => first,
-                Err(stop) => return Ok(Ran { stop, ..ran }),
-            };
-            if record != Record::End && reply.len() - ran.written < REPLY_ROOM {
-                return Ok(Ran { stop: Stop::ReplyFull, ..ran });
-            }
-            ran.consumed += size;
-            let Some(answer) = self.take(record) else { return Ok(ran) };
-            let bytes = answer.encoding();
-            reply[ran.written..ran.written + bytes.len()].copy_from_slice(&bytes);
-            ran.written += bytes.len();
-            ran.accepted += usize::from(matches!(answer, Answer::Done(_)));
-            ran.refused += usize::from(matches!(answer, Answer::Refused(_)));
-            tell(record, answer);
+        Ok(run_by(feed, reply, |record| self.take(record).inspect(|&answer| tell(record, answer))))
+    }
+}
+
+/// A run whose records are answered by the function, which has no answer to an end.
+pub fn run_by<A: Address>(feed: &[u8], reply: &mut [u8], mut take: impl FnMut(Record<A>) -> Option<Answer<A>>) -> Ran {
+    let mut ran = Ran { stop: Stop::End, consumed: 0, written: 0, accepted: 0, refused: 0 };
+    loop {
+        let (record, size) = match first_record(&feed[ran.consumed..]) {
+            Ok(first) => first,
+            Err(stop) => return Ran { stop, ..ran },
+        };
+        if record != Record::End && reply.len() - ran.written < REPLY_ROOM {
+            return Ran { stop: Stop::ReplyFull, ..ran };
         }
+        ran.consumed += size;
+        let Some(answer) = take(record) else { return ran };
+        let bytes = answer.encoding();
+        reply[ran.written..ran.written + bytes.len()].copy_from_slice(&bytes);
+        ran.written += bytes.len();
+        ran.accepted += usize::from(matches!(answer, Answer::Done(_)));
+        ran.refused += usize::from(matches!(answer, Answer::Refused(_)));
     }
 }

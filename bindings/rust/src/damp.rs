@@ -122,6 +122,59 @@ pub fn run(front: &mut [u32], words: &mut [u32], feed: &[u8], reply: &mut [u8]) 
     ran(unsafe { ffi::toggleash_damp_run(f, m, w, n, feed.as_ptr(), feed.len(), reply, room) })
 }
 
+/// As [`announce`], testing the front's words, and of the table's only what the announcement touches. Before a table it answers and
+/// leaves the same words; so words from elsewhere are checked once, and these calls are for all that follows. Of a candidate that
+/// is held back the table's words are not even read.
+///
+/// # Errors
+/// As [`announce`], where [`Refusal::NotATable`] means that the first words are no front, or that what is touched is not as in a
+/// table. A refused call has changed neither.
+pub fn announce_local(
+    front: &mut [u32],
+    words: &mut [u32],
+    address: Ipv4Addr,
+    length: u32,
+    candidate: Candidate,
+) -> Result<Update, Refusal> {
+    let Candidate { hop, feed, preference } = candidate;
+    let (f, m, w, n) = (front.as_mut_ptr(), front.len(), words.as_mut_ptr(), words.len());
+    updated(unsafe { ffi::toggleash_damp_announce_local(f, m, w, n, address.into(), length, hop, feed, preference) })
+}
+
+/// As [`withdraw`], testing what [`announce_local`] does.
+///
+/// # Errors
+/// As [`withdraw`], where [`Refusal::NotATable`] is as of [`announce_local`].
+pub fn withdraw_local(
+    front: &mut [u32],
+    words: &mut [u32],
+    address: Ipv4Addr,
+    length: u32,
+    feed: u32,
+) -> Result<Update, Refusal> {
+    let (f, m, w, n) = (front.as_mut_ptr(), front.len(), words.as_mut_ptr(), words.len());
+    updated(unsafe { ffi::toggleash_damp_withdraw_local(f, m, w, n, address.into(), length, feed) })
+}
+
+/// As [`tick`], testing the front's words, and of the table's only what each announcement touches; one that is refused is kept.
+///
+/// # Errors
+/// [`Refusal::WordCount`]; [`Refusal::NotATable`] where the first words are no front.
+pub fn tick_local(front: &mut [u32], words: &mut [u32]) -> Result<Held, Refusal> {
+    let (f, m, w, n) = (front.as_mut_ptr(), front.len(), words.as_mut_ptr(), words.len());
+    counted(unsafe { ffi::toggleash_damp_tick_local(f, m, w, n) })
+}
+
+/// As [`run`], testing the front's words once, and of the table's only what each record and tick touches.
+///
+/// # Errors
+/// As those of [`tick_local`], before any record.
+pub fn run_local(front: &mut [u32], words: &mut [u32], feed: &[u8], reply: &mut [u8]) -> Result<Ran, Refusal> {
+    let (f, m, w, n) = (front.as_mut_ptr(), front.len(), words.as_mut_ptr(), words.len());
+    let (reply, room) = (reply.as_mut_ptr(), reply.len());
+    ran(unsafe { ffi::toggleash_damp_run_local(f, m, w, n, feed.as_ptr(), feed.len(), reply, room) })
+}
+
 fn counted(front: ffi::Front) -> Result<Held, Refusal> {
     accepted(front.refusal)?;
     Ok(Held { places: front.places, held_back: front.held_back })
@@ -131,6 +184,9 @@ fn counted(front: ffi::Front) -> Result<Held, Refusal> {
 ///
 /// `W` is what the words are kept in: `[u32; FRONT_WORDS]`, `Vec<u32>`, `Box<[u32]>`, `&mut [u32]`. A front can only be had of words
 /// that are cleared or tested. A front stands before one table; what it holds back is of no meaning before another.
+///
+/// Its calls test the front's words, and of the table's only what they touch. That is enough: a [`Table`] keeps its words to itself,
+/// so that they are one for as long as it lives, and before a table the local calls are those that test all of it.
 #[derive(Clone)]
 pub struct Front<W> {
     words: W,
@@ -185,7 +241,7 @@ impl<W: AsRef<[u32]> + AsMut<[u32]>> Front<W> {
         prefix: Prefix,
         candidate: Candidate,
     ) -> Result<Update, Refusal> {
-        announce(self.words.as_mut(), table.words_mut(), prefix.address(), prefix.length().into(), candidate)
+        announce_local(self.words.as_mut(), table.words_mut(), prefix.address(), prefix.length().into(), candidate)
     }
 
     /// Withdraws a candidate from the table, or what is kept of it, and gives the hop that it had.
@@ -198,7 +254,7 @@ impl<W: AsRef<[u32]> + AsMut<[u32]>> Front<W> {
         prefix: Prefix,
         feed: u32,
     ) -> Result<Update, Refusal> {
-        withdraw(self.words.as_mut(), table.words_mut(), prefix.address(), prefix.length().into(), feed)
+        withdraw_local(self.words.as_mut(), table.words_mut(), prefix.address(), prefix.length().into(), feed)
     }
 
     /// Halves the penalties, announces to the table what may be, and counts as [`check`](Front::check) does after it.
@@ -206,11 +262,11 @@ impl<W: AsRef<[u32]> + AsMut<[u32]>> Front<W> {
     /// # Errors
     /// [`Refusal::NotATable`] only where something else has changed the words.
     pub fn tick<T: AsRef<[u32]> + AsMut<[u32]>>(&mut self, table: &mut Table<T>) -> Result<Held, Refusal> {
-        tick(self.words.as_mut(), table.words_mut())
+        tick_local(self.words.as_mut(), table.words_mut())
     }
 
-    /// Takes the records and ticks of a feed in order and writes a reply to each but the end, see [`run`](crate::run). Both are
-    /// tested once.
+    /// Takes the records and ticks of a feed in order and writes a reply to each but the end, see [`run`](crate::run). The
+    /// front is tested once.
     ///
     /// ```
     /// use toggleash::damp::{Front, FRONT_WORDS, TICK};
@@ -237,7 +293,7 @@ impl<W: AsRef<[u32]> + AsMut<[u32]>> Front<W> {
         feed: &[u8],
         reply: &mut [u8],
     ) -> Result<Ran, Refusal> {
-        run(self.words.as_mut(), table.words_mut(), feed, reply)
+        run_local(self.words.as_mut(), table.words_mut(), feed, reply)
     }
 }
 

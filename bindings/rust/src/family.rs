@@ -115,6 +115,35 @@ pub trait Family: Copy + Ord + Hash + Debug + Display + FromStr + Send + Sync + 
         let (bytes, room) = (reply.as_mut_ptr(), reply.len());
         ran(unsafe { (Self::CALLS.run)(words, n, feed.as_ptr(), feed.len(), bytes, room) })
     }
+
+    /// See [`announce_local`](crate::announce_local).
+    ///
+    /// # Errors
+    /// As there.
+    fn announce_local(words: &mut [u32], address: Self, length: u32, candidate: Candidate) -> Result<Update, Refusal> {
+        let (words, n) = (words.as_mut_ptr(), words.len());
+        let Candidate { hop, feed, preference } = candidate;
+        updated(unsafe { (Self::CALLS.announce_local)(words, n, address.passed(), length, hop, feed, preference) })
+    }
+
+    /// See [`withdraw_local`](crate::withdraw_local).
+    ///
+    /// # Errors
+    /// As there.
+    fn withdraw_local(words: &mut [u32], address: Self, length: u32, feed: u32) -> Result<Update, Refusal> {
+        let (words, n) = (words.as_mut_ptr(), words.len());
+        updated(unsafe { (Self::CALLS.withdraw_local)(words, n, address.passed(), length, feed) })
+    }
+
+    /// See [`run_local`](crate::run_local).
+    ///
+    /// # Errors
+    /// As there.
+    fn run_local(words: &mut [u32], feed: &[u8], reply: &mut [u8]) -> Result<Ran, Refusal> {
+        let (words, n) = (words.as_mut_ptr(), words.len());
+        let (bytes, room) = (reply.as_mut_ptr(), reply.len());
+        ran(unsafe { (Self::CALLS.run_local)(words, n, feed.as_ptr(), feed.len(), bytes, room) })
+    }
 }
 
 impl Family for Ipv4Addr {}
@@ -133,6 +162,9 @@ pub struct Calls<P> {
     pub withdraw: unsafe extern "C" fn(*mut u32, usize, P, u32, u32) -> ffi::Update,
     pub write_out: unsafe extern "C" fn(*const u32, usize, *mut u8, usize) -> ffi::Written,
     pub run: unsafe extern "C" fn(*mut u32, usize, *const u8, usize, *mut u8, usize) -> ffi::Ran,
+    pub announce_local: unsafe extern "C" fn(*mut u32, usize, P, u32, u32, u32, u8) -> ffi::Update,
+    pub withdraw_local: unsafe extern "C" fn(*mut u32, usize, P, u32, u32) -> ffi::Update,
+    pub run_local: unsafe extern "C" fn(*mut u32, usize, *const u8, usize, *mut u8, usize) -> ffi::Ran,
 }
 
 /// What tells the families apart. This module is private, so that no other crate can add a family.
@@ -170,6 +202,9 @@ impl Address for Ipv4Addr {
         withdraw: ffi::toggleash_withdraw,
         write_out: ffi::toggleash_write_out,
         run: ffi::toggleash_run,
+        announce_local: ffi::toggleash_announce_local,
+        withdraw_local: ffi::toggleash_withdraw_local,
+        run_local: ffi::toggleash_run_local,
     };
     const TABLE: &'static str = "Table";
     const ZERO: Ipv4Addr = Ipv4Addr::UNSPECIFIED;
@@ -204,6 +239,9 @@ impl Address for Ipv6Addr {
         withdraw: ffi::toggleash_v6_withdraw,
         write_out: ffi::toggleash_v6_write_out,
         run: ffi::toggleash_v6_run,
+        announce_local: ffi::toggleash_v6_announce_local,
+        withdraw_local: ffi::toggleash_v6_withdraw_local,
+        run_local: ffi::toggleash_v6_run_local,
     };
     const TABLE: &'static str = "Table6";
     const ZERO: Ipv6Addr = Ipv6Addr::UNSPECIFIED;

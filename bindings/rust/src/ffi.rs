@@ -148,6 +148,24 @@ extern "C" {
         reply: *mut u8,
         reply_len: usize,
     ) -> Ran;
+    pub fn toggleash_announce_local(
+        words: *mut u32,
+        n: usize,
+        address: u32,
+        length: u32,
+        hop: u32,
+        feed: u32,
+        preference: u8,
+    ) -> Update;
+    pub fn toggleash_withdraw_local(words: *mut u32, n: usize, address: u32, length: u32, feed: u32) -> Update;
+    pub fn toggleash_run_local(
+        words: *mut u32,
+        n: usize,
+        feed: *const u8,
+        feed_len: usize,
+        reply: *mut u8,
+        reply_len: usize,
+    ) -> Ran;
     pub fn toggleash_v6_clear(words: *mut u32, n: usize) -> u32;
     pub fn toggleash_v6_check(words: *const u32, n: usize) -> Counts;
     pub fn toggleash_v6_lookup(words: *const u32, n: usize, address: Ipv6) -> Answer;
@@ -164,6 +182,24 @@ extern "C" {
     pub fn toggleash_v6_withdraw(words: *mut u32, n: usize, address: Ipv6, length: u32, feed: u32) -> Update;
     pub fn toggleash_v6_write_out(words: *const u32, n: usize, buffer: *mut u8, room: usize) -> Written;
     pub fn toggleash_v6_run(
+        words: *mut u32,
+        n: usize,
+        feed: *const u8,
+        feed_len: usize,
+        reply: *mut u8,
+        reply_len: usize,
+    ) -> Ran;
+    pub fn toggleash_v6_announce_local(
+        words: *mut u32,
+        n: usize,
+        address: Ipv6,
+        length: u32,
+        hop: u32,
+        feed: u32,
+        preference: u8,
+    ) -> Update;
+    pub fn toggleash_v6_withdraw_local(words: *mut u32, n: usize, address: Ipv6, length: u32, feed: u32) -> Update;
+    pub fn toggleash_v6_run_local(
         words: *mut u32,
         n: usize,
         feed: *const u8,
@@ -230,6 +266,37 @@ extern "C" {
     ) -> Update;
     pub fn toggleash_damp_tick(front: *mut u32, m: usize, words: *mut u32, n: usize) -> Front;
     pub fn toggleash_damp_run(
+        front: *mut u32,
+        m: usize,
+        words: *mut u32,
+        n: usize,
+        feed: *const u8,
+        feed_len: usize,
+        reply: *mut u8,
+        reply_len: usize,
+    ) -> Ran;
+    pub fn toggleash_damp_announce_local(
+        front: *mut u32,
+        m: usize,
+        words: *mut u32,
+        n: usize,
+        address: u32,
+        length: u32,
+        hop: u32,
+        feed: u32,
+        preference: u8,
+    ) -> Update;
+    pub fn toggleash_damp_withdraw_local(
+        front: *mut u32,
+        m: usize,
+        words: *mut u32,
+        n: usize,
+        address: u32,
+        length: u32,
+        feed: u32,
+    ) -> Update;
+    pub fn toggleash_damp_tick_local(front: *mut u32, m: usize, words: *mut u32, n: usize) -> Front;
+    pub fn toggleash_damp_run_local(
         front: *mut u32,
         m: usize,
         words: *mut u32,

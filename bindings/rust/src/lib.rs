@@ -2,8 +2,8 @@
 //! dependencies.
 //!
 //! The words are the whole state, in the machine's byte order. A table of A arrays, A from 1 to 4,096, takes
-//! 3,072 × (A + 1) of them: [`words_for`] tells. Each call checks the words and its other input for itself, and answers
-//! or gives a [`Refusal`]; a refused call has changed nothing.
+//! 3,072 × (A + 1) of them: [`words_for`] tells. Each call checks its input for itself, and answers or gives a [`Refusal`]; a
+//! refused call has changed nothing.
 //!
 //! ```
 //! use toggleash::{words_for, Candidate, Lookup, Match, Table};
@@ -26,7 +26,9 @@
 //! A prefix holds a [`Candidate`] for each of up to four feeds, of which one wins. [`Table`] keeps words that are a table,
 //! [`ListCopy`] those of a read-only copy of its winners for a line card that only looks up. [`Record`] and [`Reply`] are the
 //! records of a feed and the replies to it. The calls that take slices of words, here and in [`copy`], are the same ones
-//! without these types: any words can be handed to them.
+//! without these types: any words can be handed to them. Of an update there are two: [`announce`], [`withdraw`] and [`run`] test
+//! the whole table first; [`announce_local`], [`withdraw_local`] and [`run_local`] test what they touch, as the calls of [`Table`]
+//! do, whose words are known to be a table.
 //!
 //! A table is of one family. For IPv6 there are [`Table6`], [`Prefix6`] and [`Record6`]; what is the same for both is said once,
 //! over the trait [`Family`] of their addresses, which has the calls on words too. Copies are of IPv4.
@@ -167,6 +169,9 @@ pub fn within(words: &[u32], address: Ipv4Addr, length: u32) -> Result<u32, Refu
 /// Gives a feed this candidate for a prefix, in place of the one that it had. For a prefix that has a candidate, of any feed,
 /// there is always room. Any length, hop and feed may be given; those out of their range are refused.
 ///
+/// The whole table is tested first, which takes milliseconds at 4,096 arrays: a call for words that something else may have
+/// written to. [`announce_local`] tests what it touches.
+///
 /// ```
 /// use std::net::Ipv4Addr;
 /// use toggleash::{announce, clear, Candidate, Refusal, Update};
@@ -194,7 +199,8 @@ pub fn announce(words: &mut [u32], address: Ipv4Addr, length: u32, candidate: Ca
     Ipv4Addr::announce(words, address, length, candidate)
 }
 
-/// Removes a feed's candidate for a prefix and gives the hop that it had.
+/// Removes a feed's candidate for a prefix and gives the hop that it had. The whole table is tested first; [`withdraw_local`]
+/// tests what it touches.
 ///
 /// # Errors
 /// In this order [`Refusal::WordCount`], [`Refusal::LengthOver`], [`Refusal::StrayBit`], [`Refusal::FeedOutOfRange`],
@@ -233,7 +239,7 @@ pub fn write_out<'a>(words: &[u32], buffer: &'a mut [u8]) -> Result<&'a mut [u8]
 }
 
 /// Takes the records of a feed in order and writes a reply to each but the end. The reply bytes past
-/// [`Ran::written`] stay. A refused record is replied to, and the run goes on.
+/// [`Ran::written`] stay. A refused record is replied to, and the run goes on. The table is tested once, before any record.
 ///
 /// ```
 /// use toggleash::{clear, run, Refusal, Stop};
@@ -254,6 +260,64 @@ pub fn write_out<'a>(words: &[u32], buffer: &'a mut [u8]) -> Result<&'a mut [u8]
 /// Before any record, [`Refusal::WordCount`] or [`Refusal::NotATable`].
 pub fn run(words: &mut [u32], feed: &[u8], reply: &mut [u8]) -> Result<Ran, Refusal> {
     Ipv4Addr::run(words, feed, reply)
+}
+
+/// As [`announce`], testing what it touches and no more: less than a microsecond however large the table is, where the test of
+/// the whole takes milliseconds at 4,096 arrays. On a table the answer and the words are the same, and the words a table again.
+/// [`Table::announce`](TableOf::announce) is this call.
+///
+/// Words that come from elsewhere are to be [`check`]ed once before. On words that are no table the call is safe too: where it
+/// answers, it has changed nothing but the arrays on the prefix's path, those gained for it, and the header; but it does not see
+/// damage elsewhere.
+///
+/// ```
+/// use std::net::Ipv4Addr;
+/// use toggleash::{announce, announce_local, check, clear, Candidate, Refusal};
+///
+/// # fn main() -> Result<(), Refusal> {
+/// let mut words = vec![0; 9_216];
+/// clear(&mut words)?;
+/// announce_local(&mut words, Ipv4Addr::new(10, 0, 0, 0), 9, Candidate::via(1))?;
+/// assert_eq!(check(&words)?.routes, 1);
+///
+/// // The tag of the array below the root: an update that goes there sees it, one in the root does not.
+/// words[2 * 3_072] += 1;
+/// let ten = Ipv4Addr::new(10, 0, 0, 0);
+/// assert_eq!(announce_local(&mut words, ten, 9, Candidate::via(2)), Err(Refusal::NotATable));
+/// assert_eq!(announce(&mut words, ten, 8, Candidate::via(2)), Err(Refusal::NotATable));
+/// assert_eq!(announce_local(&mut words, ten, 8, Candidate::via(2))?.hop, 2);
+/// # Ok(())
+/// # }
+/// ```
+///
+/// # Errors
+/// In this order [`Refusal::WordCount`], [`Refusal::LengthOver`], [`Refusal::StrayBit`], [`Refusal::HopOutOfRange`],
+/// [`Refusal::FeedOutOfRange`], [`Refusal::NotATable`] where what it touches is not as in a table, [`Refusal::NoRoom`].
+pub fn announce_local(
+    words: &mut [u32],
+    address: Ipv4Addr,
+    length: u32,
+    candidate: Candidate,
+) -> Result<Update, Refusal> {
+    Ipv4Addr::announce_local(words, address, length, candidate)
+}
+
+/// As [`withdraw`], testing what it touches and no more, see [`announce_local`]; the arrays freed may have changed too.
+///
+/// # Errors
+/// In this order [`Refusal::WordCount`], [`Refusal::LengthOver`], [`Refusal::StrayBit`], [`Refusal::FeedOutOfRange`],
+/// [`Refusal::NotATable`] where what it touches is not as in a table, [`Refusal::NotHeld`].
+pub fn withdraw_local(words: &mut [u32], address: Ipv4Addr, length: u32, feed: u32) -> Result<Update, Refusal> {
+    Ipv4Addr::withdraw_local(words, address, length, feed)
+}
+
+/// As [`run`], without its test at the start: each record is answered as by its local call, or as by [`lookup`]. One that is
+/// refused with [`Refusal::NotATable`] is replied to as any other refused one.
+///
+/// # Errors
+/// Before any record, [`Refusal::WordCount`].
+pub fn run_local(words: &mut [u32], feed: &[u8], reply: &mut [u8]) -> Result<Ran, Refusal> {
+    Ipv4Addr::run_local(words, feed, reply)
 }
 
 fn accepted(refusal: u32) -> Result<(), Refusal> {

@@ -55,8 +55,14 @@ pub type Table6<W> = TableOf<Ipv6Addr, W>;
 /// count(&six);
 /// ```
 ///
-/// Each call still checks for itself: a single update tests the whole table, which takes milliseconds at 4,096 arrays.
-/// Many updates go faster as one [`run`](Table::run).
+/// Updates test what they touch and no more, in less than a microsecond however large the table is: they are the local calls,
+/// [`announce_local`](crate::announce_local) and its like. That loses nothing here. A `TableOf` is made by clearing words, by
+/// testing them, or by cloning one; from then on the words are its own, or borrowed exclusively, nothing hands them out to be
+/// written, and each call leaves a table a table. On a table a local call answers and leaves what the one that tests all of it
+/// does. Should the words be changed all the same, by unsafe code or by a `W` that does not give the same words each time, the
+/// calls stay inside them and stay safe; they may not notice, and [`check`](TableOf::check) does. The calls that test
+/// the whole table first are those on slices, [`announce`](crate::announce), [`withdraw`](crate::withdraw) and
+/// [`run`](crate::run).
 ///
 /// ```
 /// use toggleash::{words_for, Candidate, Match, Table};
@@ -178,21 +184,21 @@ impl<A: Family, W: AsRef<[u32]> + AsMut<[u32]>> TableOf<A, W> {
     /// feed, there is always room.
     ///
     /// # Errors
-    /// [`Refusal::HopOutOfRange`], [`Refusal::FeedOutOfRange`], [`Refusal::NoRoom`].
+    /// [`Refusal::HopOutOfRange`], [`Refusal::FeedOutOfRange`], [`Refusal::NoRoom`]. [`Refusal::NotATable`] only where something
+    /// else has changed the words.
     pub fn announce(&mut self, prefix: PrefixOf<A>, candidate: Candidate) -> Result<Update, Refusal> {
-        A::announce(self.words.as_mut(), prefix.address(), prefix.length().into(), candidate)
+        A::announce_local(self.words.as_mut(), prefix.address(), prefix.length().into(), candidate)
     }
 
     /// Removes a feed's candidate for a prefix and gives the hop that it had.
     ///
     /// # Errors
-    /// [`Refusal::FeedOutOfRange`], [`Refusal::NotHeld`].
+    /// [`Refusal::FeedOutOfRange`], [`Refusal::NotHeld`]. [`Refusal::NotATable`] only where something else has changed the words.
     pub fn withdraw(&mut self, prefix: PrefixOf<A>, feed: u32) -> Result<Update, Refusal> {
-        A::withdraw(self.words.as_mut(), prefix.address(), prefix.length().into(), feed)
+        A::withdraw_local(self.words.as_mut(), prefix.address(), prefix.length().into(), feed)
     }
 
-    /// Takes the records of a feed in order and writes a reply to each but the end, see [`run`](crate::run). The table is
-    /// tested once.
+    /// Takes the records of a feed in order and writes a reply to each but the end, see [`run_local`](crate::run_local).
     ///
     /// ```
     /// use toggleash::{replies, words_for, Record, Reply, Table};
@@ -213,9 +219,9 @@ impl<A: Family, W: AsRef<[u32]> + AsMut<[u32]>> TableOf<A, W> {
     /// ```
     ///
     /// # Errors
-    /// [`Refusal::NotATable`] only where something else has changed the words.
+    /// None, unless something else has changed the number of words.
     pub fn run(&mut self, feed: &[u8], reply: &mut [u8]) -> Result<Ran, Refusal> {
-        A::run(self.words.as_mut(), feed, reply)
+        A::run_local(self.words.as_mut(), feed, reply)
     }
 }
 

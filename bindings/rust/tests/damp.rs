@@ -84,3 +84,43 @@ fn more_candidates_than_places_pass_undamped() {
     assert_eq!((ran.accepted, ran.refused), (600, 0));
     assert_eq!(front.check(), Ok(Held { places: MOST_PLACES as u32, held_back: 0 }));
 }
+
+#[test]
+fn local_calls_are_the_calls_before_a_table() {
+    let (mut front, mut table) = (vec![0; FRONT_WORDS], both().1.into_words());
+    let (mut other, mut words) = (front.clone(), table.clone());
+    let (ten, via) = ([10, 0, 0, 0].into(), Candidate::via);
+    for hop in 1..9 {
+        let local = damp::announce_local(&mut other, &mut words, ten, 24, via(hop));
+        assert_eq!(local, damp::announce(&mut front, &mut table, ten, 24, via(hop)));
+        let local = damp::withdraw_local(&mut other, &mut words, ten, 24, 1);
+        assert_eq!(local, damp::withdraw(&mut front, &mut table, ten, 24, 1));
+        assert_eq!((&other, &words), (&front, &table));
+    }
+    damp::announce(&mut front, &mut table, ten, 24, via(9)).unwrap();
+    damp::announce_local(&mut other, &mut words, ten, 24, via(9)).unwrap();
+    let (mut reply, mut replies) = ([0; 5], [0; 5]);
+    let ran = damp::run_local(&mut other, &mut words, &[TICK, 0], &mut replies);
+    assert_eq!(ran, damp::run(&mut front, &mut table, &[TICK, 0], &mut reply));
+    for _ in 0..9 {
+        assert_eq!(damp::tick_local(&mut other, &mut words), damp::tick(&mut front, &mut table));
+        assert_eq!((&other, &words, replies), (&front, &table, reply));
+    }
+}
+
+#[test]
+fn local_calls_on_words_that_are_no_table() {
+    let (mut front, mut words) = (vec![0; FRONT_WORDS], vec![u32::MAX; 6_144]);
+    front[..4].copy_from_slice(&[0x0A00_0000, 8 * 8 + 1, 2 * 1_000 + 1, 6]);
+    let ten = [10, 0, 0, 0].into();
+    let kept = (front.clone(), words.clone());
+    assert_eq!(damp::withdraw_local(&mut front, &mut words, ten, 8, 2), Err(Refusal::NotATable));
+    assert_eq!(damp::tick(&mut front, &mut words), Err(Refusal::NotATable));
+    assert_eq!((&front, &words), (&kept.0, &kept.1));
+    assert_eq!(
+        damp::announce_local(&mut front, &mut words, ten, 8, Candidate::via(7)),
+        Ok(Update { hop: 7, cells: 0 })
+    );
+    assert_eq!(damp::tick_local(&mut front, &mut words), Ok(Held { places: 1, held_back: 1 }));
+    assert_eq!((&front[..4], &words), (&[0x0A00_0000, 8 * 8 + 1, 2 * 500 + 1, 7][..], &kept.1));
+}

@@ -1,45 +1,21 @@
 -- The tests of totals where what they read has settled them: a law for each way out of a function. Assumes nothing.
-use mathlib.Core.Path.{_≡_, refl, sym, ap, _∙_}
+use mathlib.Core.Path.{_≡_, sym, _∙_}
 use mathlib.Core.Logic.{_≢_}
-use mathlib.Core.Bool.{Bool, true, false, true≢false, _&&_}
+use mathlib.Core.Bool.{Bool, true, false}
 use mathlib.Core.List.{List}
-use Prim.Native.Nat.{ℕ, suc, _+_, _-_, _*_, _≤_, _<_}
+use Prim.Native.Nat.{ℕ, _+_, _-_, _*_, _<_}
 use native.Mathlib.Omega.{arith}
 use lib.Dec.{eqb}
-use lib.ListN.{length, getD, List·getD-eq-default}
-use Rattle.logic.specs.Cases.{same}
+use lib.ListN.{List·getD-eq-default}
 use Rattle.logic.specs.Every.{allB}
-use Rattle.sizes.specs.Sizes.{slotAt, lastSlot, cellCount, cellSlots, innerSlots, bodyWords, totalAt, arrayAt, wordAt}
+use Rattle.sizes.specs.Sizes.{slotAt, lastSlot, cellSlots, bodyWords, totalAt, arrayAt, wordAt}
 use Rattle.slots.specs.Zeros.{zeroAt}
-use Rattle.slots.specs.Page.{wordsAt}
-use Rattle.slots.specs.Slot.{RightSlot, FreeSlot, freeSlotB, free-slot-reflects, free-won, won-free}
 use Rattle.tree.specs.Arrays.{Arrays}
-use Rattle.totals.specs.Sums.{some, some-none, some-one, sum, sum-none, sum-some}
-use Rattle.totals.specs.Check.{innerB, outerB, sumsB}
-use Rattle.words.specs.Words.{arraysOf, wordsOf, slotsOf, totalsOf}
+use Rattle.totals.specs.Sums.{some, sum, sum-none, sum-some}
+use Rattle.totals.specs.Check.{innerB, outerB}
+use Rattle.words.specs.Words.{totalsOf}
 use Rattle.words.specs.Table.{blankB}
 use Rattle.words.specs.Size.{Sized}
-
--- ---- a slot
-
-module _ (ws : List ℕ) (a s : ℕ) where
-  -- its words, read from the place of the first
-  slot-words : (f : ℕ) → 1 ≤ f → wordsAt ws (arrayAt a + slotAt s) f ≡ wordsOf ws a s f
-  slot-words f h = let e : arrayAt a + slotAt s + f - 1 ≡ wordAt a (slotAt s + f - 1) = omega arith in rw e
-
-  module _ (b : Bool) (e : b ≡ freeSlotB (wordsAt ws (arrayAt a + slotAt s))) where
-    pub held-none : b ≡ true → 0 ≡ some (slotsOf ws a s)
-    held-none t =
-        let z = free-slot-reflects _ .to (sym e ∙ t) in
-        sym (some-none _ (free-won (wordsOf ws a s) (λ f y. sym (slot-words f (y .low)) ∙ z f y)))
-
-    pub held-some : RightSlot (wordsOf ws a s) → b ≡ false → 1 ≡ some (slotsOf ws a s)
-    held-some r t =
-        same (slotsOf ws a s) 0
-        (λ z _. (let w : FreeSlot (wordsAt ws (arrayAt a + slotAt s)) =
-        λ f y. slot-words f (y .low) ∙ won-free (wordsOf ws a s) r z f y in
-        absurd (true≢false (sym (free-slot-reflects _ .from w) ∙ sym e ∙ t))))
-        (λ n _. sym (some-one _ (omega arith)))
 
 -- ---- the array below a cell
 
@@ -66,16 +42,6 @@ module _ (t : Arrays) (T : ℕ → ℕ → ℕ) (a : ℕ) where
   pub outer-is : (i x own below link : ℕ) → own ≡ some (t .slot a (cellSlots + i)) → link ≡ t .link a i → below ≡ sum T link 1
       → x ≡ T a (cellSlots + i) → eqb x (own + below) ≡ outerB t T a i
   outer-is i x own below link o l p e = rw (← o, ← l, ← p, ← e)
-
-  -- both
-  pub sums-first : (x : Bool) → x ≡ allB (innerB t T a) innerSlots → x ≡ false → false ≡ sumsB t T a
-  unfolding sumsB
-  sums-first x e p = rw (← e, p)
-
-  pub sums-both : (x y : Bool) → x ≡ allB (innerB t T a) innerSlots → x ≡ true → y ≡ allB (outerB t T a) cellCount
-      → y ≡ sumsB t T a
-  unfolding sumsB
-  sums-both x y e p f = rw (← e, p) f
 
 -- ---- a free array
 

@@ -1,30 +1,26 @@
-// Whether the totals of an array are right: one test a slot. They are added as usize, so that no sum of foreign totals wraps.
-use sizes::ARRAY_WORDS;
-use sizes::CELL_COUNT;
+// Whether the totals of slots are right: one test a slot. They are added as usize, so that no sum of foreign totals wraps.
+use super::rows::ROW_CELLS;
 use sizes::CELL_SLOTS;
 use sizes::INNER_SLOTS;
-use sizes::SLOT_WORDS;
+use sizes::SLOT_END;
 ghost use mathlib.Core.Path.{_≡_};
 ghost use Prim.Native.Nat.{_+_, _<_, _≤_};
-ghost use Rattle.sizes.specs.Sizes.{mostArrays, slotEnd, cellCount, cellSlots, innerSlots};
+ghost use lib.ListN.{getD};
+ghost use Rattle.sizes.specs.Sizes.{mostArrays, slotEnd, cellCount, innerSlots};
 ghost use Rattle.logic.specs.Every.{allB};
-ghost use Rattle.slots.specs.Slot.{RightSlot};
 ghost use Rattle.totals.specs.Sums.{some, sum};
-ghost use Rattle.totals.specs.Check.{innerB, outerB, sumsB};
-ghost use Rattle.words.specs.Words.{arraysOf, wordsOf, slotsOf, totalsOf};
-ghost use Rattle.words.specs.TableBut.{RightSlotsOf};
+ghost use Rattle.totals.specs.Check.{innerB, outerB};
+ghost use Rattle.words.specs.Words.{arraysOf, totalsOf};
 ghost use Rattle.words.specs.Size.{Sized};
+ghost use Rattle.audit.specs.Rows.{rowCells};
+ghost use Rattle.audit.specs.Won.{WonOf, plainB};
 
 // 1 for a slot that is taken, 0 for a free one.
-fn held(words: &[u32], n: usize, a: usize, s: usize) -> usize
-    requires { ⌜ Sized (now words) n × (a ≤ n) × (s < slotEnd) × RightSlot (wordsOf (now words) a s) ⌝ }
-    ensures { λ r. ⌜ (r ≡ some (slotsOf (now (words .entry)) a s)) × (r ≤ 1) ⌝ }
+fn held(won: &[u32; SLOT_END], s: usize) -> usize
+    requires { ⌜ s < slotEnd ⌝ }
+    ensures { λ r. ⌜ (r ≡ some (getD (now (won .entry)) s 0)) × (r ≤ 1) ⌝ }
 {
-    if slots::slot::is_free(words, ARRAY_WORDS * a + SLOT_WORDS * s) {
-        0
-    } else {
-        1
-    }
+    if won[s] == 0 { 0 } else { 1 }
 }
 
 fn wide(x: u32) -> usize
@@ -56,61 +52,62 @@ fn total_below(words: &[u32], n: usize, b: usize) -> usize
 }
 
 // Slot s + 1, which stands above two others, has its own prefix and what these have.
-fn inner_ok(words: &[u32], n: usize, a: usize, s: usize) -> bool
-    requires { ⌜ Sized (now words) n × (a ≤ n) × RightSlotsOf (now words) a × (s < innerSlots) ⌝ }
+fn inner_ok(words: &[u32], won: &[u32; SLOT_END], n: usize, a: usize, s: usize) -> bool
+    requires { ⌜ Sized (now words) n × (a ≤ n) × WonOf (now words) a (now won) × (s < innerSlots) ⌝ }
     ensures { λ r. ⌜ r ≡ innerB (arraysOf (now (words .entry))) (totalsOf (now (words .entry))) a s ⌝ }
 {
-    let own = held(words, n, a, s + 1);
+    let own = held(won, s + 1);
     let low = total(words, n, a, 2 * (s + 1));
     let high = total(words, n, a, 2 * (s + 1) + 1);
     total(words, n, a, s + 1) == own + (low + high)
 }
 
 // The slot above cell i has its own prefix and what the array below the cell has.
-fn outer_ok(words: &[u32], n: usize, a: usize, i: usize) -> bool
-    requires { ⌜ Sized (now words) n × (a ≤ n) × RightSlotsOf (now words) a × (i < cellCount) ⌝ }
+pub(crate) fn outer_ok(words: &[u32], won: &[u32; SLOT_END], n: usize, a: usize, i: usize) -> bool
+    requires { ⌜ Sized (now words) n × (a ≤ n) × WonOf (now words) a (now won) × (i < cellCount) ⌝ }
     ensures { λ r. ⌜ r ≡ outerB (arraysOf (now (words .entry))) (totalsOf (now (words .entry))) a i ⌝ }
 {
-    let own = held(words, n, a, CELL_SLOTS + i);
+    let own = held(won, CELL_SLOTS + i);
     let below = total_below(words, n, words::below(words, a, i));
     total(words, n, a, CELL_SLOTS + i) == own + below
 }
 
-fn inners_ok(words: &[u32], n: usize, a: usize) -> bool
-    requires { ⌜ Sized (now words) n × (a ≤ n) × RightSlotsOf (now words) a ⌝ }
+// The same of all of them.
+pub(crate) fn inners_ok(words: &[u32], won: &[u32; SLOT_END], n: usize, a: usize) -> bool
+    requires { ⌜ Sized (now words) n × (a ≤ n) × WonOf (now words) a (now won) ⌝ }
     ensures { λ r. ⌜ r ≡ allB (innerB (arraysOf (now (words .entry))) (totalsOf (now (words .entry))) a) innerSlots ⌝ }
 {
-    let mut s = 0;
-    while s < INNER_SLOTS {
-        if !inner_ok(words, n, a, s) {
-            return false;
-        }
-        s += 1;
+    let mut ok = true;
+    for s in 0..INNER_SLOTS {
+        ok = ok & inner_ok(words, won, n, a, s);
     }
-    true
+    ok
 }
 
-fn outers_ok(words: &[u32], n: usize, a: usize) -> bool
-    requires { ⌜ Sized (now words) n × (a ≤ n) × RightSlotsOf (now words) a ⌝ }
-    ensures { λ r. ⌜ r ≡ allB (outerB (arraysOf (now (words .entry))) (totalsOf (now (words .entry))) a) cellCount ⌝ }
+// The slot above cell i has its own prefix alone.
+fn plain_ok(words: &[u32], won: &[u32; SLOT_END], n: usize, a: usize, i: usize) -> bool
+    requires { ⌜ Sized (now words) n × (a ≤ n) × WonOf (now words) a (now won) × (i < cellCount) ⌝ }
+    ensures { λ r. ⌜ r ≡ plainB (arraysOf (now (words .entry))) (totalsOf (now (words .entry))) a i ⌝ }
 {
-    let mut i = 0;
-    while i < CELL_COUNT {
-        if !outer_ok(words, n, a, i) {
-            return false;
-        }
-        i += 1;
-    }
-    true
+    let own = held(won, CELL_SLOTS + i);
+    total(words, n, a, CELL_SLOTS + i) == own
 }
 
-// The totals of array a, whose slots are right, are right.
-pub(crate) fn sums_ok(words: &[u32], n: usize, a: usize) -> bool
-    requires { ⌜ Sized (now words) n × (a ≤ n) × RightSlotsOf (now words) a ⌝ }
-    ensures { λ r. ⌜ r ≡ sumsB (arraysOf (now (words .entry))) (totalsOf (now (words .entry))) a ⌝ }
+// The same of each slot of a row.
+pub(crate) fn plains_in(
+    words: &[u32],
+    won: &[u32; SLOT_END],
+    n: usize,
+    a: usize,
+    from: usize,
+) -> bool
+    requires { ⌜ Sized (now words) n × (a ≤ n) × WonOf (now words) a (now won) × (from + rowCells ≤ cellCount) ⌝ }
+    ensures { λ r. ⌜ r
+        ≡ allB (λ j. plainB (arraysOf (now (words .entry))) (totalsOf (now (words .entry))) a (from + j)) rowCells ⌝ }
 {
-    if !inners_ok(words, n, a) {
-        return false;
+    let mut ok = true;
+    for j in 0..ROW_CELLS {
+        ok = ok & plain_ok(words, won, n, a, from + j);
     }
-    outers_ok(words, n, a)
+    ok
 }

@@ -131,6 +131,7 @@ update-below F ws vs u r p =
         kept = λ q. kept y refl (sym (ap isRefused e) ∙ q);
         still = p .still;
         frame = p .frame;
+        words = p .words;
       };
     }
   where
@@ -198,6 +199,7 @@ run-below F ws bytes b vs c r p =
         replies = p .replies;
         kept = λ n q. p .kept n (unfit (runOn F (seen (levels F) ws) bytes b) n q);
         series = p .series;
+        words = p .words;
       };
     }
   where

@@ -87,9 +87,10 @@ hung ws p i a =
 hung-gained : (ws : List ℕ) (p i a : ℕ) → Ends ws p i a → Gained ws (hung ws p i a) p i a
 unfolding hung
 hung-gained ws p i a g =
-    rehangs ws (relinked (pageOf ws p) i a) p i a _ a _ _ g
-    (relinked-right (pageOf ws p) i a (page-length ws p (g .inside)) (g .cells) (rw (lent-best ws p i (g .cells)) (g .small))
-    (omega (arith, g .some)) (omega (arith, g .within, g .size)))
+    let r = relinked-right (pageOf ws p) i a (page-length ws p (g .inside)) (g .cells)
+    (rw (lent-best ws p i (g .cells)) (g .small))
+    (omega (arith, g .some)) (omega (arith, g .within, g .size)) in
+    rehangs ws (relinked (pageOf ws p) i a) p i a _ a _ _ g (r .size) r
 
 module _ (k q i : ℕ) (ws : List ℕ) (row : Row k q ws) (more : k < 3) (cell : i < cellCount) where
   abbrev t : Arrays

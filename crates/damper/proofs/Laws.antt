@@ -14,9 +14,14 @@ use Rattle.feed.specs.Runs.{runAnswer}
 use Rattle.damping.specs.declared.held.Checked.{Checked}
 use Rattle.damping.specs.declared.held.Checked.the-variants as checked
 use Rattle.damping.specs.Update.{HasDamped}
+use Rattle.damping.specs.Frame.{still, frame}
+use Rattle.damping.specs.Locally.{HasDampedLocally}
 use Rattle.damping.specs.Held.{checkAnswer, HasTicked as Ticked}
+use Rattle.damping.specs.Ticks.{HasTickedLocally as TickedLocally}
 use Rattle.damping_run.specs.Runs.{reported, HasRun as Run}
+use Rattle.damping_run.specs.Locally.{HasRunLocally as RunLocally}
 use Rattle.damper.specs.Face.{held, updated, ran, HasUpdated, HasTicked, HasRun}
+use Rattle.damper.specs.Face.{HasUpdatedLocally, HasTickedLocally, HasRunLocally}
 use Rattle.damper.specs.declared.Front.{Front}
 use Rattle.damper.specs.declared.Updated.{Updated}
 use Rattle.damper.specs.declared.Ran.{Ran as Fields}
@@ -29,7 +34,14 @@ made fs ws gs vs u y r p e =
       list = p .list;
       places = p .places;
       kept = λ n z. p .kept (ap isRefused (p .answer ∙ z));
+      still = still p;
+      frame = frame p;
     }
+
+pub made-locally : (fs ws gs vs : List ℕ) (u : Update) (y : Reply) (r : Updated) → HasDampedLocally fs ws gs vs u y
+    → r ≡ updated (saidReply y) → HasUpdatedLocally fs ws gs vs u r
+made-locally fs ws gs vs u y r p e =
+    record { reply = y; call = p; answer = e; table = λ t. made fs ws gs vs u y r (p .table t) e }
 
 check-refused : (y : Checked) (n : ℕ) → checkAnswer y ≡ refuses n → y ≡ checked.Refused n
 check-refused (checked.Held m b) n e = let z : _≡_ {A = ℕ} 0 1 = cc in absurd (omega arith)
@@ -43,7 +55,13 @@ ticked fs ws gs vs y r p e =
       list = p .list;
       places = p .places;
       kept = λ n z. p .kept n (check-refused y n (p .answer ∙ z));
+      behind = p .behind;
     }
+
+pub ticked-locally : (fs ws gs vs : List ℕ) (y : Checked) (r : Front) → TickedLocally fs ws gs vs y
+    → r ≡ held (checkAnswer y) → HasTickedLocally fs ws gs vs r
+ticked-locally fs ws gs vs y r p e =
+    record { count = y; call = p; answer = e; table = λ t. ticked fs ws gs vs y r (p .table t) e }
 
 run-refused : (y : Outcome) (n : ℕ) → runAnswer y ≡ refuses n → y ≡ Unfit n
 run-refused (Stopped r) n e = let z : _≡_ {A = ℕ} 0 1 = cc in absurd (omega arith)
@@ -60,3 +78,8 @@ ran-so fs ws feed b gs vs c y r p e =
       kept = λ n z. p .kept n (run-refused y n (p .answer ∙ ap reported z));
       series = p .series;
     }
+
+pub ran-locally : (fs ws feed b gs vs c : List ℕ) (y : Outcome) (r : Fields) → RunLocally fs ws feed b gs vs c y
+    → r ≡ ran (runAnswer y) → HasRunLocally fs ws feed b gs vs c r
+ran-locally fs ws feed b gs vs c y r p e =
+    record { outcome = y; call = p; answer = e; table = λ t. ran-so fs ws feed b gs vs c y r (p .table t) e }

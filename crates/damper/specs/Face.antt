@@ -1,18 +1,35 @@
 -- What the numbers of the front's C face say: the refusal's number, or 0 and the values; every field not meant is 0. Assumes
 -- nothing.
 use mathlib.Core.Path.{_≡_}
+use mathlib.Core.Logic.{_⊎_}
 use mathlib.Core.List.{List}
-use Prim.Native.Nat.{ℕ}
+use Prim.Native.Nat.{ℕ, _≤_}
 use Rattle.routes.specs.Answers.{Reply, done, found, none, refused}
 use Rattle.routes.specs.Seen.{Answer, gives, refuses}
 use Rattle.candidates.specs.Answers.{Update}
-use Rattle.words.specs.Table.{seen}
+use Rattle.words.specs.Words.{arrayCount}
+use Rattle.words.specs.Table.{listOf, seen}
+use Rattle.words.specs.TableBut.{Table}
+use Rattle.paths.specs.Alike.{Alike}
+use Rattle.replies.specs.Said.{saidReply}
+use Rattle.replies.specs.declared.Reply as code
+use Rattle.update.specs.Update.{Touches}
+use Rattle.feed.specs.Runs.{runAnswer}
 use Rattle.feed.specs.declared.Report.{Report}
+use Rattle.feed.specs.declared.Ran.{Ran as Outcome}
+use Rattle.front.specs.Front.{halve, each}
 use Rattle.front.specs.Seen.{Held, dampedOn, behindOn, placesOn, tickOn, behindTick, placesTick}
 use Rattle.front.specs.Seen.{runOn, ranBehind, ranPlaces, repliedOn, eventsOn, answersOn}
+use Rattle.rows.specs.Row.{placesOf}
 use Rattle.damping.specs.View.{seenFront}
+use Rattle.damping.specs.Locally.{HasDampedLocally}
+use Rattle.damping.specs.Behind.{news, Installs}
+use Rattle.damping.specs.Held.{checkAnswer}
+use Rattle.damping.specs.Ticks as front
+use Rattle.damping.specs.declared.held.Checked.{Checked}
 use Rattle.damping_run.specs.Series.{Series}
 use Rattle.damping_run.specs.Runs.{standing, reported}
+use Rattle.damping_run.specs.Locally as fed
 use Rattle.damper.specs.declared.Front.{Front}
 use Rattle.damper.specs.declared.Updated.{Updated}
 use Rattle.damper.specs.declared.Ran.{Ran as Fields}
@@ -47,12 +64,17 @@ pub record HasUpdated (fs ws gs vs : List ℕ) (u : Update) (r : Updated) : Type
   pub list : seen 4 vs ≡ behindOn 32 (seenFront fs) (seen 4 ws) u
   pub places : seenFront gs ≡ placesOn 32 (seenFront fs) (seen 4 ws) u
   pub kept : (n : ℕ) → dampedOn 32 (seenFront fs) (seen 4 ws) u ≡ refused n → (gs ≡ fs) × (vs ≡ ws)
+  -- where the table is seen as before no word of it is changed, and an array off the prefix's path never is
+  pub still : seen 4 vs ≡ seen 4 ws → vs ≡ ws
+  pub frame : (c : ℕ) → 1 ≤ c → ¬ Touches 4 u ws vs c → Alike ws vs c
 
 pub record HasTicked (fs ws gs vs : List ℕ) (r : Front) : Type 0 where
   pub answer : r ≡ held (tickOn 32 (seenFront fs) (seen 4 ws))
   pub list : seen 4 vs ≡ behindTick 32 (seenFront fs) (seen 4 ws)
   pub places : seenFront gs ≡ placesTick 32 (seenFront fs) (seen 4 ws)
   pub kept : (n : ℕ) → tickOn 32 (seenFront fs) (seen 4 ws) ≡ refuses n → (gs ≡ fs) × (vs ≡ ws)
+  -- no word of the table is changed, or it is by the table's own calls alone, one for each that is installed
+  pub behind : (vs ≡ ws) ⊎ Installs ws (news (arrayCount ws) (listOf 4 ws) (each halve (placesOf fs))) vs
 
 pub record HasRun (fs ws feed b gs vs c : List ℕ) (r : Fields) : Type 0 where
   pub answer : r ≡ ran (reported (runOn (standing fs ws) feed b))
@@ -62,3 +84,23 @@ pub record HasRun (fs ws feed b gs vs c : List ℕ) (r : Fields) : Type 0 where
   pub kept : (n : ℕ) → runOn (standing fs ws) feed b ≡ refuses n → (gs ≡ fs) × (vs ≡ ws)
   -- a call for each record and tick taken: a lookup, and a record that is refused, leave every word
   pub series : Series fs ws (eventsOn (standing fs ws) feed b) (answersOn (standing fs ws) feed b) gs vs
+
+-- ---- the local calls: those below, their answers in plain numbers; on a table, the calls above
+
+pub record HasUpdatedLocally (fs ws gs vs : List ℕ) (u : Update) (r : Updated) : Type 0 where
+  pub reply : code.Reply
+  pub call : HasDampedLocally fs ws gs vs u reply
+  pub answer : r ≡ updated (saidReply reply)
+  pub table : Table 4 ws → HasUpdated fs ws gs vs u r
+
+pub record HasTickedLocally (fs ws gs vs : List ℕ) (r : Front) : Type 0 where
+  pub count : Checked
+  pub call : front.HasTickedLocally fs ws gs vs count
+  pub answer : r ≡ held (checkAnswer count)
+  pub table : Table 4 ws → HasTicked fs ws gs vs r
+
+pub record HasRunLocally (fs ws feed b gs vs c : List ℕ) (r : Fields) : Type 0 where
+  pub outcome : Outcome
+  pub call : fed.HasRunLocally fs ws feed b gs vs c outcome
+  pub answer : r ≡ ran (runAnswer outcome)
+  pub table : Table 4 ws → HasRun fs ws feed b gs vs c r

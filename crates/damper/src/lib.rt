@@ -10,6 +10,7 @@ ghost use Rattle.front.specs.Seen.{checkFront};
 ghost use Rattle.damping.specs.View.{seenFront};
 ghost use Rattle.damping.specs.Held.{checkAnswer, HasCleared};
 ghost use Rattle.damper.specs.Face.{held, updated, ran, HasUpdated, HasTicked, HasRun};
+ghost use Rattle.damper.specs.Face.{HasUpdatedLocally, HasTickedLocally, HasRunLocally};
 
 // The numbers of places and of candidates held back.
 #[repr(C)]
@@ -178,4 +179,56 @@ pub extern "C" fn toggleash_damp_run(
         (now (front .exit)) (now (words .exit)) (now (reply .exit)) r ⌝ }
 {
     report(damping_run::run(front, words, feed, reply))
+}
+
+// ---- the same, testing the front and of the table what they touch
+
+#[no_mangle]
+pub extern "C" fn toggleash_damp_announce_local(
+    front: &mut [u32],
+    words: &mut [u32],
+    address: u32,
+    length: u32,
+    hop: u32,
+    feed: u32,
+    preference: u8,
+) -> Updated
+    ensures { λ r. ⌜ HasUpdatedLocally (now (front .entry)) (now (words .entry)) (now (front .exit)) (now (words .exit))
+        (announced address length hop feed preference) r ⌝ }
+{
+    change(damping::announce_local(front, words, address, length, hop, feed, preference))
+}
+
+#[no_mangle]
+pub extern "C" fn toggleash_damp_withdraw_local(
+    front: &mut [u32],
+    words: &mut [u32],
+    address: u32,
+    length: u32,
+    feed: u32,
+) -> Updated
+    ensures { λ r. ⌜ HasUpdatedLocally (now (front .entry)) (now (words .entry)) (now (front .exit)) (now (words .exit))
+        (withdrawn address length feed) r ⌝ }
+{
+    change(damping::withdraw_local(front, words, address, length, feed))
+}
+
+#[no_mangle]
+pub extern "C" fn toggleash_damp_tick_local(front: &mut [u32], words: &mut [u32]) -> Front
+    ensures { λ r. ⌜ HasTickedLocally (now (front .entry)) (now (words .entry)) (now (front .exit)) (now (words .exit)) r ⌝ }
+{
+    counts(damping::tick::tick_local(front, words))
+}
+
+#[no_mangle]
+pub extern "C" fn toggleash_damp_run_local(
+    front: &mut [u32],
+    words: &mut [u32],
+    feed: &[u8],
+    reply: &mut [u8],
+) -> Ran
+    ensures { λ r. ⌜ HasRunLocally (now (front .entry)) (now (words .entry)) (now (feed .entry)) (now (reply .entry))
+        (now (front .exit)) (now (words .exit)) (now (reply .exit)) r ⌝ }
+{
+    report(damping_run::run_local(front, words, feed, reply))
 }

@@ -1,7 +1,12 @@
 pub mod View
+pub mod Work
 pub mod Update
 pub mod Refuse
+pub mod Locally
 pub mod Count
 pub mod Tick
+pub mod Behind
 pub mod Held
+pub mod Ticks
 pub mod Sharp
+pub mod Frame

@@ -1,6 +1,6 @@
 -- The refusals that come before the work on a front and a table, in document 02's order. Assumes nothing.
 use mathlib.Core.Path.{_≡_, refl, sym, ap, _∙_}
-use mathlib.Core.Logic.{_≢_}
+use mathlib.Core.Logic.{_≢_, inl}
 use mathlib.Core.Bool.{Bool, true, false, cond, true≢false}
 use mathlib.Core.List.{List}
 use Prim.Native.Nat.{ℕ, _<_}
@@ -16,11 +16,11 @@ use Rattle.candidates.specs.Seen.{table}
 use Rattle.words.specs.Words.{arrayCount}
 use Rattle.words.specs.Table.{listOf, seen}
 use Rattle.words.specs.TableBut.{Table}
-use Rattle.words.specs.View.{seen-cases, seen-table}
+use Rattle.words.specs.View.{seen-cases}
 use Rattle.replies.specs.declared.Reply.the-variants.{Refused}
-use Rattle.update.specs.Update.{faultOf, refusalOf}
-use Rattle.update.specs.Fault.{faulty-by}
-use Rattle.update.specs.Refuse.{refusal-size, refusal-fault, refusal-foreign, refusal-none, refuses-table, passed}
+use Rattle.update.specs.Update.{refusalOf}
+use Rattle.update.specs.Fault.{faultOf, faulty-by}
+use Rattle.update.specs.Refuse.{refusal-size, refusal-fault, refusal-foreign, refusal-none, passed}
 use Rattle.rivals.specs.Updates.{unsound-after}
 use Rattle.front.specs.Place.{Place}
 use Rattle.front.specs.Front.{Step, updated, passed as on}
@@ -28,11 +28,15 @@ use Rattle.front.specs.Seen.{front, dampedOn, behindOn, placesOn}
 use Rattle.rows.specs.Row.{rowAt, frontB, placesOf, IsWords}
 use Rattle.rows.specs.Told.{words-to}
 use Rattle.damping.specs.View.{seenFront, seen-true, seen-alien}
-use Rattle.damping.specs.Update.{HasDamped, unsound-on}
+use Rattle.damping.specs.Update.{HasDamped}
+
+-- 2 for words that are no front, or 0
+abbrev pub frontNumber : List ℕ → ℕ
+frontNumber fs = cond (frontB fs) 0 2
 
 -- the first number before the work, 0 where there is none
 abbrev pub refusalThrough : List ℕ → List ℕ → ℕ → ℕ
-refusalThrough fs ws f = cond (eqb (refusalOf 4 ws f) 0) (cond (frontB fs) 0 2) (refusalOf 4 ws f)
+refusalThrough fs ws f = cond (eqb (refusalOf 4 ws f) 0) (frontNumber fs) (refusalOf 4 ws f)
 
 -- ---- what no fault says
 
@@ -47,14 +51,6 @@ fault-unsound u n =
     faulty-by 32 u (done 0 0) ∙ rw (ne-eqb (faultOf 32 u) 0 n) in
     ap isDone f
 
--- ---- on a front and a table
-
-pub faults-on : (fs ws : List ℕ) (u : Update) (n : ℕ) → IsWords fs → Table 4 ws → n ≡ faultOf 32 u → n ≢ 0
-    → HasDamped fs ws fs ws u (Refused n)
-faults-on fs ws u n w t e z =
-    unsound-on fs ws w (arrayCount ws) (listOf 4 ws) (seen-table 4 ws t) ws u (Refused n)
-    (fault-unsound u (λ q. z (e ∙ q))) (refuses-table 4 ws u n t e z)
-
 -- ---- on any words
 
 module _ (fs ws : List ℕ) (f : ℕ) where
@@ -66,6 +62,9 @@ module _ (fs ws : List ℕ) (f : ℕ) where
 
   pub refusal-passed : (n : ℕ) → n ≡ refusalOf 4 ws f → n ≡ 0 → frontB fs ≡ true → 0 ≡ refusalThrough fs ws f
   refusal-passed n e z b = rw (sym e ∙ z, b)
+
+  pub refusal-rest : (n r : ℕ) → n ≡ refusalOf 4 ws f → n ≡ 0 → r ≡ frontNumber fs → r ≡ refusalThrough fs ws f
+  refusal-rest n r e z y = rw (sym e ∙ z) y
 
 -- a test that reflects being a front is the flat one
 pub front-is : (fs : List ℕ) (b : Bool) → Reflects b (IsWords fs) → Reflects (frontB fs) (IsWords fs) → b ≡ frontB fs
@@ -79,7 +78,8 @@ module _ (fs ws : List ℕ) (u : Update) where
   refuses : (n : ℕ) → dampedOn 32 (seenFront fs) (seen 4 ws) u ≡ refused n
       → behindOn 32 (seenFront fs) (seen 4 ws) u ≡ seen 4 ws → placesOn 32 (seenFront fs) (seen 4 ws) u ≡ seenFront fs
       → HasDamped fs ws fs ws u (Refused n)
-  refuses n a l p = record { answer = sym a; list = sym l; places = sym p; kept = λ _. (refl, refl); front = λ w. w }
+  refuses n a l p =
+      record { answer = sym a; list = sym l; places = sym p; kept = λ _. (refl, refl); front = λ w. w; behind = inl refl }
 
   faulted : (n : ℕ) → n ≡ faultOf 32 u → n ≢ 0 → (r : Reply) → faulty 32 u r ≡ refused n
   faulted n e z r = faulty-by 32 u r ∙ rw (← e, ne-eqb n 0 z)

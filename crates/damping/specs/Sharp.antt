@@ -1,6 +1,7 @@
 -- What the calls through a front promise leaves no choice: two outcomes that they allow agree in the answer, in what is seen of
 -- the table and of the front, where the words were a front in every word of it, and, refused, in all words. Assumes nothing.
 use mathlib.Core.Path.{_≡_, sym, ap, _∙_}
+use mathlib.Core.Logic.{_≢_}
 use mathlib.Core.Bool.{true}
 use mathlib.Core.List.{List, []}
 use Prim.Native.Nat.{ℕ}
@@ -9,6 +10,7 @@ use Rattle.routes.specs.Answers.{isRefused}
 use Rattle.routes.specs.Seen.{Answer, gives, refuses}
 use Rattle.candidates.specs.Answers.{Update}
 use Rattle.words.specs.Table.{seen}
+use Rattle.words.specs.TableBut.{Table}
 use Rattle.replies.specs.Said.{saidReply, reply-one}
 use Rattle.replies.specs.declared.Reply.{Reply}
 use Rattle.front.specs.Place.{Place}
@@ -17,7 +19,9 @@ use Rattle.rows.specs.Row.{IsWords}
 use Rattle.rows.specs.One.{one-words}
 use Rattle.damping.specs.View.{seenFront, seen-front}
 use Rattle.damping.specs.Update.{HasDamped}
-use Rattle.damping.specs.Held.{checkAnswer, HasTicked}
+use Rattle.damping.specs.Locally.{HasDampedLocally}
+use Rattle.damping.specs.Held.{checkAnswer, HasCleared, HasTicked}
+use Rattle.damping.specs.Ticks.{HasTickedLocally}
 use Rattle.damping.specs.declared.held.Checked as code
 use Rattle.damping.specs.declared.held.Checked.the-variants as checked
 
@@ -33,6 +37,15 @@ placesIn (front ps) = ps
 -- words of a front that are seen alike are the same
 pub front-one : (gs hs : List ℕ) → IsWords gs → IsWords hs → seenFront gs ≡ seenFront hs → gs ≡ hs
 front-one gs hs w x e = one-words gs hs w x (ap placesIn (sym (seen-front gs w) ∙ e ∙ seen-front hs x))
+
+-- ---- clearing
+
+pub clear-sharp : (fs gs hs : List ℕ) (r s : ℕ) → HasCleared fs gs r → HasCleared fs hs s
+    → (r ≡ s) × (seenFront gs ≡ seenFront hs) × (IsWords gs → IsWords hs → gs ≡ hs) × (r ≢ 0 → gs ≡ hs)
+clear-sharp fs gs hs r s p q =
+    let e : r ≡ s = p .answer ∙ sym (q .answer) in
+    let a : seenFront gs ≡ seenFront hs = p .places ∙ sym (q .places) in
+    (e, a, λ w x. front-one gs hs w x a, λ n. p .kept n ∙ sym (q .kept (λ z. n (e ∙ z))))
 
 -- ---- updates
 
@@ -53,6 +66,11 @@ sharp fs ws gs vs hs us u r s p q =
       front = λ w. front-one gs hs (p .front w) (q .front w) a;
       words = λ z. (p .kept z .0 ∙ sym (q .kept (rw e at z) .0), p .kept z .1 ∙ sym (q .kept (rw e at z) .1));
     }
+
+-- on a table a local call and the one that tests all of it agree
+pub local-sharp : (fs ws gs vs hs us : List ℕ) (u : Update) (r s : Reply) → Table 4 ws → HasDampedLocally fs ws gs vs u r
+    → HasDamped fs ws hs us u s → Agree fs gs vs hs us r s
+local-sharp fs ws gs vs hs us u r s t p = sharp fs ws gs vs hs us u r s (p .table t)
 
 -- ---- ticks
 
@@ -87,3 +105,7 @@ tick-sharp fs ws gs vs hs us r s p q =
       words = λ n z.
           (p .kept n z .0 ∙ sym (q .kept n (sym e ∙ z) .0), p .kept n z .1 ∙ sym (q .kept n (sym e ∙ z) .1));
     }
+
+pub tick-local-sharp : (fs ws gs vs hs us : List ℕ) (r s : code.Checked) → Table 4 ws → HasTickedLocally fs ws gs vs r
+    → HasTicked fs ws hs us s → TicksAgree fs gs vs hs us r s
+tick-local-sharp fs ws gs vs hs us r s t p = tick-sharp fs ws gs vs hs us r s (p .table t)

@@ -1,5 +1,6 @@
 // Updates through a front before a table: a candidate that is held back is kept and dropped in the front, any other goes to the
-// table, and an accepted withdrawal is charged.
+// table, and an accepted withdrawal is charged. Each is there for callers who lend any words: one that tests both memories whole,
+// and a local one that tests the front, and of the table what it touches.
 pub mod held; // a front checked and cleared
 pub mod tick; // a tick of both
 
@@ -7,13 +8,13 @@ use replies::Reply;
 ghost use mathlib.Core.Path.{_≡_};
 ghost use Rattle.routes.specs.Answers.{isDone};
 ghost use Rattle.candidates.specs.Answers.{announce as announced, withdraw as withdrawn};
-ghost use Rattle.words.specs.TableBut.{Table};
 ghost use Rattle.replies.specs.Said.{saidReply};
-ghost use Rattle.rows.specs.Row.{IsWords};
-ghost use Rattle.damping.specs.Update.{HasDamped, Damps};
-ghost use Rattle.damping.specs.Refuse.{refusalThrough};
+ghost use Rattle.damping.specs.Work.{Damped, Damps};
+ghost use Rattle.damping.specs.Update.{HasDamped};
+ghost use Rattle.damping.specs.Refuse.{frontNumber, refusalThrough};
+ghost use Rattle.damping.specs.Locally.{Ready, refusalBefore, HasDampedLocally};
 
-// ---- the work, on a front and a table
+// ---- the work, on a front and any words of a right size; a caller who knows these to be a table spares their tests
 
 fn announce_in(
     front: &mut [u32],
@@ -23,9 +24,10 @@ fn announce_in(
     hop: u32,
     feed: u32,
     preference: u8,
+    known: bool,
 ) -> Reply
-    requires { ⌜ Damps (now front) (now words) (announced address length hop feed preference) ⌝ }
-    ensures { λ r. ⌜ HasDamped (now (front .entry)) (now (words .entry)) (now (front .exit)) (now (words .exit))
+    requires { ⌜ Damps (now front) (now words) (announced address length hop feed preference) known ⌝ }
+    ensures { λ r. ⌜ Damped (now (front .entry)) (now (words .entry)) (now (front .exit)) (now (words .exit))
         (announced address length hop feed preference) r ⌝ }
 {
     let spot = charge::find(front, address, length, feed);
@@ -34,7 +36,7 @@ fn announce_in(
         return Reply::Done(hop, 0);
     }
     let bytes = address::four_of(address);
-    update::announce_on(words, &bytes, length, hop, feed, preference)
+    update::announce_with(words, &bytes, length, hop, feed, preference, known)
 }
 
 fn is_done(r: Reply) -> bool
@@ -48,9 +50,16 @@ fn is_done(r: Reply) -> bool
     }
 }
 
-fn withdraw_in(front: &mut [u32], words: &mut [u32], address: u32, length: u32, feed: u32) -> Reply
-    requires { ⌜ Damps (now front) (now words) (withdrawn address length feed) ⌝ }
-    ensures { λ r. ⌜ HasDamped (now (front .entry)) (now (words .entry)) (now (front .exit)) (now (words .exit))
+fn withdraw_in(
+    front: &mut [u32],
+    words: &mut [u32],
+    address: u32,
+    length: u32,
+    feed: u32,
+    known: bool,
+) -> Reply
+    requires { ⌜ Damps (now front) (now words) (withdrawn address length feed) known ⌝ }
+    ensures { λ r. ⌜ Damped (now (front .entry)) (now (words .entry)) (now (front .exit)) (now (words .exit))
         (withdrawn address length feed) r ⌝ }
 {
     let spot = charge::find(front, address, length, feed);
@@ -62,16 +71,16 @@ fn withdraw_in(front: &mut [u32], words: &mut [u32], address: u32, length: u32, 
         return Reply::Done(spot.kept % 65536, 0);
     }
     let bytes = address::four_of(address);
-    let r = update::withdraw_on(words, &bytes, length, feed);
+    let r = update::withdraw_with(words, &bytes, length, feed, known);
     if is_done(r) {
         charge::charge(front, spot, address, length, feed);
     }
     r
 }
 
-// ---- updates of a front and a table, by callers that know them to be such
+// ---- updates by callers who know the front to be one, and the size of the table's words to be right: a run has tested both
 
-pub fn announce_on(
+pub fn announce_with(
     front: &mut [u32],
     words: &mut [u32],
     address: u32,
@@ -79,9 +88,10 @@ pub fn announce_on(
     hop: u32,
     feed: u32,
     preference: u8,
+    known: bool,
 ) -> Reply
-    requires { ⌜ IsWords (now front) × Table 4 (now words) ⌝ }
-    ensures { λ r. ⌜ HasDamped (now (front .entry)) (now (words .entry)) (now (front .exit)) (now (words .exit))
+    requires { ⌜ Ready (now front) (now words) known ⌝ }
+    ensures { λ r. ⌜ HasDampedLocally (now (front .entry)) (now (words .entry)) (now (front .exit)) (now (words .exit))
         (announced address length hop feed preference) r ⌝ }
 {
     let bytes = address::four_of(address);
@@ -89,18 +99,19 @@ pub fn announce_on(
     if f != 0 {
         return Reply::Refused(f);
     }
-    announce_in(front, words, address, length, hop, feed, preference)
+    announce_in(front, words, address, length, hop, feed, preference, known)
 }
 
-pub fn withdraw_on(
+pub fn withdraw_with(
     front: &mut [u32],
     words: &mut [u32],
     address: u32,
     length: u32,
     feed: u32,
+    known: bool,
 ) -> Reply
-    requires { ⌜ IsWords (now front) × Table 4 (now words) ⌝ }
-    ensures { λ r. ⌜ HasDamped (now (front .entry)) (now (words .entry)) (now (front .exit)) (now (words .exit))
+    requires { ⌜ Ready (now front) (now words) known ⌝ }
+    ensures { λ r. ⌜ HasDampedLocally (now (front .entry)) (now (words .entry)) (now (front .exit)) (now (words .exit))
         (withdrawn address length feed) r ⌝ }
 {
     let bytes = address::four_of(address);
@@ -108,10 +119,20 @@ pub fn withdraw_on(
     if f != 0 {
         return Reply::Refused(f);
     }
-    withdraw_in(front, words, address, length, feed)
+    withdraw_in(front, words, address, length, feed, known)
 }
 
-// ---- updates of any words
+// 2 for words that are no front, or 0.
+fn front_fault(front: &[u32]) -> u32
+    ensures { λ r. ⌜ r ≡ frontNumber (now (front .entry)) ⌝ }
+{
+    if !rows::is_front(front) {
+        return 2;
+    }
+    0
+}
+
+// ---- updates of any words that test both memories whole
 
 // The first of 1, an update's own fault (0 for none) and 2 that applies, or 0: then there is no fault, and the words are a front
 // and a table.
@@ -122,10 +143,7 @@ pub fn refusal(front: &[u32], words: &[u32], fault: u32) -> u32
     if n != 0 {
         return n;
     }
-    if !rows::is_front(front) {
-        return 2;
-    }
-    0
+    front_fault(front)
 }
 
 // A candidate announced: refused with the first of 1, 3, 4, 5, 10, 2 and 8 that applies, kept, or held afterwards.
@@ -150,7 +168,7 @@ pub fn announce(
     if n != 0 {
         return Reply::Refused(n);
     }
-    announce_in(front, words, address, length, hop, feed, preference)
+    announce_in(front, words, address, length, hop, feed, preference, true)
 }
 
 // A candidate withdrawn: refused with the first of 1, 3, 4, 10, 2 and 7 that applies, or neither held nor kept any more.
@@ -163,5 +181,63 @@ pub fn withdraw(front: &mut [u32], words: &mut [u32], address: u32, length: u32,
     if n != 0 {
         return Reply::Refused(n);
     }
-    withdraw_in(front, words, address, length, feed)
+    withdraw_in(front, words, address, length, feed, true)
+}
+
+// ---- updates of any words that test the front, and of the table what they touch
+
+// The first of 1, an update's own fault (0 for none) and 2 for words that are no front that applies, or 0.
+pub fn refusal_local(front: &[u32], words: &[u32], fault: u32) -> u32
+    ensures { λ r. ⌜ r ≡ refusalBefore (now (front .entry)) (now (words .entry)) fault ⌝ }
+{
+    if words::size::misfit(words.len()) {
+        return 1;
+    }
+    if fault != 0 {
+        return fault;
+    }
+    front_fault(front)
+}
+
+// A candidate announced: refused with the first of 1, 3, 4, 5, 10, 2 (no front, or what it touches is not as in a table) and 8
+// that applies, kept, or held afterwards.
+pub fn announce_local(
+    front: &mut [u32],
+    words: &mut [u32],
+    address: u32,
+    length: u32,
+    hop: u32,
+    feed: u32,
+    preference: u8,
+) -> Reply
+    ensures { λ r. ⌜ HasDampedLocally (now (front .entry)) (now (words .entry)) (now (front .exit)) (now (words .exit))
+        (announced address length hop feed preference) r ⌝ }
+{
+    let bytes = address::four_of(address);
+    let fault = update::announce_fault(&bytes, length, hop, feed);
+    let n = refusal_local(front, words, fault);
+    if n != 0 {
+        return Reply::Refused(n);
+    }
+    announce_in(front, words, address, length, hop, feed, preference, false)
+}
+
+// A candidate withdrawn: refused with the first of 1, 3, 4, 10, 2 and 7 that applies, or neither held nor kept any more.
+pub fn withdraw_local(
+    front: &mut [u32],
+    words: &mut [u32],
+    address: u32,
+    length: u32,
+    feed: u32,
+) -> Reply
+    ensures { λ r. ⌜ HasDampedLocally (now (front .entry)) (now (words .entry)) (now (front .exit)) (now (words .exit))
+        (withdrawn address length feed) r ⌝ }
+{
+    let bytes = address::four_of(address);
+    let fault = update::withdraw_fault(&bytes, length, feed);
+    let n = refusal_local(front, words, fault);
+    if n != 0 {
+        return Reply::Refused(n);
+    }
+    withdraw_in(front, words, address, length, feed, false)
 }

@@ -1,9 +1,8 @@
--- Records and ticks answered by their calls: what these leave, and what the feed's bytes say of the one that is next. Assumes
--- nothing.
-use mathlib.Core.Path.{_≡_, refl, sym, ap, _∙_}
+-- Records and ticks answered by their calls, and what the feed's bytes say of the one that is next. Assumes nothing.
+use mathlib.Core.Path.{_≡_, sym, ap, _∙_}
 use mathlib.Core.Logic.{_≢_}
 use mathlib.Core.Bool.{Bool, true, false, cond, true≢false}
-use mathlib.Core.List.{List, []}
+use mathlib.Core.List.{List}
 use Prim.Native.Nat.{ℕ, _+_, _≤_, _<_}
 use native.Mathlib.Omega.{arith}
 use lib.ListN.{length, getD}
@@ -15,98 +14,49 @@ use Rattle.numbers.specs.Four.{four-at}
 use Rattle.routes.specs.Family.{v4, Role, ending, unknown, roleOf, isUnknown}
 use Rattle.routes.specs.Answers.{Reply, done, isDone}
 use Rattle.laws.specs.Families.{end-kind}
-use Rattle.candidates.specs.Answers.{announce, withdraw, update}
+use Rattle.candidates.specs.Answers.{announce, withdraw}
 use Rattle.candidates.specs.Runs.{size, roleAt}
-use Rattle.candidates.specs.Seen.{table, lookupOn}
+use Rattle.candidates.specs.Seen.{lookupOn}
 use Rattle.encoded.specs.Turns as plain
-use Rattle.words.specs.Words.{arrayCount}
 use Rattle.words.specs.Table.{seen}
-use Rattle.words.specs.View.{seen-table, table-of}
 use Rattle.replies.specs.Said.{saidReply}
 use Rattle.replies.specs.declared.Reply as code
 use Rattle.lookup.specs.Walk.{walk}
 use Rattle.feed.specs.Turns.{announceAt, withdrawAt, lookupAt, here, one}
-use Rattle.front.specs.Place.{Place}
-use Rattle.front.specs.Front.{Event, asks, tick, Both, both, taken, accepts}
+use Rattle.front.specs.Front.{asks, accepts}
 use Rattle.front.specs.Runs.{tickKind, ticksAt, eventAt, sizeAt, halts}
-use Rattle.front.specs.Seen.{FrontSeen, alien, front}
 use Rattle.restraint.specs.Turns.{Clear, tick-there, halts-plain, halts-full, halts-tick}
-use Rattle.rows.specs.Row.{placesOf, IsWords}
-use Rattle.damping.specs.View.{seen-front}
-use Rattle.damping.specs.Update.{HasDamped}
-use Rattle.damping.specs.Tick.{Ticked}
-use Rattle.damping_run.specs.Series.{Asked, updated, looked, ticked}
-use Rattle.damping_run.specs.Turns.{Stands, bothOf, bytesOf, Whole, Asks, Answers, Takes}
+use Rattle.damping.specs.Locally.{HasDampedLocally}
+use Rattle.damping.specs.Tick.{TickedLocally}
+use Rattle.damping_run.specs.Locally.{AskedLocally, updated, looked, ticked}
+use Rattle.damping_run.specs.Turns.{bytesOf, Whole, Asks, Answers, Takes}
 use Rattle.damping_run.specs.declared.Progress.{Progress}
-
--- ---- what a call leaves
-
-pub record Answered (fs ws : List ℕ) (e : Event) (y : Reply) (gs vs : List ℕ) : Type 0 where
-  pub answer : y ≡ taken 32 (arrayCount ws) (bothOf fs ws) e .reply
-  pub both : bothOf gs vs ≡ taken 32 (arrayCount ws) (bothOf fs ws) e .left
-  pub stands : Stands gs vs
-  pub arrays : arrayCount vs ≡ arrayCount ws
-
-abbrev placesIn : FrontSeen → List Place
-placesIn alien = []
-placesIn (front ps) = ps
-
--- words that are seen as a table of A arrays, and those of a front
-leaves : (A : ℕ) (b : Both) (gs vs : List ℕ) → IsWords gs → placesOf gs ≡ b .places → seen 4 vs ≡ table A (b .list)
-    → (bothOf gs vs ≡ b) × Stands gs vs × (arrayCount vs ≡ A)
-leaves A b gs vs w p l =
-    let t = table-of 4 vs (omega arith) (omega arith) A (b .list) l in (
-      λ i. both (sym (t .list) i) (p i),
-      record { front = w; table = t .table },
-      sym (t .arrays),
-    )
-
-pub answered : (fs ws : List ℕ) → Stands fs ws → {gs vs : List ℕ} {e : Event} {y : Reply} → Asked fs ws e y gs vs
-    → Answered fs ws e y gs vs
-answered fs ws s {gs} {vs} (updated {u} r p) =
-    let w = p .front (s .front) in
-    let l = rw (seen-front fs (s .front), seen-table 4 ws (s .table)) at (p .list) in
-    let q = rw (seen-front fs (s .front), seen-table 4 ws (s .table)) at (p .places) in
-    let z = leaves (arrayCount ws) (taken 32 (arrayCount ws) (bothOf fs ws) (asks (update u)) .left) gs vs w
-    (ap placesIn (sym (seen-front gs w) ∙ q)) l in
-    record {
-      answer = rw (seen-front fs (s .front), seen-table 4 ws (s .table)) at (p .answer);
-      both = z .0;
-      stands = z .1;
-      arrays = z .2;
-    }
-answered fs ws s (looked r p) =
-    record { answer = rw (seen-table 4 ws (s .table)) at p; both = refl; stands = s; arrays = refl }
-answered fs ws s {gs} {vs} (ticked p) =
-    let z = leaves (arrayCount ws) (taken 32 (arrayCount ws) (bothOf fs ws) tick .left) gs vs (p .places .words)
-    (p .places .places) (p .list) in
-    record { answer = refl; both = z .0; stands = z .1; arrays = z .2 }
 
 -- ---- the calls: each answer is its promise's
 
 module _ (fs ws gs vs : List ℕ) (r : code.Reply) (feed : List ℕ) (i : ℕ) where
   pub asked-announce : (a l h f p : ℕ) → i + 1 + 4 ≤ length feed → a ≡ fourAt feed (i + 1) → l ≡ getD feed (i + 1 + 4) 0
-      → h ≡ twoAt feed (i + 1 + 4 + 1) → HasDamped fs ws gs vs (announce a l h f p) r
-      → Asked fs ws (asks (announceAt 4 feed i f p)) (saidReply r) gs vs
+      → h ≡ twoAt feed (i + 1 + 4 + 1) → HasDampedLocally fs ws gs vs (announce a l h f p) r
+      → AskedLocally fs ws (asks (announceAt 4 feed i f p)) (saidReply r) gs vs
   asked-announce a l h f p b ea el eh x = rw (four-at feed (i + 1) b, ← ea, ← el, ← eh) (updated r x)
 
   pub asked-withdraw : (a l f : ℕ) → i + 1 + 4 ≤ length feed → a ≡ fourAt feed (i + 1) → l ≡ getD feed (i + 1 + 4) 0
-      → HasDamped fs ws gs vs (withdraw a l f) r → Asked fs ws (asks (withdrawAt 4 feed i f)) (saidReply r) gs vs
+      → HasDampedLocally fs ws gs vs (withdraw a l f) r → AskedLocally fs ws (asks (withdrawAt 4 feed i f)) (saidReply r) gs vs
   asked-withdraw a l f b ea el x = rw (four-at feed (i + 1) b, ← ea, ← el) (updated r x)
 
 pub asked-lookup : (fs ws : List ℕ) (r : code.Reply) (feed : List ℕ) (i a : ℕ) → i + 1 + 4 ≤ length feed
     → a ≡ fourAt feed (i + 1) → saidReply r ≡ lookupOn 32 (seen 4 ws) (walk 4 ws a) a
-    → Asked fs ws (asks (lookupAt 4 feed i)) (saidReply r) fs ws
+    → AskedLocally fs ws (asks (lookupAt 4 feed i)) (saidReply r) fs ws
 asked-lookup fs ws r feed i a b e p = rw (four-at feed (i + 1) b, ← e) (looked r p)
 
 -- ---- by the role
 
-module _ (r : Role) (fs ws feed : List ℕ) (i : ℕ) (h : Asks r fs ws feed i) where
+module _ (r : Role) (fs ws feed : List ℕ) (i : ℕ) (known : Bool) (h : Asks r fs ws feed i known) where
   pub asks-body : (s : Role) → r ≡ s → i + size v4 s ≤ length feed
   asks-body s e = rw e at (h .body)
 
-  pub asks-whole : (s : Role) (n : ℕ) → r ≡ s → 4 + n ≤ size v4 s → Whole fs ws feed i n
-  asks-whole s n e le = record { stands = h .stands; body = omega (arith, asks-body s e, le) }
+  pub asks-whole : (s : Role) (n : ℕ) → r ≡ s → 4 + n ≤ size v4 s → Whole fs ws feed i n known
+  asks-whole s n e le = record { ready = h .ready; body = omega (arith, asks-body s e, le) }
 
   -- of the roles that the code tells apart, two are of no record
   pub not-ending : r ≡ ending → ⊥
@@ -118,26 +68,27 @@ module _ (r : Role) (fs ws feed : List ℕ) (i : ℕ) (h : Asks r fs ws feed i) 
 -- ---- by the kind
 
 module _ (fs ws gs vs feed : List ℕ) (i : ℕ) where
-  pub asked-tick : getD feed i 0 ≡ tickKind → Ticked fs ws gs vs → Asked fs ws (eventAt feed i) (done 0 0) gs vs
+  pub asked-tick : getD feed i 0 ≡ tickKind → TickedLocally fs ws gs vs → AskedLocally fs ws (eventAt feed i) (done 0 0) gs vs
   asked-tick e t = rw (eq-eqb (getD feed i 0) tickKind e) (ticked t)
 
   pub asked-record : (y : Reply) (r : Role) → getD feed i 0 ≢ tickKind → r ≡ roleAt v4 feed i
-      → Asked fs ws (asks (here v4 feed i r)) y gs vs → Asked fs ws (eventAt feed i) y gs vs
+      → AskedLocally fs ws (asks (here v4 feed i r)) y gs vs → AskedLocally fs ws (eventAt feed i) y gs vs
   asked-record y r n e a = rw (ne-eqb (getD feed i 0) tickKind n, ← e) a
 
-pub answers-asks : (fs ws feed : List ℕ) (i : ℕ) → Answers fs ws feed i → getD feed i 0 ≢ tickKind → (r : Role)
-    → r ≡ roleAt v4 feed i → Asks r fs ws feed i
-answers-asks fs ws feed i a n r e = rw e (a .asks (ne-eqb (getD feed i 0) tickKind n))
+pub answers-asks : (fs ws feed : List ℕ) (i : ℕ) (known : Bool) → Answers fs ws feed i known → getD feed i 0 ≢ tickKind
+    → (r : Role) → r ≡ roleAt v4 feed i → Asks r fs ws feed i known
+answers-asks fs ws feed i known a n r e = rw e (a .asks (ne-eqb (getD feed i 0) tickKind n))
 
 -- where no test stops the run
-pub takes-answers : (p : Progress) (fs ws feed b : List ℕ) → Takes p fs ws feed b → Answers fs ws feed (p .at)
-takes-answers p fs ws feed b t =
+pub takes-answers : (p : Progress) (fs ws feed b : List ℕ) (known : Bool) → Takes p fs ws feed b known
+    → Answers fs ws feed (p .at) known
+takes-answers p fs ws feed b known t =
     record {
-      stands = t .stands;
+      ready = t .ready;
       there = there;
       asks = λ n. (let c = t .clear .plain n in
           record {
-            stands = t .stands;
+            ready = t .ready;
             known = c .known;
             more = λ e. (let z = end-kind v4 (getD feed (p .at) 0) e in omega (arith, c .more));
             body = c .body;

@@ -1,12 +1,13 @@
--- The loop of the run: at each turn what is left of the run, from how far it has come, is the whole run. Assumes nothing.
+-- The loop of the run: at each turn a call was made for what comes next, and the counters say how far the run has come. Assumes
+-- nothing.
 --
 --     feed   ██████████████░░░░░░░░        reply   ██████████░░░░░░░░░░
 --            consumed      at                      written   out, the rest as it was
 use mathlib.Core.Path.{_≡_, refl, sym, ap, subst, _∙_}
 use mathlib.Core.Logic.{_≢_}
 use mathlib.Core.Bool.{Bool, true, false, cond}
-use mathlib.Core.List.{List, _++_}
-use Prim.Native.Nat.{ℕ, suc, _+_, _-_, _≤_}
+use mathlib.Core.List.{List}
+use Prim.Native.Nat.{ℕ, _+_, _-_, _≤_}
 use native.Mathlib.Nat.{add-zero}
 use native.Mathlib.Omega.{arith}
 use lib.ListN.{length, take, drop, take-append-drop}
@@ -16,32 +17,33 @@ use Rattle.logic.specs.Cases.{bool}
 use Rattle.numbers.specs.Wrote.{Wrote}
 use Rattle.routes.specs.Answers.{Reply, isDone, isRefused}
 use Rattle.routes.specs.Bytes.{replyBytes}
-use Rattle.routes.specs.Seen.{gives}
 use Rattle.laws.specs.Encoded.{reply-short}
 use Rattle.candidates.specs.Runs.{tally}
-use Rattle.candidates.specs.Seen.{table}
-use Rattle.words.specs.Words.{arrayCount}
-use Rattle.words.specs.Table.{listOf, seen}
-use Rattle.words.specs.View.{seen-table, seen-cases}
+use Rattle.candidates.specs.Seen.{misfits}
+use Rattle.words.specs.TableBut.{Table}
+use Rattle.words.specs.View.{seen-cases, fits-no-misfit, table-fits}
 use Rattle.update.specs.Refuse.{refusal-size, refusal-foreign, refusal-none}
 use Rattle.feed.specs.Turns.{one}
+use Rattle.feed.specs.Replies.{wrote-before, wrote-after}
 use Rattle.feed.specs.declared.Report.{Report}
 use Rattle.feed.specs.declared.Ran.the-variants.{Stopped, Refused}
-use Rattle.front.specs.Front.{Event, taken, replies, accepts}
-use Rattle.front.specs.Runs.{State, Ran as Outcome, ticksAt, eventAt, sizeAt, ahead, finish, halts, turn, runs, fresh, run}
-use Rattle.front.specs.Runs.{eventsFrom}
-use Rattle.front.specs.Seen.{front}
-use Rattle.restraint.specs.Turns.{Clear, size-pos, halts-clear, runs-on, runs-stop, runs-enough}
-use Rattle.restraint.specs.Taken.{events-stop, events-on}
-use Rattle.rows.specs.Row.{frontB}
-use Rattle.damping.specs.View.{seenFront, seen-front, seen-alien}
+use Rattle.front.specs.Front.{accepts}
+use Rattle.front.specs.Runs.{ticksAt, eventAt, sizeAt, halts}
+use Rattle.restraint.specs.Turns.{size-pos, halts-clear}
+use Rattle.rows.specs.Row.{frontB, IsWords}
+use Rattle.rows.specs.Told.{words-from}
+use Rattle.damping.specs.View.{seen-alien}
 use Rattle.damping.specs.Refuse.{refusalThrough, refusal-first, refusal-alien, refusal-passed}
-use Rattle.damping_run.specs.Series.{Asked, Series, nothing, more}
-use Rattle.damping_run.specs.Runs.{reportOf, HasRun}
-use Rattle.damping_run.specs.Turns.{Stands, bothOf, stateOf, Placed, Takes, Took}
+use Rattle.damping.specs.Locally.{Ready, refusalBefore, before-none, before-table}
+use Rattle.damping_run.specs.Series.{nothing}
+use Rattle.damping_run.specs.Runs.{HasRun}
+use Rattle.damping_run.specs.Locally.{AskedLocally, Note, haltsAt, Gone, nowhere, further, reportAt, RanLocally}
+use Rattle.damping_run.specs.Locally.{HasRunLocally}
+use Rattle.damping_run.specs.Answered.{asked-words}
+use Rattle.damping_run.specs.Tables.{gone-words, gone-on, ran-table}
+use Rattle.damping_run.specs.Turns.{noteOf, Placed, Takes, Took}
 use Rattle.damping_run.specs.declared.Progress.{Progress}
-use Rattle.damping_run.proofs.Answers.{Answered, answered, accepts-at}
-use Rattle.feed.specs.Replies.{wrote-before, wrote-after}
+use Rattle.damping_run.proofs.Answers.{accepts-at}
 
 -- ---- a turn
 
@@ -54,19 +56,10 @@ one-le true = omega arith
 one-le false = omega arith
 
 -- what is next was answered r by its call, the reply is written, and the counts go on
-module _ (p : Progress) (fs ws feed b : List ℕ) (t : Takes p fs ws feed b) (gs vs c : List ℕ) (r : Reply) (n q x y : ℕ)
-    (en : n ≡ sizeAt feed (p .at)) (asked : Asked fs ws (eventAt feed (p .at)) r gs vs)
+module _ (p : Progress) (fs ws feed b : List ℕ) (k : Bool) (t : Takes p fs ws feed b k) (gs vs c : List ℕ) (r : Reply)
+    (n q x y : ℕ) (en : n ≡ sizeAt feed (p .at)) (asked : AskedLocally fs ws (eventAt feed (p .at)) r gs vs)
     (w : Wrote b (p .out) (replyBytes r) q c) (ex : x ≡ one (cond (ticksAt feed (p .at)) false (isDone r)))
     (ey : y ≡ one (isRefused r)) where
-  abbrev A : ℕ
-  A = arrayCount ws
-
-  abbrev next : Event
-  next = eventAt feed (p .at)
-
-  answer : Answered fs ws next r gs vs
-  answer = answered fs ws (t .stands) asked
-
   fits : p .out + length (replyBytes r) ≤ length b
   fits = omega (arith, reply-short r, t .clear .free)
 
@@ -74,16 +67,14 @@ module _ (p : Progress) (fs ws feed b : List ℕ) (t : Takes p fs ws feed b) (gs
       gs vs c
   took =
       record {
-        asked = rw said at asked;
-        state = λ i. record {
-          both = answer .both i;
+        reply = r;
+        asked = asked;
+        note = λ i. record {
           consumed = p .at + en i;
-          replies = reps i;
+          replies = wrote-before b (p .out) (replyBytes r) q c fits w i;
           accepted = acc i;
           refused = ref i;
         };
-        stands = answer .stands;
-        arrays = answer .arrays;
         rest = wrote-after b (p .out) (replyBytes r) q c fits w;
         placed = record {
           at = omega (arith, t .clear .body);
@@ -96,105 +87,61 @@ module _ (p : Progress) (fs ws feed b : List ℕ) (t : Takes p fs ws feed b) (gs
         past = omega (arith, w .place);
       }
     where
-      said : r ≡ taken 32 A (bothOf fs ws) next .reply
-      said = answer .answer
-
-      reps : take q c ≡ take (p .out) b ++ replyBytes (taken 32 A (bothOf fs ws) next .reply)
-      reps = wrote-before b (p .out) (replyBytes r) q c fits w ∙ ap (λ z. take (p .out) b ++ replyBytes z) said
-
-      acc : p .accepted + x ≡ tally (accepts next (taken 32 A (bothOf fs ws) next .reply)) (p .accepted)
+      acc : p .accepted + x ≡ tally (accepts (eventAt feed (p .at)) r) (p .accepted)
       acc =
           ap (λ (m : ℕ). p .accepted + m) ex
           ∙ one-tally (cond (ticksAt feed (p .at)) false (isDone r)) (p .accepted)
           ∙ ap (λ (z : Bool). tally z (p .accepted)) (accepts-at feed (p .at) r)
-          ∙ ap (λ z. tally (accepts next z) (p .accepted)) said
 
-      ref : p .refused + y ≡ tally (isRefused (taken 32 A (bothOf fs ws) next .reply)) (p .refused)
-      ref =
-          ap (λ (m : ℕ). p .refused + m) ey
-          ∙ one-tally (isRefused r) (p .refused)
-          ∙ ap (λ z. tally (isRefused z) (p .refused)) said
+      ref : p .refused + y ≡ tally (isRefused r) (p .refused)
+      ref = ap (λ (m : ℕ). p .refused + m) ey ∙ one-tally (isRefused r) (p .refused)
 
 -- ---- the loop
-
-abbrev pub whole : List ℕ → List ℕ → List ℕ → List ℕ → Outcome
-whole fs ws feed b = run (arrayCount ws) (bothOf fs ws) feed (length b)
-
--- a call was made for each record and tick that is left from the state s on: they began with the words fs and ws and left hs
--- and us
-abbrev pub Ahead : ℕ → List ℕ → ℕ → State → List ℕ → List ℕ → List ℕ → List ℕ → Type 0
-Ahead A feed room s fs ws hs us =
-    Series fs ws (eventsFrom (length feed) A feed room s)
-    (replies 32 A (s .both) (eventsFrom (length feed) A feed room s)) hs us
-
-ahead-more : (A : ℕ) (feed : List ℕ) (room : ℕ) (s : State) {fs ws gs vs hs us : List ℕ}
-    → halts feed room (s .consumed) (length (s .replies)) ≡ 5
-    → Asked fs ws (ahead feed s) (taken 32 A (s .both) (ahead feed s) .reply) gs vs
-    → Ahead A feed room (turn A feed s) gs vs hs us → Ahead A feed room s fs ws hs us
-ahead-more A feed room s e a x = rw (events-on A feed room s e) (more a x)
 
 -- a run from fs₀, ws₀ and b₀ has come to p, with the words fs and ws and the reply bytes b, and `stop` is what the next tests
 -- find
 pub record Going (fs₀ ws₀ feed b₀ fs ws b : List ℕ) (p : Progress) (stop : ℕ) : Type 0 where
   pub placed : Placed p feed b
-  pub stands : Stands fs ws
-  pub arrays : arrayCount ws ≡ arrayCount ws₀
-  pub left : runs (length feed) (arrayCount ws₀) feed (length b₀) (stateOf p fs ws b) ≡ whole fs₀ ws₀ feed b₀
+  pub gone : Gone feed (length b₀) fs₀ ws₀ (noteOf p b) fs ws
+  pub front : IsWords fs
   pub rest : drop (p .out) b ≡ drop (p .out) b₀
   pub long : length b ≡ length b₀
   pub wide : length ws ≡ length ws₀
   pub broad : length fs ≡ length fs₀
   pub halted : stop ≡ halts feed (length b₀) (p .at) (p .out)
-  -- a series of calls for what is left makes one for all
-  pub series : (hs us : List ℕ) → Ahead (arrayCount ws₀) feed (length b₀) (stateOf p fs ws b) fs ws hs us
-      → Ahead (arrayCount ws₀) feed (length b₀) (fresh (bothOf fs₀ ws₀)) fs₀ ws₀ hs us
 
-pub start : (fs ws feed b : List ℕ) (stop : ℕ) → Stands fs ws → stop ≡ halts feed (length b) 0 0
+pub start : (fs ws feed b : List ℕ) (stop : ℕ) → IsWords fs → stop ≡ halts feed (length b) 0 0
     → Going fs ws feed b fs ws b (record { at = 0; out = 0; accepted = 0; refused = 0 }) stop
-start fs ws feed b stop t e =
+start fs ws feed b stop w e =
     record {
       placed = record { at = omega arith; out = omega arith; accepted = omega arith; refused = omega arith };
-      stands = t;
-      arrays = refl;
-      left = refl;
+      gone = nowhere;
+      front = w;
       rest = refl;
       long = refl;
       wide = refl;
       broad = refl;
       halted = e;
-      series = λ hs us h. h;
     }
 
-out-length : (p : Progress) (feed b : List ℕ) → Placed p feed b → length (take (p .out) b) ≡ p .out
-out-length p feed b h = length-take-le (p .out) b (h .out)
-
--- what is told of a run that has come to p
-abbrev told : Progress → ℕ → ℕ → ℕ → Report
-told p stop consumed written =
-    record { stop = stop; consumed = consumed; written = written; accepted = p .accepted; refused = p .refused }
-
--- a run that ended as o, on a table of A arrays
-record Ended (o : Outcome) (A : ℕ) (b gs vs c : List ℕ) (r : Report) : Type 0 where
-  report : r ≡ reportOf o
-  list : seen 4 vs ≡ table A (o .end .both .list)
-  places : seenFront gs ≡ front (o .end .both .places)
-  replies : c ≡ o .end .replies ++ drop (length (o .end .replies)) b
-
 module _ (fs₀ ws₀ feed b₀ fs ws b : List ℕ) (p : Progress) (stop : ℕ) (g : Going fs₀ ws₀ feed b₀ fs ws b p stop) where
-  abbrev A₀ : ℕ
-  A₀ = arrayCount ws₀
+  out-length : length (take (p .out) b) ≡ p .out
+  out-length = length-take-le (p .out) b (g .placed .out)
 
-  abbrev state : State
-  state = stateOf p fs ws b
+  halted-at : haltsAt feed (length b₀) (noteOf p b) ≡ stop
+  halted-at = ap (halts feed (length b₀) (p .at)) out-length ∙ sym (g .halted)
 
-  going-clear : stop ≡ 5 → Clear feed (length b) (p .at) (p .out)
-  going-clear e = rw (g .long) (halts-clear feed (length b₀) (p .at) (p .out) (sym (g .halted) ∙ e))
-
-  pub going-takes : stop ≡ 5 → Takes p fs ws feed b
-  going-takes e = record { stands = g .stands; placed = g .placed; clear = going-clear e }
-
-  halted-at : halts feed (length b₀) (p .at) (length (take (p .out) b)) ≡ stop
-  halted-at = ap (halts feed (length b₀) (p .at)) (out-length p feed b (g .placed)) ∙ sym (g .halted)
+  -- a table that is known to be one is one still
+  pub going-takes : (k : Bool) → Ready fs₀ ws₀ k → stop ≡ 5 → Takes p fs ws feed b k
+  going-takes k y e = record {
+    ready = record {
+      front = g .front;
+      fits = ap misfits (g .wide) ∙ y .fits;
+      table = λ z. gone-on feed (length b₀) fs₀ ws₀ (record { front = y .front; table = y .table z }) (g .gone) .stands .table;
+    };
+    placed = g .placed;
+    clear = rw (g .long) (halts-clear feed (length b₀) (p .at) (p .out) (sym (g .halted) ∙ e));
+  }
 
   pub again : (q : Progress) (gs vs c : List ℕ) (next : ℕ) → stop ≡ 5 → Took p fs ws feed b q gs vs c
       → length c ≡ length b → length vs ≡ length ws → length gs ≡ length fs
@@ -202,31 +149,16 @@ module _ (fs₀ ws₀ feed b₀ fs ws b : List ℕ) (p : Progress) (stop : ℕ) 
   again q gs vs c next e t lc lv lg h =
       record {
         placed = t .placed;
-        stands = t .stands;
-        arrays = t .arrays ∙ g .arrays;
-        left =
-            ap (λ (s : State). runs (length feed) A₀ feed (length b₀) s) on
-            ∙ runs-enough (length feed) (length feed - 1) A₀ feed (length b₀) (turn A₀ feed state) (omega arith)
-            (omega (arith, size-pos feed (p .at)))
-            ∙ sym (runs-on (length feed - 1) A₀ feed (length b₀) state (halted-at ∙ e))
-            ∙ ap (λ (n : ℕ). runs n A₀ feed (length b₀) state) m
-            ∙ g .left;
+        gone = subst (λ (n : Note). Gone feed (length b₀) fs₀ ws₀ n gs vs) (sym (t .note))
+            (further (g .gone) (halted-at ∙ e) (t .asked));
+        front = asked-words (g .front) (t .asked);
         rest = t .rest ∙ dropped;
         long = lc ∙ g .long;
         wide = lv ∙ g .wide;
         broad = lg ∙ g .broad;
         halted = h;
-        series = λ hs us x. g .series hs us
-            (ahead-more A₀ feed (length b₀) state (halted-at ∙ e) (rw (g .arrays) at (t .asked))
-            (subst (λ (s : State). Ahead A₀ feed (length b₀) s gs vs hs us) on x));
       }
     where
-      on : stateOf q gs vs c ≡ turn A₀ feed state
-      on = t .state ∙ ap (λ (n : ℕ). turn n feed state) (g .arrays)
-
-      m : suc (length feed - 1) ≡ length feed
-      m = omega (arith, going-clear e .body, size-pos feed (p .at))
-
       dropped : drop (q .out) b ≡ drop (q .out) b₀
       dropped =
           let o : p .out + (q .out - p .out) ≡ q .out = omega (arith, t .past) in
@@ -235,52 +167,30 @@ module _ (fs₀ ws₀ feed b₀ fs ws b : List ℕ) (p : Progress) (stop : ℕ) 
 
   -- ---- the end
 
-  ended : stop ≢ 5 → whole fs₀ ws₀ feed b₀ ≡ record { stop = stop; end = cond (eqb stop 0) (finish state) state }
-  ended n =
-      sym (g .left)
-      ∙ runs-enough (length feed) (suc (length feed)) A₀ feed (length b₀) state (omega arith) (omega arith)
-      ∙ runs-stop (length feed) A₀ feed (length b₀) state stop halted-at n
-
-  kept : b ≡ take (p .out) b ++ drop (length (take (p .out) b)) b₀
-  kept = rw (out-length p feed b (g .placed), ← (g .rest)) (sym (take-append-drop (p .out) b))
-
-  listed : seen 4 ws ≡ table A₀ (listOf 4 ws)
-  listed = seen-table 4 ws (g .stands .table) ∙ ap (λ (n : ℕ). table n (listOf 4 ws)) (g .arrays)
-
-  report : (z : Bool)
-      → Ended (record { stop = stop; end = cond z (finish state) state }) A₀ b₀ fs ws b (told p stop (p .at + one z) (p .out))
-  report true = record {
-    report = λ i. told p stop (p .at + 1) (sym (out-length p feed b (g .placed)) i);
-    list = listed;
-    places = seen-front fs (g .stands .front);
-    replies = kept;
-  }
-  report false = record {
-    report = λ i. told p stop (add-zero (p .at) i) (sym (out-length p feed b (g .placed)) i);
-    list = listed;
-    places = seen-front fs (g .stands .front);
-    replies = kept;
-  }
-
-  -- nothing is left
-  all-asked : stop ≢ 5 → Ahead A₀ feed (length b₀) (fresh (bothOf fs₀ ws₀)) fs₀ ws₀ fs ws
-  all-asked n = g .series fs ws (rw (events-stop A₀ feed (length b₀) state (length feed) (λ e. n (sym halted-at ∙ e))) nothing)
-
-  pub stopped : Stands fs₀ ws₀ → (n : ℕ) → stop ≢ 5 → n ≡ one (eqb stop 0)
-      → HasRun fs₀ ws₀ feed b₀ fs ws b (Stopped (told p stop (p .at + n) (p .out)))
-  stopped t n h e =
-      let x : Ended (whole fs₀ ws₀ feed b₀) A₀ b₀ fs ws b (told p stop (p .at + n) (p .out)) =
-      rw (e, ended h) (report (eqb stop 0)) in
-      let f = seen-front fs₀ (t .front) in
-      let s = seen-table 4 ws₀ (t .table) in
+  pub stopped : (n : ℕ) → stop ≢ 5 → n ≡ one (eqb stop 0) → RanLocally fs₀ ws₀ feed b₀ fs ws b
+      (Stopped (record { stop = stop; consumed = p .at + n; written = p .out; accepted = p .accepted; refused = p .refused }))
+  stopped n h e =
       record {
-        answer = rw (f, s) (ap gives (x .report));
-        list = rw (f, s) (x .list);
-        places = rw (f, s) (x .places);
-        replies = rw (f, s) (x .replies);
-        kept = λ n z. (let y : _≡_ {A = ℕ} 0 1 = cc in absurd (omega arith));
-        front = λ _. g .stands .front;
-        series = rw (f, s) (all-asked h);
+        note = noteOf p b;
+        gone = g .gone;
+        stopped = λ z. h (sym halted-at ∙ z);
+        answer = ap Stopped (told ∙ ap (λ (s : ℕ). reportAt s (noteOf p b)) (sym halted-at));
+        replies = rw (out-length, ← (g .rest)) (sym (take-append-drop (p .out) b));
+      }
+    where
+      told : _≡_ {A = Report} (record {
+        stop = stop;
+        consumed = p .at + n;
+        written = p .out;
+        accepted = p .accepted;
+        refused = p .refused;
+      }) (reportAt stop (noteOf p b))
+      told = λ i. record {
+        stop = stop;
+        consumed = p .at + e i;
+        written = sym out-length i;
+        accepted = p .accepted;
+        refused = p .refused;
       }
 
 -- ---- the test at the start
@@ -321,3 +231,29 @@ run-refused fs ws feed b n e z =
       front = λ w. w;
       series = rw (a, s) nothing;
     })))
+
+-- passed, the words are all that the loop asks for
+pub table-ready : (fs ws : List ℕ) → IsWords fs → Table 4 ws → Ready fs ws true
+table-ready fs ws w t = record { front = w; fits = fits-no-misfit (length ws) (table-fits 4 ws t); table = λ _. t }
+
+-- ---- the local run
+
+pub local-refused : (fs ws feed b : List ℕ) (n : ℕ) → n ≡ refusalBefore fs ws 0 → n ≢ 0
+    → HasRunLocally fs ws feed b fs ws b (Refused n)
+local-refused fs ws feed b n e z = record {
+  first = λ _. ap Refused e;
+  work = λ y. absurd (z (e ∙ y));
+  kept = λ _ _. (refl, refl, refl);
+  front = λ w. w;
+  table = λ t. run-refused fs ws feed b n (e ∙ sym (before-table fs ws 0 t)) z;
+}
+
+pub local-ran : (fs ws feed b gs vs c : List ℕ) (r : Report) → IsWords fs → misfits (length ws) ≡ false
+    → RanLocally fs ws feed b gs vs c (Stopped r) → HasRunLocally fs ws feed b gs vs c (Stopped r)
+local-ran fs ws feed b gs vs c r w m p = record {
+  first = λ n. absurd (n (sym (before-none fs ws 0 m refl (words-from fs w))));
+  work = λ _. p;
+  kept = λ n z. (let y : _≡_ {A = ℕ} 0 1 = cc in absurd (omega arith));
+  front = λ _. gone-words w (p .gone);
+  table = λ t. ran-table fs ws feed b gs vs c (Stopped r) (record { front = w; table = t }) p;
+}

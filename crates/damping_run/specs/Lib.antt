@@ -1,5 +1,8 @@
 pub mod Series
 pub mod Runs
+pub mod Locally
+pub mod Answered
+pub mod Tables
 pub mod Turns
 pub mod Sharp
 pub mod Behind

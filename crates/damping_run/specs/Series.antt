@@ -16,7 +16,7 @@ use Rattle.replies.specs.declared.Reply as code
 use Rattle.lookup.specs.Walk.{walk}
 use Rattle.front.specs.Front.{Event, asks, tick}
 use Rattle.damping.specs.Update.{HasDamped}
-use Rattle.damping.specs.Tick.{Ticked}
+use Rattle.damping.specs.Behind.{Ticked}
 
 -- the call of a record or a tick on the words fs and ws was answered y and left gs and vs, as its contract allows
 pub data Asked (fs ws : List ℕ) : Event → Reply → List ℕ → List ℕ → Type 0 where

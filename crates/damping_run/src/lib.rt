@@ -9,8 +9,10 @@ ghost use Prim.Native.Nat.{_≤_};
 ghost use lib.ListN.{length};
 ghost use Rattle.feed.specs.declared.Ran.the-variants.{Stopped};
 ghost use Rattle.front.specs.Runs.{halts};
+ghost use Rattle.damping.specs.Locally.{Ready};
 ghost use Rattle.damping_run.specs.Runs.{HasRun};
-ghost use Rattle.damping_run.specs.Turns.{Stands, Takes, Took};
+ghost use Rattle.damping_run.specs.Locally.{RanLocally, HasRunLocally};
+ghost use Rattle.damping_run.specs.Turns.{Takes, Took};
 
 // How far a run has come: feed bytes consumed, reply bytes written, accepted updates, refused records.
 struct Progress {
@@ -30,13 +32,31 @@ pub fn run(front: &mut [u32], words: &mut [u32], feed: &[u8], reply: &mut [u8]) 
     if n != 0 {
         return Ran::Refused(n);
     }
-    Ran::Stopped(run_both(front, words, feed, reply))
+    Ran::Stopped(run_with(front, words, feed, reply, true))
 }
 
-// The run on words that are a front and a table.
-fn run_both(front: &mut [u32], words: &mut [u32], feed: &[u8], reply: &mut [u8]) -> Report
-    requires { ⌜ Stands (now front) (now words) ⌝ }
-    ensures { λ r. ⌜ HasRun (now (front .entry)) (now (words .entry)) (now (feed .entry)) (now (reply .entry))
+// The same without a test of the whole table: each record, and each installation of a tick, tests what it touches itself.
+pub fn run_local(front: &mut [u32], words: &mut [u32], feed: &[u8], reply: &mut [u8]) -> Ran
+    ensures { λ r. ⌜ HasRunLocally (now (front .entry)) (now (words .entry)) (now (feed .entry)) (now (reply .entry))
+        (now (front .exit)) (now (words .exit)) (now (reply .exit)) r ⌝ }
+{
+    let n = damping::refusal_local(front, words, 0);
+    if n != 0 {
+        return Ran::Refused(n);
+    }
+    Ran::Stopped(run_with(front, words, feed, reply, false))
+}
+
+// The run on a front and any words of a right size.
+fn run_with(
+    front: &mut [u32],
+    words: &mut [u32],
+    feed: &[u8],
+    reply: &mut [u8],
+    known: bool,
+) -> Report
+    requires { ⌜ Ready (now front) (now words) known ⌝ }
+    ensures { λ r. ⌜ RanLocally (now (front .entry)) (now (words .entry)) (now (feed .entry)) (now (reply .entry))
         (now (front .exit)) (now (words .exit)) (now (reply .exit)) (Stopped r) ⌝ }
 {
     let room = reply.len();
@@ -48,7 +68,7 @@ fn run_both(front: &mut [u32], words: &mut [u32], feed: &[u8], reply: &mut [u8])
     };
     let mut stop = p.halt(feed, room);
     while stop == 5 {
-        p = p.answer_next(front, words, feed, reply);
+        p = p.answer_next(front, words, feed, reply, known);
         stop = p.halt(feed, room);
     }
     Report {
@@ -95,8 +115,9 @@ impl Progress {
         words: &mut [u32],
         feed: &[u8],
         reply: &mut [u8],
+        known: bool,
     ) -> Progress
-        requires { ⌜ Takes self (now front) (now words) (now feed) (now reply) ⌝ }
+        requires { ⌜ Takes self (now front) (now words) (now feed) (now reply) known ⌝ }
         ensures { λ r. ⌜ Took self (now (front .entry)) (now (words .entry)) (now (feed .entry)) (now (reply .entry))
             r (now (front .exit)) (now (words .exit)) (now (reply .exit)) ⌝ }
     {
@@ -104,7 +125,7 @@ impl Progress {
         let out = self.out;
         let kind = feed[at];
         let n = ask::size_of(kind);
-        let answer = ask::answer(front, words, feed, at);
+        let answer = ask::answer(front, words, feed, at, known);
         let next = feed::put(reply, out, answer);
         let accepted = self.accepted + told::accepts(kind, answer);
         let refused = self.refused + feed::refuses(answer);

@@ -21,9 +21,11 @@ use Rattle.words.specs.View.{seen-cases}
 use Rattle.replies.specs.Said.{saidReply}
 use Rattle.replies.specs.declared.Reply.{Reply}
 use Rattle.update.specs.Update.{HasUpdated}
+use Rattle.update.specs.Locally.{HasUpdatedLocally}
 use Rattle.lookup.specs.Walk.{walk}
 use Rattle.feed.specs.Series.{Asked, updated, looked}
-use Rattle.feed.specs.Turns.{IsTable, roomIn, listIn, announceAt, withdrawAt, lookupAt, Whole, Asks, one, Takes}
+use Rattle.feed.specs.Local.{more}
+use Rattle.feed.specs.Turns.{IsTable, roomIn, listIn, announceAt, withdrawAt, lookupAt, Whole, Asks, AskedAny, one, Takes}
 use Rattle.feed.specs.declared.Progress.{Progress}
 
 -- ---- words that are a table
@@ -54,6 +56,30 @@ pub asked-lookup : (L : ℕ) (ws : List ℕ) (r : Reply) (feed : List ℕ) (i a 
     → saidReply r ≡ lookupOn (8 * L) (seen L ws) (walk L ws a) a → Asked L ws (lookupAt L feed i) (saidReply r) ws
 asked-lookup L ws r feed i a e p = rw (← e) (looked r p)
 
+-- the same on any words
+
+pub any-announce : (L : ℕ) (ws vs : List ℕ) (r : Reply) (feed : List ℕ) (i : ℕ) (a l h f p : ℕ) → 1 ≤ L → L ≤ 16
+    → a ≡ numberAt L feed (i + 1) → l ≡ getD feed (i + 1 + L) 0 → h ≡ twoAt feed (i + 1 + L + 1)
+    → HasUpdatedLocally L ws vs (announce a l h f p) r → AskedAny L ws (announceAt L feed i f p) (saidReply r) vs
+any-announce L ws vs r feed i a l h f p some few ea el eh x = record {
+  answer = rw (← ea, ← el, ← eh) (x .answer);
+  words = rw (← ea, ← el, ← eh) (x .words);
+  called = λ us c. more r c x;
+  size = x .size;
+  table = λ t. asked-announce L ws vs r feed i a l h f p ea el eh (x .table (is-table L ws some few t));
+}
+
+pub any-withdraw : (L : ℕ) (ws vs : List ℕ) (r : Reply) (feed : List ℕ) (i : ℕ) (a l f : ℕ) → 1 ≤ L → L ≤ 16
+    → a ≡ numberAt L feed (i + 1) → l ≡ getD feed (i + 1 + L) 0
+    → HasUpdatedLocally L ws vs (withdraw a l f) r → AskedAny L ws (withdrawAt L feed i f) (saidReply r) vs
+any-withdraw L ws vs r feed i a l f some few ea el x = record {
+  answer = rw (← ea, ← el) (x .answer);
+  words = rw (← ea, ← el) (x .words);
+  called = λ us c. more r c x;
+  size = x .size;
+  table = λ t. asked-withdraw L ws vs r feed i a l f ea el (x .table (is-table L ws some few t));
+}
+
 -- ---- by the role
 
 -- a whole record has the bytes of its role
@@ -66,7 +92,7 @@ module _ (F : Family) (r : Role) (ws feed : List ℕ) (i : ℕ) (h : Asks F r ws
       rw l (record {
         some = levels-some F;
         few = levels-few F;
-        isTable = h .isTable;
+        fits = h .fits;
         body = omega (arith, asks-body s e, le);
       })
 
@@ -82,7 +108,7 @@ pub takes-asks : (F : Family) (p : Progress) (ws feed b : List ℕ) → Takes F 
     → r ≡ roleAt F feed (p .at) → Asks F r ws feed (p .at)
 takes-asks F p ws feed b t r e =
     record {
-      isTable = t .isTable;
+      fits = t .fits;
       known = ap isUnknown e ∙ t .clear .known;
       more = λ n. (let z = end-kind F (getD feed (p .at) 0) (sym e ∙ n) in omega (arith, t .clear .more));
       body = rw e (t .clear .body);

@@ -1,4 +1,5 @@
 pub mod Series
+pub mod Local
 pub mod Runs
 pub mod Turns
 pub mod Sharp

@@ -16,7 +16,11 @@ use Rattle.candidates.specs.Runs.{State, size, sentAt, roleAt, taken}
 use Rattle.candidates.specs.Seen.{Seen, misfit, foreign, table}
 use Rattle.encoded.specs.Turns.{Clear}
 use Rattle.words.specs.Table.{seen}
+use Rattle.words.specs.CheckReflects.{Fits}
+use Rattle.routes.specs.Answers.{Reply}
 use Rattle.feed.specs.Series.{Asked}
+use Rattle.feed.specs.Local.{answerAt, wordsAfter, Called}
+use Rattle.feed.specs.Local as Local
 use Rattle.feed.specs.declared.Progress.{Progress}
 
 -- ---- words that are a table
@@ -54,7 +58,7 @@ lookupAt L feed i = lookup (numberAt L feed (i + 1))
 pub record Whole (L : ℕ) (ws feed : List ℕ) (i n : ℕ) : Type 0 where
   pub some : 1 ≤ L
   pub few : L ≤ 16
-  pub isTable : IsTable (seen L ws)
+  pub fits : Fits (length ws)
   pub body : i + L + n ≤ length feed
 
 -- the record of a role that begins at i
@@ -63,10 +67,18 @@ here F feed i r = means (sentAt F feed i r)
 
 -- what is asked for before it is answered: a whole record that is no end
 pub record Asks (F : Family) (r : Role) (ws feed : List ℕ) (i : ℕ) : Type 0 where
-  pub isTable : IsTable (seen (levels F) ws)
+  pub fits : Fits (length ws)
   pub known : isUnknown r ≡ false
   pub more : r ≢ ending
   pub body : i + size F r ≤ length feed
+
+-- the answer to it on any words of a right size; on a table as its call promises
+pub record AskedAny (L : ℕ) (ws : List ℕ) (x : Record) (y : Reply) (vs : List ℕ) : Type 0 where
+  pub answer : y ≡ answerAt L ws x
+  pub words : vs ≡ wordsAfter L ws x
+  pub called : (us : List ℕ) → Called L us ws → Called L us vs
+  pub size : length vs ≡ length ws
+  pub table : IsTable (seen L ws) → Asked L ws x y vs
 
 -- ---- a count
 
@@ -94,7 +106,7 @@ pub record Placed (p : Progress) (feed b : List ℕ) : Type 0 where
 
 -- no test stops the run before the next record
 pub record Takes (F : Family) (p : Progress) (ws feed b : List ℕ) : Type 0 where
-  pub isTable : IsTable (seen (levels F) ws)
+  pub fits : Fits (length ws)
   pub placed : Placed p feed b
   pub clear : Clear F feed (length b) (p .at) (p .out)
 
@@ -112,3 +124,18 @@ pub record Took (F : Family) (p : Progress) (ws feed b : List ℕ) (q : Progress
   pub placed : Placed q feed c
   pub on : p .at < q .at
   pub past : p .out ≤ q .out
+
+-- the same on any words of a right size: the state is that of the words
+abbrev pub comeTo : Progress → List ℕ → List ℕ → Local.State
+comeTo p ws b =
+    record { words = ws; consumed = p .at; replies = take (p .out) b; accepted = p .accepted; refused = p .refused }
+
+pub record TookAny (F : Family) (p : Progress) (ws feed b : List ℕ) (q : Progress) (vs c : List ℕ) : Type 0 where
+  pub state : comeTo q vs c ≡ Local.taken F feed (comeTo p ws b)
+  pub called : (us : List ℕ) → Called (levels F) us ws → Called (levels F) us vs
+  pub rest : drop (q .out) c ≡ drop (q .out) b
+  pub past : p .out ≤ q .out
+  pub size : length vs ≡ length ws
+  pub placed : Placed q feed c
+  pub on : p .at < q .at
+  pub table : IsTable (seen (levels F) ws) → Took F p ws feed b q vs c

@@ -3,6 +3,7 @@ use families::Family;
 use families::Role;
 use replies::Reply;
 ghost use mathlib.Core.Path.{_≡_};
+ghost use mathlib.Core.Bool.{true};
 ghost use Prim.Native.Nat.{_+_, _<_, _≤_};
 ghost use lib.ListN.{length};
 ghost use lib.Dec.{eqb};
@@ -14,10 +15,10 @@ ghost use Rattle.candidates.specs.Runs.{size as sizeOf, halts};
 ghost use Rattle.words.specs.Table.{seen};
 ghost use Rattle.families.specs.Said.{saidFamily, saidRole};
 ghost use Rattle.replies.specs.Said.{saidReply};
-ghost use Rattle.feed.specs.Runs.{HasRun};
-ghost use Rattle.feed.specs.Series.{Asked};
-ghost use Rattle.feed.specs.Turns.{one, IsTable, announceAt, withdrawAt, lookupAt, Whole, Asks, here, Takes, Took};
-ghost use Rattle.feed.specs.declared.Ran.the-variants.{Stopped};
+ghost use Rattle.feed.specs.Runs.{HasRun, RunsTable, HasRunLocally};
+ghost use Rattle.words.specs.CheckReflects.{Fits};
+ghost use Rattle.feed.specs.Turns.{one, IsTable, announceAt, withdrawAt, lookupAt, Whole, Asks};
+ghost use Rattle.feed.specs.Turns.{AskedAny, here, Takes, TookAny};
 
 // How far a run has come: feed bytes consumed, reply bytes written, accepted updates, refused records.
 struct Progress {
@@ -51,7 +52,7 @@ pub fn run_of(words: &mut [u32], family: Family, feed: &[u8], reply: &mut [u8]) 
     if n != 0 {
         return Ran::Refused(n);
     }
-    Ran::Stopped(run_table(words, family, feed, reply))
+    Ran::Stopped(run_table(words, family, feed, reply, true))
 }
 
 // An IPv4 feed.
@@ -62,11 +63,28 @@ pub fn run(words: &mut [u32], feed: &[u8], reply: &mut [u8]) -> Ran
     run_of(words, Family::V4, feed, reply)
 }
 
-// The run on words that are a table.
-fn run_table(words: &mut [u32], family: Family, feed: &[u8], reply: &mut [u8]) -> Report
-    requires { ⌜ IsTable (seen (levels (saidFamily family)) (now words)) ⌝ }
-    ensures { λ r. ⌜ HasRun (saidFamily family) (now (words .entry)) (now (feed .entry)) (now (reply .entry))
-        (now (words .exit)) (now (reply .exit)) (Stopped r) ⌝ }
+// The same without a test of the whole table: each record tests what it touches itself.
+pub fn run_local_of(words: &mut [u32], family: Family, feed: &[u8], reply: &mut [u8]) -> Ran
+    ensures { λ r. ⌜ HasRunLocally (saidFamily family) (now (words .entry)) (now (feed .entry)) (now (reply .entry))
+        (now (words .exit)) (now (reply .exit)) r ⌝ }
+{
+    if words::size::misfit(words.len()) {
+        return Ran::Refused(1);
+    }
+    Ran::Stopped(run_table(words, family, feed, reply, false))
+}
+
+// The run on words of a right size. A caller who knows them to be a table spares the tests of what a record touches.
+fn run_table(
+    words: &mut [u32],
+    family: Family,
+    feed: &[u8],
+    reply: &mut [u8],
+    known: bool,
+) -> Report
+    requires { ⌜ Fits (length (now words)) × ((known ≡ true) → IsTable (seen (levels (saidFamily family)) (now words))) ⌝ }
+    ensures { λ r. ⌜ RunsTable (saidFamily family) (now (words .entry)) (now (feed .entry)) (now (reply .entry))
+        (now (words .exit)) (now (reply .exit)) r ⌝ }
 {
     let room = reply.len();
     let mut p = Progress {
@@ -77,7 +95,7 @@ fn run_table(words: &mut [u32], family: Family, feed: &[u8], reply: &mut [u8]) -
     };
     let mut stop = p.halt(family, feed, room);
     while stop == 5 {
-        p = p.answer_next(words, family, feed, reply);
+        p = p.answer_next(words, family, feed, reply, known);
         stop = p.halt(family, feed, room);
     }
     Report {
@@ -132,16 +150,18 @@ impl Progress {
         family: Family,
         feed: &[u8],
         reply: &mut [u8],
+        known: bool,
     ) -> Progress
-        requires { ⌜ Takes (saidFamily family) self (now words) (now feed) (now reply) ⌝ }
-        ensures { λ r. ⌜ Took (saidFamily family) self (now (words .entry)) (now (feed .entry)) (now (reply .entry))
+        requires { ⌜ Takes (saidFamily family) self (now words) (now feed) (now reply)
+            × ((known ≡ true) → IsTable (seen (levels (saidFamily family)) (now words))) ⌝ }
+        ensures { λ r. ⌜ TookAny (saidFamily family) self (now (words .entry)) (now (feed .entry)) (now (reply .entry))
             r (now (words .exit)) (now (reply .exit)) ⌝ }
     {
         let at = self.at;
         let out = self.out;
         let role = families::role_of(family, feed[at]);
         let n = size(family, role);
-        let answer = ask(words, family, role, feed, at);
+        let answer = ask(words, family, role, feed, at, known);
         let next = put(reply, out, answer);
         let accepted = self.accepted + accepts(answer);
         let refused = self.refused + refuses(answer);
@@ -171,24 +191,25 @@ pub fn size(family: Family, role: Role) -> usize
 }
 
 // Answers the record at `at`. One that names no feed is of feed 1, with preference 0.
-fn ask(words: &mut [u32], family: Family, role: Role, feed: &[u8], at: usize) -> Reply
-    requires { ⌜ Asks (saidFamily family) (saidRole role) (now words) (now feed) at ⌝ }
-    ensures { λ r. ⌜ Asked (levels (saidFamily family)) (now (words .entry))
+fn ask(words: &mut [u32], family: Family, role: Role, feed: &[u8], at: usize, known: bool) -> Reply
+    requires { ⌜ Asks (saidFamily family) (saidRole role) (now words) (now feed) at
+        × ((known ≡ true) → IsTable (seen (levels (saidFamily family)) (now words))) ⌝ }
+    ensures { λ r. ⌜ AskedAny (levels (saidFamily family)) (now (words .entry))
         (here (saidFamily family) (now (feed .entry)) at (saidRole role)) (saidReply r) (now (words .exit)) ⌝ }
 {
     let levels = families::levels(family);
     let end = at + 1 + levels;
     match role {
-        Role::Announcing => announce(words, levels, feed, at, 1, 0),
-        Role::Withdrawing => withdraw(words, levels, feed, at, 1),
+        Role::Announcing => announce(words, levels, feed, at, 1, 0, known),
+        Role::Withdrawing => withdraw(words, levels, feed, at, 1, known),
         Role::AnnouncingFor => {
             let from = feed[end + 3];
             let preference = feed[end + 4];
-            announce(words, levels, feed, at, from, preference)
+            announce(words, levels, feed, at, from, preference, known)
         }
         Role::WithdrawingFor => {
             let from = feed[end + 1];
-            withdraw(words, levels, feed, at, from)
+            withdraw(words, levels, feed, at, from, known)
         }
         Role::Looking => lookup(words, levels, feed, at),
         // no record: the run stops before it
@@ -205,39 +226,48 @@ fn announce(
     at: usize,
     from: u8,
     preference: u8,
+    known: bool,
 ) -> Reply
-    requires { ⌜ Whole levels (now words) (now feed) at 4 ⌝ }
-    ensures { λ r. ⌜ Asked levels (now (words .entry)) (announceAt levels (now (feed .entry)) at from preference)
+    requires { ⌜ Whole levels (now words) (now feed) at 4 × ((known ≡ true) → IsTable (seen levels (now words))) ⌝ }
+    ensures { λ r. ⌜ AskedAny levels (now (words .entry)) (announceAt levels (now (feed .entry)) at from preference)
         (saidReply r) (now (words .exit)) ⌝ }
 {
     let end = at + 1 + levels;
     let length = feed[end] as u32;
     let hop = numbers::two_at(feed, end + 1);
-    update::announce_on(
+    update::announce_with(
         words,
         &feed[at + 1..end],
         length,
         hop,
         from as u32,
         preference,
+        known,
     )
 }
 
 // Answers the withdrawal at `at`, from a feed.
-fn withdraw(words: &mut [u32], levels: usize, feed: &[u8], at: usize, from: u8) -> Reply
-    requires { ⌜ Whole levels (now words) (now feed) at 2 ⌝ }
-    ensures { λ r. ⌜ Asked levels (now (words .entry)) (withdrawAt levels (now (feed .entry)) at from)
+fn withdraw(
+    words: &mut [u32],
+    levels: usize,
+    feed: &[u8],
+    at: usize,
+    from: u8,
+    known: bool,
+) -> Reply
+    requires { ⌜ Whole levels (now words) (now feed) at 2 × ((known ≡ true) → IsTable (seen levels (now words))) ⌝ }
+    ensures { λ r. ⌜ AskedAny levels (now (words .entry)) (withdrawAt levels (now (feed .entry)) at from)
         (saidReply r) (now (words .exit)) ⌝ }
 {
     let end = at + 1 + levels;
     let length = feed[end] as u32;
-    update::withdraw_on(words, &feed[at + 1..end], length, from as u32)
+    update::withdraw_with(words, &feed[at + 1..end], length, from as u32, known)
 }
 
 // Answers the lookup at `at`.
 fn lookup(words: &[u32], levels: usize, feed: &[u8], at: usize) -> Reply
     requires { ⌜ Whole levels (now words) (now feed) at 1 ⌝ }
-    ensures { λ r. ⌜ Asked levels (now (words .entry)) (lookupAt levels (now (feed .entry)) at)
+    ensures { λ r. ⌜ AskedAny levels (now (words .entry)) (lookupAt levels (now (feed .entry)) at)
         (saidReply r) (now (words .entry)) ⌝ }
 {
     lookup::lookup_on(words, &feed[at + 1..at + 1 + levels])

@@ -28,20 +28,24 @@ use Rattle.packed_arrays.specs.Filled.{ownOf, slotFor}
 
 -- ---- a flag
 
-module _ (page : List ℕ) (s : ℕ) (low : 1 ≤ s) where
-  pub flag-hop : slots page s ≢ 0 → 1 ≡ flagOf page s
-  flag-hop n = rw (le-leb 1 s low, ne-eqb (slots page s) 0 n)
+pub route-none : (page : List ℕ) (s : ℕ) → slots page s ≡ 0 → false ≡ not (eqb (slots page s) 0)
+route-none page s z = rw (eq-eqb (slots page s) 0 z)
 
-  pub flag-short : slots page s ≡ 0 → s < cellSlots → 0 ≡ flagOf page s
-  flag-short z h = rw (le-leb 1 s low, eq-eqb (slots page s) 0 z, lt-leb cellSlots s h)
+-- with `h` for a route in slot s
+module _ (page : List ℕ) (s : ℕ) (low : 1 ≤ s) (h : Bool) (i : h ≡ not (eqb (slots page s) 0)) where
+  pub flag-hop : h ≡ true → 1 ≡ flagOf page s
+  flag-hop t = rw (le-leb 1 s low, ← i, t)
 
-  module _ (z : slots page s ≡ 0) (long : cellSlots ≤ s) (r : Bool)
+  pub flag-short : h ≡ false → s < cellSlots → 0 ≡ flagOf page s
+  flag-short t k = rw (le-leb 1 s low, ← i, t, lt-leb cellSlots s k)
+
+  module _ (z : h ≡ false) (long : cellSlots ≤ s) (r : Bool)
       (e : r ≡ not (eqb (linkIn (getD page (cellsAt + (s - cellSlots)) 0)) 0)) where
     pub flag-link : r ≡ true → 1 ≡ flagOf page s
-    flag-link t = rw (le-leb 1 s low, eq-eqb (slots page s) 0 z, le-leb cellSlots s long, ← e, t)
+    flag-link t = rw (le-leb 1 s low, ← i, z, le-leb cellSlots s long, ← e, t)
 
     pub flag-none : r ≡ false → 0 ≡ flagOf page s
-    flag-none t = rw (le-leb 1 s low, eq-eqb (slots page s) 0 z, le-leb cellSlots s long, ← e, t)
+    flag-none t = rw (le-leb 1 s low, ← i, z, le-leb cellSlots s long, ← e, t)
 
 -- ---- a slot's cover, and the array below it
 

@@ -1,5 +1,5 @@
 -- The prefixes of a page as flags, a word for each slot. Assumes nothing.
-use mathlib.Core.Path.{_≡_, ap, _∙_}
+use mathlib.Core.Path.{_≡_, sym, ap, _∙_}
 use mathlib.Core.Bool.{Bool, true, false, cond, not, _&&_}
 use mathlib.Core.List.{List}
 use Prim.Native.Nat.{ℕ, _+_, _-_, _≤_, _<_}
@@ -9,15 +9,17 @@ use lib.ListN.{length, getD, set, length-set}
 use lib.Seq.{getD-set-same, getD-set-other}
 use borrow.Author.Tests.{le-leb}
 use Rattle.logic.specs.Cases.{bool, same}
-use Rattle.sizes.specs.Sizes.{slotEnd, cellSlots}
+use Rattle.sizes.specs.Sizes.{slotEnd, cellSlots, totalAt}
 use Rattle.masks.specs.Mask.{maskOf, mask-same}
 use Rattle.masks.specs.Top.{top-same}
 use Rattle.masks.specs.Entry.{mapped, entry}
 use Rattle.masks.specs.On.{fits}
 use Rattle.masks.specs.Sieve.{heldIn}
 use Rattle.array.specs.Page.{slots, links}
-use Rattle.array.specs.Frame.{pageOf}
-use Rattle.words.specs.Words.{arraysOf}
+use Rattle.array.specs.Frame.{pageOf, page-word}
+use Rattle.words.specs.Words.{arraysOf, arrayCount}
+use Rattle.words.specs.TableBut.{Table}
+use Rattle.words.specs.Empty.{total-free}
 use Rattle.words.specs.Lent.{lent-slot, lent-link}
 use Rattle.packed.specs.Laid.{heldBy, heldOf}
 
@@ -27,6 +29,15 @@ heldOn page = heldBy (slots page) (links page)
 
 abbrev pub flagOf : List ℕ → ℕ → ℕ
 flagOf page s = cond (heldOn page s) 1 0
+
+-- the totals of a page tell its free slots
+abbrev pub Tells : List ℕ → Type 0
+Tells page = (s : ℕ) → 1 ≤ s → s < slotEnd → getD page (totalAt s) 0 ≡ 0 → slots page s ≡ 0
+
+-- as they do in a table
+pub table-tells : (ts : List ℕ) → Table 4 ts → (a : ℕ) → 1 ≤ a → a ≤ arrayCount ts → Tells (pageOf ts a)
+table-tells ts tb a h w s l b z =
+    lent-slot ts a s b ∙ total-free tb a s h w l b (sym (page-word ts a (totalAt s) (omega arith)) ∙ z)
 
 -- the flags of the slots below n are right
 pub record Flagged (page fs : List ℕ) (n : ℕ) : Type 0 where

@@ -22,6 +22,7 @@ ghost use Rattle.sizes.specs.Sizes.{arrayWords, slotEnd, mostArrays};
 ghost use Rattle.array.specs.Page.{links};
 ghost use Rattle.packed.specs.Layout.{entryWords};
 ghost use Rattle.packed.specs.Byte.{belowOf};
+ghost use Rattle.packed_arrays.specs.Flags.{Tells};
 ghost use Rattle.packed_arrays.specs.Mapped.{mapWords};
 ghost use Rattle.packed_arrays.specs.Filled.{ownOf, putTo, Filled};
 
@@ -63,7 +64,7 @@ fn put(words: &mut [u32], at: usize, slot: u32, best: u32, place: u32, mask: u32
 // The entries of the array with this page and the mask m, from word o on.
 pub fn fill(page: &[u32], map: &[u32], words: &mut [u32], o: usize, m: u32)
     requires { ⌜ (length (now page) ≡ arrayWords) × (length (now map) ≡ mapWords) × (m < 256)
-        × (o + entryWords * 2 ^ ones m ≤ length (now words)) ⌝ }
+        × (o + entryWords * 2 ^ ones m ≤ length (now words)) × Tells (now page) ⌝ }
     ensures { λ _. ⌜ Filled (now (page .entry)) (now (map .entry)) (now (words .entry)) (now (words .exit)) o m (2 ^ ones m) ⌝ }
 {
     let mut held = [0; SLOT_END];

@@ -14,13 +14,15 @@ ghost use Prim.Native.Nat.{_+_, _*_, _<_, _≤_};
 ghost use lib.ListN.{length};
 ghost use Rattle.sizes.specs.Sizes.{arrayAt};
 ghost use Rattle.words.specs.Words.{arraysOf, arrayCount};
-ghost use Rattle.words.specs.CheckReflects.{Fits};
+ghost use Rattle.words.specs.TableBut.{Table};
 ghost use Rattle.packed.specs.Laid.{maskAt, entriesTo};
+ghost use Rattle.array.specs.Frame.{pageOf};
+ghost use Rattle.packed_arrays.specs.Flags.{Tells};
 ghost use Rattle.packed_arrays.specs.Mapped.{mapWords, placeIn as placeOf, maskIn as maskOf, Mapped};
 
 // The mask of array a: that of the first has all bits.
 fn mask_at(table: &[u32], a: usize) -> u32
-    requires { ⌜ (1 ≤ a) × (arrayAt (a + 1) ≤ length (now table)) ⌝ }
+    requires { ⌜ (1 ≤ a) × (arrayAt (a + 1) ≤ length (now table)) × Tells (pageOf (now table) a) ⌝ }
     ensures { λ r. ⌜ (r ≡ maskAt (arraysOf (now (table .entry))) a) × (r < 256) ⌝ }
 {
     if a == 1 {
@@ -33,7 +35,7 @@ fn mask_at(table: &[u32], a: usize) -> u32
 
 // The map, and how many entries there are in all.
 pub fn places(table: &[u32], map: &mut [u32]) -> usize
-    requires { ⌜ Fits (length (now table)) × (length (now map) ≡ mapWords) ⌝ }
+    requires { ⌜ Table 4 (now table) × (length (now map) ≡ mapWords) ⌝ }
     ensures map { λ _. ⌜ Mapped (arraysOf (now (table .entry))) (now (map .exit)) (arrayCount (now (table .entry))) ⌝ }
     ensures all { λ r. ⌜ (r ≡ entriesTo (arraysOf (now (table .entry))) (arrayCount (now (table .entry)))) × (r ≤ 1048576) ⌝ }
 {

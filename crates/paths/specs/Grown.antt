@@ -17,12 +17,10 @@ use Rattle.tree.specs.Need.{node-child, node-above}
 use Rattle.gather.specs.Views.{feedView, wordHeld, view-shape}
 use Rattle.words.specs.Words.{feedsOf, arraysOf, arrayCount}
 use Rattle.words.specs.TableBut.{TableBut}
-use Rattle.tree.specs.Free.{firstFree}
-use Rattle.words.specs.Gained.{Gains, Gained}
+use Rattle.words.specs.Gained.{Gains, GainsRight, Gained}
 use Rattle.tree.specs.HungBelow.{HungBelow, hang-held, other, node-cases}
 use Rattle.words.specs.Gain.{Gain, gain-ends, gained-hung-below, gained-feed, gained-table-but}
 use Rattle.tree.specs.Free.{Found, used-full}
-use Rattle.words.specs.Stock.{find-some}
 use Rattle.numbers.specs.Front.{front, byteOf, byte-lt, front-more, front-up}
 use Rattle.paths.specs.Alike.{Alike, rehung-alike}
 
@@ -47,13 +45,7 @@ pub record Grown (L : ℕ) (ws vs : List ℕ) (a j k r : ℕ) : Type 0 where
 -- ---- one array
 
 module _ (L : ℕ) (ws : List ℕ) (q j b i : ℕ) (tip : OpenCell L ws q j b i) (deep : suc j < L)
-    (room : getD ws 0 0 < arrayCount ws) where
-  abbrev f : ℕ
-  f = firstFree (arraysOf ws) 1 (arrayCount ws)
-
-  fo : Found (arraysOf ws) 1 (arrayCount ws) f
-  fo = find-some L b ws (tip .ok) room
-
+    (room : getD ws 0 0 < arrayCount ws) (f : ℕ) (fo : Found (arraysOf ws) 1 (arrayCount ws) f) where
   lv : Level (arrayCount ws) (arraysOf ws) b j
   lv = rw (tip .leads) at (node-level (arrayCount ws) L (arraysOf ws) (tip .ok .shape) q j (rw (tip .leads) (tip .some)))
 
@@ -73,6 +65,12 @@ module _ (L : ℕ) (ws : List ℕ) (q j b i : ℕ) (tip : OpenCell L ws q j b i)
   can-gain : Gains ws b i f
   can-gain = record {
     ends = gain-ends L ws b i f (tip .ok) gn;
+    block = tip .ok .settled b (tip .some) (lv .within) (omega (arith, lv .level)) i (tip .cells) (tip .off) .fits;
+  }
+
+  can-gain-right : GainsRight ws b i f
+  can-gain-right = record {
+    settled = tip .ok .settled b (tip .some) (lv .within) (omega (arith, lv .level));
     off = tip .off;
     count = omega (arith, tip .ok .high);
     groups =
@@ -154,44 +152,47 @@ module _ {L : ℕ} {ws vs : List ℕ} {a j i b : ℕ} (t : Turn L ws vs a j i b)
       (node-above (arrayCount vs) L (arraysOf vs) (t .tip .ok .shape) (i - n) (front L a i) n o)
 
   module _ (deep : suc i < L) (room : getD vs 0 0 < arrayCount vs) (y f : ℕ) (ey : y ≡ byteOf L a i)
-      (ef : f ≡ firstFree (arraysOf vs) 1 (arrayCount vs)) where
+      (fo : Found (arraysOf vs) 1 (arrayCount vs) f) where
     pub turn-gains : Gains vs b y f
-    turn-gains = rw (ey, ef) (can-gain L vs (front L a i) i b (byteOf L a i) (t .tip) deep room)
+    turn-gains = rw ey (can-gain L vs (front L a i) i b (byteOf L a i) (t .tip) deep room f fo)
+
+    pub turn-right : GainsRight vs b y f
+    turn-right = rw ey (can-gain-right L vs (front L a i) i b (byteOf L a i) (t .tip) deep room f fo)
 
     -- with the byte and the array in the words of the laws
     abbrev Y : ℕ
     Y = byteOf L a i
 
     abbrev F : ℕ
-    F = firstFree (arraysOf vs) 1 (arrayCount vs)
+    F = f
 
     module _ (U : List ℕ) (re : Gained vs U b Y F) where
       leads-on : node (arraysOf U) (front L a (suc i)) (suc i) ≡ F
       leads-on =
           ap (λ (q : ℕ). node (arraysOf U) q (suc i)) (front-more L a i (omega arith))
-          ∙ leads L vs (front L a i) i b Y (t .tip) deep room U re
+          ∙ leads L vs (front L a i) i b Y (t .tip) deep room f fo U re
 
       others : (c : ℕ) → 1 ≤ c → ((n : ℕ) → j ≤ n → n ≤ suc i → node (arraysOf U) (front L a n) n ≢ c) → Alike ws U c
       others c h n w m =
           let kept : (k : ℕ) → k ≤ i → node (arraysOf U) (front L a k) k ≡ node (arraysOf vs) (front L a k) k =
-          λ k hi. stay L vs (front L a i) i b Y (t .tip) deep room U re (front L a k) k (there k hi) in
-          rehung-alike (can-gain L vs (front L a i) i b Y (t .tip) deep room .ends) re c h
+          λ k hi. stay L vs (front L a i) i b Y (t .tip) deep room f fo U re (front L a k) k (there k hi) in
+          rehung-alike (can-gain L vs (front L a i) i b Y (t .tip) deep room f fo .ends) re c h
           (λ e. n (suc i) (omega (arith, t .low)) (omega arith) (leads-on ∙ sym e))
-          (λ e. n i (t .low) (omega arith) (stay-tip L vs (front L a i) i b Y (t .tip) deep room U re ∙ sym e)) w m
+          (λ e. n i (t .low) (omega arith) (stay-tip L vs (front L a i) i b Y (t .tip) deep room f fo U re ∙ sym e)) w m
           ∙ t .grown .others c h (λ k lo hi e. n k lo (omega arith) (kept k hi ∙ e)) w m
 
       grown : Grown L ws U a j (suc i) F
       grown =
           record {
-            ok = ok L vs (front L a i) i b Y (t .tip) deep room U re;
-            some = fo L vs (front L a i) i b Y (t .tip) deep room .low;
+            ok = ok L vs (front L a i) i b Y (t .tip) deep room f fo U re;
+            some = fo .low;
             size = re .size ∙ t .grown .size;
             leads = leads-on;
-            held = λ v l f y.
-                hang-held (arrayCount vs) L (feedView (feedsOf vs) f) (feedView (feedsOf U) f) b Y F
-                (hang-feed L vs (front L a i) i b Y (t .tip) deep room U re f y)
-                (view-shape (feedsOf vs) (arrayCount vs) L f (t .tip .ok .shape)) v l
-                ∙ t .grown .held v l f y;
+            held = λ v l z y.
+                hang-held (arrayCount vs) L (feedView (feedsOf vs) z) (feedView (feedsOf U) z) b Y F
+                (hang-feed L vs (front L a i) i b Y (t .tip) deep room f fo U re z y)
+                (view-shape (feedsOf vs) (arrayCount vs) L z (t .tip .ok .shape)) v l
+                ∙ t .grown .held v l z y;
             count = omega (arith, re .count, t .grown .count, t .low);
             others = others;
           }
@@ -202,8 +203,8 @@ module _ {L : ℕ} {ws vs : List ℕ} {a j i b : ℕ} (t : Turn L ws vs a j i b)
         high = deep;
         grown = grown;
         tip = rw (front-more L a i (omega arith))
-            (grow-tip L vs (front L a i) i b Y (t .tip) deep room U re (byteOf L a (suc i)) (byte-lt L a (suc i)));
+            (grow-tip L vs (front L a i) i b Y (t .tip) deep room f fo U re (byteOf L a (suc i)) (byte-lt L a (suc i)));
       }
 
     pub turn-more : (us : List ℕ) → Gained vs us b y f → Turn L ws us a j (i + 1) f
-    turn-more us g = let s : i + 1 ≡ suc i = omega arith in rw (ef, s) (turn us (rw (ey, ef) at g))
+    turn-more us g = let s : i + 1 ≡ suc i = omega arith in rw s (turn us (rw ey at g))

@@ -2,7 +2,7 @@
 -- holds none. Assumes nothing.
 use mathlib.Core.Path.{_≡_, refl, sym, ap, ap₂, _∙_}
 use mathlib.Core.Logic.{_≢_, ⊎-elim}
-use mathlib.Core.Bool.{cond}
+use mathlib.Core.Bool.{cond, true≢false}
 use mathlib.Core.List.{List}
 use mathlib.Core.Option.{some}
 use Prim.Native.Nat.{ℕ, zero, suc, _+_, _-_, _*_, _^_, _≤_, _<_}
@@ -28,6 +28,7 @@ use Rattle.words.specs.TableBut.{Table}
 use Rattle.numbers.specs.Front.{front, value-lt, front-lt, prefix-whole}
 use Rattle.address.specs.Address.{IsPrefix, Stands}
 use Rattle.paths.specs.Stop.{Stops, stops-short}
+use Rattle.paths.specs.Way.{Walked, way-table}
 
 -- feed f's word at a place whose path stops at array b of level j
 abbrev pub wordFound : List ℕ → ℕ → ℕ → ℕ → ℕ → ℕ → ℕ → ℕ
@@ -43,6 +44,31 @@ pub record Sought (L : ℕ) (ws : List ℕ) (a l f k d x j b w : ℕ) : Type 0 w
   pub stands : Stands L a l k d x
   pub stops : Stops L ws a k j b
   pub word : w ≡ wordFound ws b j k d x f
+
+-- the same on any words, whose walk found array b of level j, or 0 where the path test fails
+pub record SoughtAny (L : ℕ) (ws : List ℕ) (a l f k d x j b w : ℕ) : Type 0 where
+  pub inside : a < 2 ^ (8 * L)
+  pub stands : Stands L a l k d x
+  pub small : x < 2 ^ d
+  pub walked : Walked L ws a k j b
+  pub word : w ≡ wordFound ws b j k d x f
+
+-- a table passes it
+pub sought-table : {L : ℕ} {ws : List ℕ} {a l f k d x j b w : ℕ} → Table L ws → IsPrefix L a l → IsFeed f
+    → SoughtAny L ws a l f k d x j b w → (b ≢ 0) × Sought L ws a l f k d x j b w
+sought-table {L} {ws} {a} {k = k} {b = b} ok p i s =
+    let n : b ≢ 0 = λ e. true≢false (sym (way-table L ws a ok k (s .stands .top)) ∙ s .walked .none e) in (
+      n,
+      record {
+        ok = ok;
+        prefix = p;
+        feed = i;
+        inside = s .inside;
+        stands = s .stands;
+        stops = s .walked .some n .stops;
+        word = s .word;
+      },
+    )
 
 -- a word and what it stands for
 meant-back : (d v l f w : ℕ) → wordFor (meant d v l f w) ≡ w

@@ -33,20 +33,21 @@ pub on-root : (L : ℕ) (ws : List ℕ) (a : ℕ) → 1 ≤ arrayCount ws → On
 unfolding node
 on-root L ws a h = record { leads = refl; some = omega arith; within = h }
 
-module _ (L : ℕ) (ws : List ℕ) (a : ℕ) (s : Shape (arrayCount ws) L (arraysOf ws)) where
-  -- what the link of the next byte leads to
-  next : (j b : ℕ) → On L ws a j b → j < L → node (arraysOf ws) (front L a (suc j)) (suc j) ≡ arraysOf ws .link b (byteOf L a j)
-  next j b o h =
-      ap (λ (q : ℕ). node (arraysOf ws) q (suc j)) (front-more L a j h)
-      ∙ node-child (arraysOf ws) (front L a j) j (byteOf L a j) (byte-lt L a j) (rw (o .leads) (o .some))
-      ∙ ap (λ (c : ℕ). arraysOf ws .link c (byteOf L a j)) (o .leads)
+-- what the link of the next byte leads to
+pub next : (L : ℕ) (ws : List ℕ) (a j b : ℕ) → On L ws a j b → j < L
+    → node (arraysOf ws) (front L a (suc j)) (suc j) ≡ arraysOf ws .link b (byteOf L a j)
+next L ws a j b o h =
+    ap (λ (q : ℕ). node (arraysOf ws) q (suc j)) (front-more L a j h)
+    ∙ node-child (arraysOf ws) (front L a j) j (byteOf L a j) (byte-lt L a j) (rw (o .leads) (o .some))
+    ∙ ap (λ (c : ℕ). arraysOf ws .link c (byteOf L a j)) (o .leads)
 
+module _ (L : ℕ) (ws : List ℕ) (a : ℕ) (s : Shape (arrayCount ws) L (arraysOf ws)) where
   -- with the byte as the code has it
   pub on-step : (j b y : ℕ) → On L ws a j b → j < L → y ≡ byteOf L a j → arraysOf ws .link b y ≢ 0
       → On L ws a (j + 1) (arraysOf ws .link b y)
   on-step j b y o h ey n =
       let e : j + 1 ≡ suc j = omega arith in
-      let d : node (arraysOf ws) (front L a (suc j)) (suc j) ≡ arraysOf ws .link b y = rw ey (next j b o h) in
+      let d : node (arraysOf ws) (front L a (suc j)) (suc j) ≡ arraysOf ws .link b y = rw ey (next L ws a j b o h) in
       let l = node-level (arrayCount ws) L (arraysOf ws) s (front L a (suc j)) (suc j) (rw d (omega arith)) in
       rw e (record { leads = d; some = omega arith; within = rw d at (l .within) })
 
@@ -64,7 +65,7 @@ module _ (L : ℕ) (ws : List ℕ) (a : ℕ) (s : Shape (arrayCount ws) L (array
       let x : 1 ≤ node (arraysOf ws) (front L a k / 2 ^ (8 * suc m)) j =
       rw (front-up L a (suc m) j k (omega arith) (omega arith), p .on .leads) (p .on .some) in
       let y : node (arraysOf ws) (front L a k / 2 ^ (8 * m)) (suc j) ≡ 0 =
-      rw (front-up L a m (suc j) k e (omega arith)) (next j b (p .on) (omega arith) ∙ p .off lt) in
+      rw (front-up L a m (suc j) k e (omega arith)) (next L ws a j b (p .on) (omega arith) ∙ p .off lt) in
       rw d (ap (missing (arraysOf ws) (front L a k)) (sym e)
       ∙ missing-depth (arrayCount ws) L (arraysOf ws) s m j (front L a k) x y)))
 

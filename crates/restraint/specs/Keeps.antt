@@ -21,9 +21,8 @@ use Rattle.front.specs.Place.{Mark, mark, blank, Place, placed, key, marked, ha
 use Rattle.front.specs.Place.{keptOf, keptHop, mostPenalty, mostPlaces, heldOver, freeBelow}
 use Rattle.restraint.specs.Places.{choice, mark-case, put-more, put-in-place, has-not}
 use Rattle.front.specs.Front.{Event, asks, tick, Both, Step, step, raised, charged, charge, keeping, kept, passed, dropped}
-use Rattle.front.specs.Front.{removed, damped, updated, halved, released, spent, halve, again, due, installs, tickPlaces}
-use Rattle.front.specs.Front.{taken, leaves}
-use Rattle.restraint.specs.Passes.{rest, listPast, onePass, passes}
+use Rattle.front.specs.Front.{removed, damped, updated, halved, released, spent, halve, letGo, again, due, installs, triedList}
+use Rattle.front.specs.Front.{each, unspent, tries, tickPlaces, taken, leaves}
 
 -- ---- marks
 
@@ -104,6 +103,10 @@ rest-is false m l o e =
 
 -- ---- a tick
 
+-- its last two passes
+abbrev settled : List Place → List Place
+settled ps = unspent (each letGo ps)
+
 module _ (W A : ℕ) where
   pub installs-low : (cs : List Candidate) (p : Place) → installs W A cs p ≡ true → p .mark .penalty < freeBelow
   installs-low cs p e =
@@ -111,47 +114,86 @@ module _ (W A : ℕ) where
       (and-to (ltb (p .mark .penalty) freeBelow) (not (eqb (p .mark .kept) 0))
       (and-to (due p) (isDone (answer W A cs (again p))) e .0) .0)
 
-  pub rest-place : (cs : List Candidate) (p : Place) → IsPlace W p → spent (rest W A cs p) ≡ false
-      → IsPlace W (marked p (rest W A cs p))
-  rest-place cs p r e =
+-- each of the places was tried, whatever the table: it is as it was, or what it kept below 750 is gone
+pub record TriedOne (p q : Place) : Type 0 where
+  pub gone : Bool
+  pub low : gone ≡ true → p .mark .penalty < freeBelow
+  pub left : q ≡ marked p (cond gone (keeping (p .mark) 0) (p .mark))
+
+abbrev pub Tried : List Place → List Place → Type 0
+Tried [] [] = Unit {0}
+Tried [] (q ∷ qs) = ⊥
+Tried (p ∷ ps) [] = ⊥
+Tried (p ∷ ps) (q ∷ qs) = TriedOne p q × Tried ps qs
+
+abbrev rests : Place → Bool → Place
+rests p b = marked p (restOf b (p .mark))
+
+settled-first : (p : Place) (qs : List Place) (b : Bool) (q : Place)
+    → q ≡ marked (halve p) (cond b (keeping (halved (p .mark)) 0) (halved (p .mark)))
+    → settled (q ∷ qs) ≡ cond (spent (restOf b (p .mark))) (settled qs) (rests p b ∷ settled qs)
+settled-first p qs b q e = rw e
+
+module _ (W : ℕ) where
+  rest-place : (p : Place) (b : Bool) → (b ≡ true → p .mark .penalty / 2 < freeBelow) → IsPlace W p
+      → spent (restOf b (p .mark)) ≡ false → IsPlace W (rests p b)
+  rest-place p b l r e =
       record {
         fits = r .fits;
         inside = r .inside;
         clean = r .clean;
         first = r .first;
         last = r .last;
-        right = rest-is (installs W A cs (halve p)) (p .mark) (λ w. installs-low cs (halve p) w) (r .right) e;
+        right = rest-is b (p .mark) l (r .right) e;
       }
 
-  pub pass-ordered : (lo : ℕ) (cs : List Candidate) (ps : List Place) → Ordered key lo ps → Ordered key lo (onePass W A cs ps)
-  pass-ordered lo cs [] f = tt
-  pass-ordered lo cs (p ∷ ps) f =
-      let on = pass-ordered (suc (key p)) (listPast W A cs p) ps (f .1) in
-      bool (spent (rest W A cs p))
-      (λ e. rw e (weaken key (onePass W A (listPast W A cs p) ps) (omega arith) on))
-      (λ e. rw e (f .0, on))
+  settled-ordered : (lo : ℕ) (ps qs : List Place) → Ordered key lo ps → Tried (each halve ps) qs → Ordered key lo (settled qs)
+  settled-ordered lo [] [] f t = tt
+  settled-ordered lo [] (q ∷ qs) f t = absurd t
+  settled-ordered lo (p ∷ ps) [] f t = absurd t
+  settled-ordered lo (p ∷ ps) (q ∷ qs) f t =
+      let on = settled-ordered (suc (key p)) ps qs (f .1) (t .1) in
+      rw (settled-first p qs (t .0 .gone) q (t .0 .left))
+      (bool (spent (restOf (t .0 .gone) (p .mark)))
+      (λ e. rw e (weaken key (settled qs) (omega arith) on))
+      (λ e. rw e (f .0, on)))
 
-  pub pass-places : (cs : List Candidate) (ps : List Place) → Every (IsPlace W) ps → Every (IsPlace W) (onePass W A cs ps)
-  pass-places cs [] a = tt
-  pass-places cs (p ∷ ps) a =
-      bool (spent (rest W A cs p))
-      (λ e. rw e (pass-places (listPast W A cs p) ps (a .1)))
-      (λ e. rw e (rest-place cs p (a .0) e, pass-places (listPast W A cs p) ps (a .1)))
+  settled-places : (ps qs : List Place) → Every (IsPlace W) ps → Tried (each halve ps) qs → Every (IsPlace W) (settled qs)
+  settled-places [] [] a t = tt
+  settled-places [] (q ∷ qs) a t = absurd t
+  settled-places (p ∷ ps) [] a t = absurd t
+  settled-places (p ∷ ps) (q ∷ qs) a t =
+      rw (settled-first p qs (t .0 .gone) q (t .0 .left))
+      (bool (spent (restOf (t .0 .gone) (p .mark)))
+      (λ e. rw e (settled-places ps qs (a .1) (t .1)))
+      (λ e. rw e (rest-place p (t .0 .gone) (t .0 .low) (a .0) e, settled-places ps qs (a .1) (t .1))))
 
-  pub pass-few : (cs : List Candidate) (ps : List Place) → length (onePass W A cs ps) ≤ length ps
-  pass-few cs [] = le-refl 0
-  pass-few cs (p ∷ ps) =
-      bool (spent (rest W A cs p))
-      (λ e. rw e (omega (arith, pass-few (listPast W A cs p) ps)))
-      (λ e. rw e (omega (arith, pass-few (listPast W A cs p) ps)))
+  settled-few : (ps qs : List Place) → Tried (each halve ps) qs → length (settled qs) ≤ length ps
+  settled-few [] [] t = le-refl 0
+  settled-few [] (q ∷ qs) t = absurd t
+  settled-few (p ∷ ps) [] t = absurd t
+  settled-few (p ∷ ps) (q ∷ qs) t =
+      rw (settled-first p qs (t .0 .gone) q (t .0 .left))
+      (bool (spent (restOf (t .0 .gone) (p .mark)))
+      (λ e. rw e (omega (arith, settled-few ps qs (t .1))))
+      (λ e. rw e (omega (arith, settled-few ps qs (t .1)))))
+
+  pub settled-keeps : (ps qs : List Place) → IsFront W ps → Tried (each halve ps) qs → IsFront W (settled qs)
+  settled-keeps ps qs i t =
+      record {
+        sorted = settled-ordered 0 ps qs (i .sorted) t;
+        places = settled-places ps qs (i .places) t;
+        few = omega (arith, settled-few ps qs t, i .few);
+      }
+
+module _ (W A : ℕ) where
+  pub tries-tried : (cs : List Candidate) (ps : List Place) → Tried ps (tries W A cs ps)
+  tries-tried cs [] = tt
+  tries-tried cs (p ∷ ps) =
+      (record { gone = installs W A cs p; low = installs-low W A cs p; left = refl }, tries-tried (triedList W A cs p) ps)
 
   pub tick-keeps : (cs : List Candidate) (ps : List Place) → IsFront W ps → IsFront W (tickPlaces W A cs ps)
-  tick-keeps cs ps i =
-      rw (passes W A cs ps) (record {
-        sorted = pass-ordered 0 cs ps (i .sorted);
-        places = pass-places cs ps (i .places);
-        few = omega (arith, pass-few cs ps, i .few);
-      })
+  tick-keeps cs ps i = settled-keeps W ps (tries W A cs (each halve ps)) i (tries-tried cs (each halve ps))
 
 -- ---- updates
 

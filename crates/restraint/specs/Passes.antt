@@ -1,14 +1,14 @@
 -- A tick in one pass: places do not see each other, so each may be halved, tried, let go and freed before the next is looked at.
 -- Assumes nothing.
-use mathlib.Core.Path.{_≡_, refl, ap}
+use mathlib.Core.Path.{_≡_, refl}
 use mathlib.Core.Bool.{cond}
-use mathlib.Core.List.{List, [], _∷_, _++_}
+use mathlib.Core.List.{List, [], _∷_}
 use Prim.Native.Nat.{ℕ}
 use Rattle.logic.specs.Cases.{bool}
 use Rattle.candidates.specs.Candidate.{Candidate}
 use Rattle.front.specs.Place.{Mark, Place, marked}
 use Rattle.front.specs.Front.{released, spent, halve, tried, triedList}
-use Rattle.front.specs.Front.{tries, triesList, tickPlaces, tickList}
+use Rattle.front.specs.Front.{tickPlaces, tickList}
 
 module _ (W A : ℕ) where
   -- what a tick leaves of a place that it does not free, and of the list
@@ -34,15 +34,3 @@ module _ (W A : ℕ) where
   pub passes-list : (cs : List Candidate) (ps : List Place) → tickList W A cs ps ≡ oneList cs ps
   passes-list cs [] = refl
   passes-list cs (p ∷ ps) = passes-list (listPast cs p) ps
-
-  -- ---- one more to try
-
-  pub tries-more : (cs : List Candidate) (ps : List Place) (p : Place)
-      → tries W A cs (ps ++ (p ∷ [])) ≡ tries W A cs ps ++ (tried W A (triesList W A cs ps) p ∷ [])
-  tries-more cs [] p = refl
-  tries-more cs (q ∷ ps) p = ap (λ (x : List Place). tried W A cs q ∷ x) (tries-more (triedList W A cs q) ps p)
-
-  pub list-more : (cs : List Candidate) (ps : List Place) (p : Place)
-      → triesList W A cs (ps ++ (p ∷ [])) ≡ triedList W A (triesList W A cs ps) p
-  list-more cs [] p = refl
-  list-more cs (q ∷ ps) p = list-more (triedList W A cs q) ps p

@@ -16,12 +16,13 @@ use lib.Dec.{leb, eqb}
 use lib.ListN.{length, getD, set, length-set}
 use lib.Seq.{getD-set-same, getD-set-other}
 use lib.Pow.{pow-mono, shr-lt}
-use Rattle.logic.specs.Cases.{same, most}
+use Rattle.logic.specs.Cases.{same, less, most}
 use Rattle.sizes.specs.Sizes.{lastSlot, slotEnd, cellCount, cellsAt, cellSlots}
 use Rattle.calm.specs.Slotted.{slot-of, slot-range}
-use Rattle.calm.specs.Check.{calmOf, blockB, cellB}
-use Rattle.array.specs.Cell.{mark, linkIn, blockIn, link-tells}
-use Rattle.array.specs.Page.{slots, links, blocks}
+use Rattle.calm.specs.Check.{calmOf, blockB}
+use Rattle.slots.specs.Read.{Won}
+use Rattle.array.specs.Cell.{mark, link-tells}
+use Rattle.array.specs.Page.{slots, links}
 
 -- slot s is e bits above the cells
 abbrev Deep : ℕ → ℕ → Type 0
@@ -58,28 +59,55 @@ busy-cell f g c i v h e b = record {
 }
 
 -- a slot above two others
-here : (f g : ℕ → ℕ) (c : List ℕ) (s v k : ℕ) → 1 ≤ s → s < cellSlots
+here : (f g : ℕ → ℕ) (c : List ℕ) (n s v k : ℕ) → 1 ≤ s → s < cellSlots
     → eqb v 0 ≡ ((eqb (f (2 * s)) 0 && eqb (f (2 * s + 1)) 0) && (eqb (getD c (2 * s) 0) 0 && eqb (getD c (2 * s + 1) 0) 0))
-    → Busy f g c (s + 1) → Deep s k → eqb v 0 ≡ calmOf f g s k
+    → n ≤ 2 * s → Busy f g c n → Deep s k → eqb v 0 ≡ calmOf f g s k
 unfolding calmOf
-here f g c s v zero l h e b d = absurd (omega (arith, d .1))
-here f g c s v (suc k) l h e b d =
+here f g c n s v zero l h e w b d = absurd (omega (arith, d .1))
+here f g c n s v (suc k) l h e q b d =
     let p : 8 - k ≡ suc (8 - suc k) = omega (arith, d .0) in
     let w : 2 ^ (8 - k) ≡ 2 * 2 ^ (8 - suc k) = rw p (pow-succ' 2 (8 - suc k)) in
     let x = b .tells (2 * s) k (omega (arith, d .0), omega (arith, d .1), omega (arith, d .2)) (omega arith) in
     let y = b .tells (2 * s + 1) k (omega (arith, d .0), omega (arith, d .1), omega (arith, d .2)) (omega arith) in
     rw (x, y) at e
 
-busy-slot : (f g : ℕ → ℕ) (c : List ℕ) (s v : ℕ) → 1 ≤ s → s < cellSlots
-    → eqb v 0 ≡ ((eqb (f (2 * s)) 0 && eqb (f (2 * s + 1)) 0) && (eqb (getD c (2 * s) 0) 0 && eqb (getD c (2 * s + 1) 0) 0))
-    → Busy f g c (s + 1) → Busy f g (set c s v) s
-busy-slot f g c s v l h e b = record {
-  size = length-set c s v ∙ b .size;
-  tells = λ t k d w. same t s
-      (λ q _. (
-      let y : Deep s k = rw q at d in
-      rw (q, getD-set-same c s v 0 (omega (arith, b .size))) (here f g c s v k l h e b y)))
-      (λ q _. ap (λ (x : ℕ). eqb x 0) (getD-set-other c s t v 0 q) ∙ b .tells t k d (omega arith));
+-- c with what the hops `won` tell of the slots m .. n - 1 from the two below each, as c has it, and the same from there on
+pub record Lifted (won c k : List ℕ) (m n : ℕ) : Type 0 where
+  pub size : length k ≡ slotEnd
+  pub new : (s : ℕ) → m ≤ s → s < n → eqb (getD k s 0) 0
+      ≡ ((eqb (getD won (2 * s) 0) 0 && eqb (getD won (2 * s + 1) 0) 0)
+      && (eqb (getD c (2 * s) 0) 0 && eqb (getD c (2 * s + 1) 0) 0))
+  pub kept : (s : ℕ) → n ≤ s → getD k s 0 ≡ getD c s 0
+
+pub lifted-none : (won c : List ℕ) (m : ℕ) → length c ≡ slotEnd → Lifted won c c m m
+lifted-none won c m l = record { size = l; new = λ s a b. absurd (omega arith); kept = λ s h. refl }
+
+pub lifted-more : (won c k : List ℕ) (m s v : ℕ) → 1 ≤ s → s < cellSlots
+    → eqb v 0 ≡ ((eqb (getD won (2 * s) 0) 0 && eqb (getD won (2 * s + 1) 0) 0)
+    && (eqb (getD k (2 * s) 0) 0 && eqb (getD k (2 * s + 1) 0) 0))
+    → Lifted won c k m s → Lifted won c (set k s v) m (s + 1)
+lifted-more won c k m s v l h e y = record {
+  size = length-set k s v ∙ y .size;
+  new = λ t a b. same t s
+      (λ q _. rw (
+        q,
+        getD-set-same k s v 0 (omega (arith, y .size)),
+        ← (y .kept (2 * s) (omega arith)),
+        ← (y .kept (2 * s + 1) (omega arith)),
+      ) e)
+      (λ q _. ap (λ (x : ℕ). eqb x 0) (getD-set-other k s t v 0 q) ∙ y .new t a (omega arith));
+  kept = λ t a. getD-set-other k s t v 0 (λ z. omega arith) ∙ y .kept t (omega arith);
+}
+
+pub lifted-busy : (l won c k : List ℕ) (m : ℕ) → 1 ≤ m → m ≤ 128 → Won l won → Lifted won c k m (2 * m)
+    → Busy (slots l) (links l) c (2 * m) → Busy (slots l) (links l) k m
+lifted-busy l won c k m a b w y z = record {
+  size = y .size;
+  tells = λ s e d h. less s (2 * m)
+      (λ q _. here (slots l) (links l) c (2 * m) s (getD k s 0) e (omega arith) (omega arith)
+      (rw (w .hop (2 * s) (omega arith) (omega arith), w .hop (2 * s + 1) (omega arith) (omega arith)) at (y .new s h q))
+      (omega arith) z d)
+      (λ q _. ap (λ (x : ℕ). eqb x 0) (y .kept s q) ∙ z .tells s e d q);
 }
 
 -- ---- in the loops
@@ -93,15 +121,6 @@ marks-more l c i v h e b =
     let w : 2303 - i ≡ cellsAt + (255 - i) = omega arith in
     rw (r, ← p) (busy-cell (slots l) (links l) c (255 - i) v (omega arith)
     (rw (e, w) (sym (link-tells (getD l (cellsAt + (255 - i)) 0)))) (rw q b))
-
-pub busy-more : (l c : List ℕ) (k v : ℕ) → k < 255
-    → eqb v 0 ≡ ((eqb (slots l (2 * (255 - k))) 0 && eqb (slots l (2 * (255 - k) + 1)) 0)
-    && (eqb (getD c (2 * (255 - k)) 0) 0 && eqb (getD c (2 * (255 - k) + 1) 0) 0))
-    → Busy (slots l) (links l) c (cellSlots - k) → Busy (slots l) (links l) (set c (255 - k) v) (cellSlots - (k + 1))
-busy-more l c k v h e b =
-    let p : 255 - k + 1 ≡ cellSlots - k = omega arith in
-    let q : cellSlots - (k + 1) ≡ 255 - k = omega arith in
-    rw q (busy-slot (slots l) (links l) c (255 - k) v (omega arith) (omega arith) e (rw p b))
 
 -- ---- a cell's block by the list
 
@@ -119,7 +138,7 @@ over-deep i d b h =
     let y : (cellSlots + i) / 2 ^ (8 - d) ≡ 2 ^ d + i / 2 ^ (8 - d) = slot-of i (8 - d) (omega arith) ∙ rw e in
     (omega arith, rw e (omega arith), rw e (omega arith))
 
-ends-block : (f g : ℕ → ℕ) (c : List ℕ) (i d : ℕ) → i < cellCount → Busy f g c 1 → endsB c i d ≡ blockB f g i d
+pub ends-block : (f g : ℕ → ℕ) (c : List ℕ) (i d : ℕ) → i < cellCount → Busy f g c 1 → endsB c i d ≡ blockB f g i d
 unfolding blockB
 ends-block f g c i d b y =
     most d 8
@@ -130,12 +149,3 @@ ends-block f g c i d b y =
           (slot-range i (8 - (d - 1)) b (omega arith) .0),
     ))
     (λ h e. rw e)
-
--- a cell's word has its block, or a link
-abbrev pub cellIs : List ℕ → ℕ → ℕ → Bool
-cellIs c w i = not (eqb (linkIn w) 0) || endsB c i (blockIn w)
-
-pub cell-is : (l c : List ℕ) (i : ℕ) → i < cellCount → Busy (slots l) (links l) c 1
-    → cellIs c (getD l (cellsAt + i) 0) i ≡ cellB (slots l) (links l) (blocks l) i
-unfolding cellB
-cell-is l c i b y = rw (ends-block (slots l) (links l) c i (blocks l i) b y)

@@ -6,4 +6,8 @@ pub mod Link
 pub mod Was
 pub mod Reset
 pub mod Busy
+pub mod Empty
+pub mod Blocks
 pub mod Exists
+pub mod Recell
+pub mod Any

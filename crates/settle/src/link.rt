@@ -8,19 +8,17 @@ use array::cell::linked;
 use array::cell::plain;
 use sizes::CELLS_AT;
 ghost use mathlib.Core.Path.{_≡_};
-ghost use mathlib.Core.Logic.{_≢_};
 ghost use Prim.Native.Nat.{_<_, _≤_};
 ghost use lib.ListN.{length};
 ghost use Rattle.sizes.specs.Sizes.{arrayWords, mostArrays, cellCount, bestBound};
-ghost use Rattle.array.specs.Page.{bests, links};
-ghost use Rattle.settle.specs.Settled.{SettledPage};
-ghost use Rattle.settle.specs.Link.{Relinked};
+ghost use Rattle.array.specs.Page.{bests, blocks};
+ghost use Rattle.settle.specs.Any.{LinkedAny, CutAny};
 
 // Links cell i, which has no link, to array a.
 pub fn set_link(page: &mut [u32], i: usize, a: u32)
-    requires { ⌜ (length (now page) ≡ arrayWords) × (i < cellCount) × (1 ≤ a) × (a ≤ mostArrays) × SettledPage (now page)
-        × (links (now page) i ≡ 0) × (bests (now page) i < bestBound) ⌝ }
-    ensures { λ _. ⌜ Relinked (now (page .entry)) (now (page .exit)) i a ⌝ }
+    requires { ⌜ (length (now page) ≡ arrayWords) × (i < cellCount) × (1 ≤ a) × (a ≤ mostArrays)
+        × (blocks (now page) i ≤ 8) × (bests (now page) i < bestBound) ⌝ }
+    ensures { λ _. ⌜ LinkedAny (now (page .entry)) (now (page .exit)) i a ⌝ }
 {
     let word = page[CELLS_AT + i];
     let best = best_in(word);
@@ -31,9 +29,8 @@ pub fn set_link(page: &mut [u32], i: usize, a: u32)
 
 // Cuts the link of cell i.
 pub fn cut_link(page: &mut [u32], i: usize)
-    requires { ⌜ (length (now page) ≡ arrayWords) × (i < cellCount) × SettledPage (now page) × (links (now page) i ≢ 0)
-        × (bests (now page) i < bestBound) ⌝ }
-    ensures { λ _. ⌜ Relinked (now (page .entry)) (now (page .exit)) i 0 ⌝ }
+    requires { ⌜ (length (now page) ≡ arrayWords) × (i < cellCount) × (bests (now page) i < bestBound) ⌝ }
+    ensures { λ _. ⌜ CutAny (now (page .entry)) (now (page .exit)) i ⌝ }
 {
     let best = best_in(page[CELLS_AT + i]);
     page[CELLS_AT + i] = plain(best, 8);

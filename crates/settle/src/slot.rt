@@ -12,16 +12,17 @@ ghost use Prim.Native.Nat.{_<_, _≤_};
 ghost use lib.ListN.{length};
 ghost use Rattle.sizes.specs.Sizes.{arrayWords, cellCount};
 ghost use Rattle.slots.specs.Word.{IsFeed};
-ghost use Rattle.array.specs.Put.{SlotAt};
-ghost use Rattle.settle.specs.Settled.{SettledPage, Resettled};
+ghost use Rattle.array.specs.Put.{Spot};
 ghost use Rattle.settle.specs.Slot.{WasFree, WasTaken};
 ghost use Rattle.settle.specs.Was.{Was};
-ghost use Rattle.settle.specs.Reset.{Resets};
+ghost use Rattle.settle.specs.Recell.{tookIn, freedIn, resettledIn};
+ghost use Rattle.settle.specs.Any.{ResettledAny, ResetsAny};
 
 // The slot of depth d over cell i was taken. Where nothing above it was calm, as in a crowded array, there is nothing to write.
 fn took(page: &mut [u32], i: usize, d: usize)
-    requires { ⌜ (length (now page) ≡ arrayWords) × (i < cellCount) × (d ≤ 8) × WasFree (now page) i d ⌝ }
-    ensures { λ _. ⌜ Resettled (now (page .entry)) (now (page .exit)) ⌝ }
+    requires { ⌜ (length (now page) ≡ arrayWords) × (i < cellCount) × (d ≤ 8) ⌝ }
+    ensures { λ _. ⌜ ResettledAny (WasFree (now (page .entry)) i d) (now (page .entry)) (now (page .exit))
+        (tookIn (now (page .entry)) i d) ⌝ }
 {
     let word = page[CELLS_AT + i];
     if has_link(word) {
@@ -36,8 +37,9 @@ fn took(page: &mut [u32], i: usize, d: usize)
 
 // The slot of depth d over cell i was freed.
 fn freed(page: &mut [u32], i: usize, d: usize)
-    requires { ⌜ (length (now page) ≡ arrayWords) × (i < cellCount) × (d ≤ 8) × WasTaken (now page) i d ⌝ }
-    ensures { λ _. ⌜ Resettled (now (page .entry)) (now (page .exit)) ⌝ }
+    requires { ⌜ (length (now page) ≡ arrayWords) × (i < cellCount) × (d ≤ 8) ⌝ }
+    ensures { λ _. ⌜ ResettledAny (WasTaken (now (page .entry)) i d) (now (page .entry)) (now (page .exit))
+        (freedIn (now (page .entry)) i d) ⌝ }
 {
     let word = page[CELLS_AT + i];
     if has_link(word) {
@@ -55,8 +57,9 @@ fn freed(page: &mut [u32], i: usize, d: usize)
 
 // The slot of depth d over cell i was `old` and is `hop`: another hop changes no block.
 fn resettle(page: &mut [u32], i: usize, d: usize, old: u32, hop: u32)
-    requires { ⌜ (length (now page) ≡ arrayWords) × (i < cellCount) × (d ≤ 8) × Was (now page) i d old hop ⌝ }
-    ensures { λ _. ⌜ Resettled (now (page .entry)) (now (page .exit)) ⌝ }
+    requires { ⌜ (length (now page) ≡ arrayWords) × (i < cellCount) × (d ≤ 8) ⌝ }
+    ensures { λ _. ⌜ ResettledAny (Was (now (page .entry)) i d old hop) (now (page .entry)) (now (page .exit))
+        (resettledIn (now (page .entry)) i d old hop) ⌝ }
 {
     if old == 0 {
         if hop == 0 {
@@ -73,8 +76,8 @@ fn resettle(page: &mut [u32], i: usize, d: usize, old: u32, hop: u32)
 // Sets the word of a feed in the slot of in-array length d and value x, to 0 for none. Where another hop wins there then, the
 // cells below that no longer slot covers take the slot's cover, and are counted; and every cell without a link has its block.
 pub fn reslot(page: &mut [u32], d: usize, x: usize, feed: usize, word: u32) -> Changed
-    requires { ⌜ SlotAt (now page) d x × SettledPage (now page) × IsFeed feed ⌝ }
-    ensures { λ r. ⌜ Resets (now (page .entry)) (now (page .exit)) d x feed word r ⌝ }
+    requires { ⌜ Spot (now page) d x × IsFeed feed ⌝ }
+    ensures { λ r. ⌜ ResetsAny (now (page .entry)) (now (page .exit)) d x feed word r ⌝ }
 {
     let changed = array::change::reslot(page, d, x, feed, word);
     resettle(page, first_cell(d, x), d, changed.before, changed.after);

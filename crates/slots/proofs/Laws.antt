@@ -1,30 +1,29 @@
 -- What the proofs of this crate's functions need at their returns. Assumes nothing.
-use mathlib.Core.Path.{_≡_, refl, sym, ap, _∙_}
+use mathlib.Core.Path.{_≡_, sym, ap, _∙_}
 use mathlib.Core.Logic.{_≢_}
-use mathlib.Core.Bool.{Bool, true, false, _&&_, _||_, true≢false}
+use mathlib.Core.Bool.{Bool, true, false, not, _&&_, _||_, true≢false}
 use mathlib.Core.List.{List}
 use Prim.Native.Nat.{ℕ, _+_, _-_, _*_, _/_, _%_, _≤_, _<_}
-use native.Mathlib.Nat.{le-antisymm}
 use native.Mathlib.Omega.{arith}
 use native.Mathlib.Numerals.{add-one}
 use lib.Bits.{bitOr}
-use lib.Dec.{leb, eqb}
+use lib.Dec.{ltb, eqb}
 use lib.ListN.{length, getD}
-use borrow.Author.Tests.{eq-eqb, ne-eqb}
-use Rattle.logic.specs.Cases.{bool, less}
+use borrow.Author.Tests.{eq-eqb, ne-eqb, le-leb}
+use Rattle.logic.specs.Cases.{bool, same, less, most}
 use Rattle.logic.specs.Every.{allB}
-use Rattle.logic.specs.Reflects.{all-to, all-from, all-stop, all-done}
+use Rattle.logic.specs.Reflects.{all-to, all-from}
 use Rattle.logic.specs.Ors.{or-none}
-use Rattle.sizes.specs.Sizes.{slotWords, slotAt, lastSlot, laterSlots, slotStride, slotStrides, hopBound}
+use Rattle.sizes.specs.Sizes.{slotWords, slotAt, laterSlots, slotStride, slotStrides, hopBound}
 use Rattle.slots.specs.Zeros.{zeroAt}
 use Rattle.slots.specs.Taken.{taken}
 use Rattle.slots.specs.Word.{IsFeed, hopIn, rightWordB}
-use Rattle.slots.specs.Winner.{winner4, wonHop}
+use Rattle.slots.specs.Winner.{lower, winner4, wonHop}
 use Rattle.slots.specs.Slot.{freeSlotB, rightSlotB}
 use Rattle.slots.specs.Page.{wordsAt, pageWith, each-at}
 use Rattle.slots.specs.Stored.{HasStored, after-stored}
-use Rattle.slots.specs.Count.{slotWord, candidatesTo, words-count}
-use Rattle.slots.specs.Check.{rightSlotsB, bareSlotsB, bare-words}
+use Rattle.slots.specs.Count.{slotWord, candidatesTo, words-count, few-candidates, free-candidates}
+use Rattle.slots.specs.Check.{bareSlotsB, bare-words}
 use Rattle.slots.specs.declared.slot.Hops.{Hops}
 
 -- one word more is 0
@@ -42,15 +41,30 @@ pub taken-same : (f : ℕ → ℕ) (s : ℕ) → f (s + 1) ≡ 0 → taken f (s 
 unfolding taken
 taken-same f s h = rw (add-one s, eq-eqb (f (s + 1)) 0 h) (omega arith)
 
-pub taken-none : (f : ℕ → ℕ) → 0 ≡ taken f 0
-unfolding taken
-taken-none f = refl
-
 -- ---- one slot
 
-pub right-told : (w : ℕ) → (eqb w 0 || (leb 1 (w % hopBound) && leb (w / hopBound) 255)) ≡ rightWordB w
+pub fault-hopless : (w : ℕ) → w % hopBound ≡ 0 → eqb w 0 ≡ rightWordB w
 unfolding rightWordB
-right-told w = refl
+fault-hopless w e = same w 0 (λ _ d. rw d) (λ _ d. rw (d, e))
+
+pub fault-hop : (w : ℕ) → w % hopBound ≢ 0 → eqb (w / 16777216) 0 ≡ rightWordB w
+unfolding rightWordB
+fault-hop w n =
+    rw (ne-eqb w 0 (λ z. n (omega arith)), le-leb 1 (w % hopBound) (omega arith))
+    (most (w / hopBound) 255 (λ h e. rw (e, eq-eqb (w / 16777216) 0 (omega arith)))
+    (λ h e. rw (e, ne-eqb (w / 16777216) 0 (λ z. omega arith))))
+
+pub lower-yes : (x y : ℕ) → (not (eqb y 0) && (eqb x 0 || ltb (y / hopBound) (x / hopBound))) ≡ true → y ≡ lower x y
+unfolding lower
+lower-yes x y h =
+    same y 0 (λ _ e. absurd (true≢false (sym (rw e at h)))) (λ _ e.
+    same x 0 (λ _ d. rw (e, d)) (λ _ d. rw (e, d, rw (e, d) at h)))
+
+pub lower-no : (x y : ℕ) → (not (eqb y 0) && (eqb x 0 || ltb (y / hopBound) (x / hopBound))) ≡ false → x ≡ lower x y
+unfolding lower
+lower-no x y h =
+    same y 0 (λ _ e. rw e) (λ _ e.
+    same x 0 (λ _ d. absurd (true≢false (rw (e, d) at h))) (λ _ d. rw (e, d, rw (e, d) at h)))
 
 pub free-told : (ws : List ℕ) (i : ℕ)
     → eqb (bitOr (getD ws i 0) (bitOr (getD ws (i + 1) 0) (bitOr (getD ws (i + 2) 0) (getD ws (i + 3) 0)))) 0
@@ -63,12 +77,13 @@ free-told ws i =
     ors : (a b c d : ℕ) → eqb (bitOr a (bitOr b (bitOr c d))) 0 ≡ (eqb a 0 && (eqb b 0 && (eqb c 0 && eqb d 0)))
     ors a b c d = rw (or-none a (bitOr b (bitOr c d)), or-none b (bitOr c d), or-none c d)
 
-pub slot-told : (ws : List ℕ) (i : ℕ) (a b c d : Bool) → a ≡ rightWordB (getD ws i 0) → b ≡ rightWordB (getD ws (i + 1) 0)
-    → c ≡ rightWordB (getD ws (i + 2) 0) → d ≡ rightWordB (getD ws (i + 3) 0)
-    → (a && (b && (c && d))) ≡ rightSlotB (wordsAt ws i)
+pub faults-told : (ws : List ℕ) (i a b c d : ℕ) → eqb a 0 ≡ rightWordB (getD ws i 0) → eqb b 0 ≡ rightWordB (getD ws (i + 1) 0)
+    → eqb c 0 ≡ rightWordB (getD ws (i + 2) 0) → eqb d 0 ≡ rightWordB (getD ws (i + 3) 0)
+    → eqb (bitOr a (bitOr b (bitOr c d))) 0 ≡ rightSlotB (wordsAt ws i)
 unfolding rightSlotB
-slot-told ws i a b c d p q r s =
-    rw (p, q, r, s) (each-at (λ a b c d. rightWordB a && (rightWordB b && (rightWordB c && rightWordB d))) ws i)
+faults-told ws i a b c d p q r s =
+    rw (or-none a (bitOr b (bitOr c d)), or-none b (bitOr c d), or-none c d, p, q, r, s)
+    (each-at (λ a b c d. rightWordB a && (rightWordB b && (rightWordB c && rightWordB d))) ws i)
 
 pub hop-told : (ws : List ℕ) (i w h : ℕ)
     → w ≡ winner4 (getD ws i 0) (getD ws (i + 1) 0) (getD ws (i + 2) 0) (getD ws (i + 3) 0) → h ≡ hopIn w
@@ -81,18 +96,6 @@ pub stored-told : (ws vs : List ℕ) (i f w : ℕ) (r : Hops) → i + slotWords 
 stored-told ws vs i f w r h p e b a = record { page = e; before = b; after = a ∙ after-stored ws vs i f w h p e }
 
 -- ---- all slots of a page
-
--- slot s + 1 is the one that the loop is at
-abbrev pub slotTest : List ℕ → ℕ → Bool
-slotTest ws s = rightSlotB (wordsAt ws (slotAt (s + 1)))
-
-pub rights-stop : (ws : List ℕ) (s : ℕ) → s < lastSlot → slotTest ws s ≡ false → false ≡ rightSlotsB ws
-unfolding rightSlotsB
-rights-stop ws s h e = all-stop (slotTest ws) lastSlot s h e
-
-pub rights-done : (ws : List ℕ) (s : ℕ) → allB (slotTest ws) s ≡ true → s ≤ lastSlot → lastSlot ≤ s → true ≡ rightSlotsB ws
-unfolding rightSlotsB
-rights-done ws s e h w = all-done (slotTest ws) lastSlot s e h w
 
 -- the words of slotStride slots at a time
 abbrev pub strideWords : ℕ
@@ -123,20 +126,45 @@ module _ (ws : List ℕ) (g : ℕ) where
       let e : strideWords * g ≡ slotWords * laterSlots = omega arith in
       sym (rw e at a) ∙ bare-words ws
 
--- one word more is counted, or is 0
-module _ (ws : List ℕ) (k : ℕ) where
-  at-word : k + 4 ≡ k + 1 + 3
+-- one word more of the slots past `from` is counted, or is 0
+module _ (ws : List ℕ) (from k : ℕ) where
+  at-word : slotWords * (from + 1) + k ≡ slotWords * from + k + 1 + 3
   at-word = omega arith
 
-  pub count-more : getD ws (k + 4) 0 ≢ 0 → taken (slotWord ws) (k + 1) ≡ taken (slotWord ws) k + 1
-  count-more n = taken-more (slotWord ws) k (rw at-word at n)
+  next : slotWords * from + (k + 1) ≡ slotWords * from + k + 1
+  next = omega arith
 
-  pub count-same : getD ws (k + 4) 0 ≡ 0 → taken (slotWord ws) (k + 1) ≡ taken (slotWord ws) k
-  count-same e = taken-same (slotWord ws) k (rw at-word at e)
+  pub count-more : getD ws (slotWords * (from + 1) + k) 0 ≢ 0
+      → taken (slotWord ws) (slotWords * from + (k + 1)) ≡ taken (slotWord ws) (slotWords * from + k) + 1
+  count-more n = rw next (taken-more (slotWord ws) (slotWords * from + k) (rw at-word at n))
 
-  pub count-done : (n : ℕ) → n ≡ taken (slotWord ws) k → k ≤ slotWords * lastSlot → slotWords * lastSlot ≤ k
-      → n ≡ candidatesTo ws lastSlot
-  count-done n e h w = e ∙ ap (taken (slotWord ws)) (le-antisymm h w) ∙ words-count ws lastSlot
+  pub count-same : getD ws (slotWords * (from + 1) + k) 0 ≡ 0
+      → taken (slotWord ws) (slotWords * from + (k + 1)) ≡ taken (slotWord ws) (slotWords * from + k)
+  count-same e = rw next (taken-same (slotWord ws) (slotWords * from + k) (rw at-word at e))
 
-pub count-none : (ws : List ℕ) → 0 ≡ taken (slotWord ws) 0
-count-none ws = taken-none (slotWord ws)
+  pub count-done : (n m : ℕ) → taken (slotWord ws) (slotWords * from) + m ≡ taken (slotWord ws) (slotWords * from + k)
+      → k ≡ slotWords * n → candidatesTo ws from + m ≡ candidatesTo ws (from + n)
+  count-done n m e w =
+      let d : slotWords * from + k ≡ slotWords * (from + n) = omega arith in
+      omega (arith, e, ap (taken (slotWord ws)) d, words-count ws from, words-count ws (from + n))
+
+pub count-none : (ws : List ℕ) (from : ℕ)
+    → taken (slotWord ws) (slotWords * from) + 0 ≡ taken (slotWord ws) (slotWords * from + 0)
+count-none ws from = let e : slotWords * from + 0 ≡ slotWords * from = omega arith in rw e (omega arith)
+
+-- ---- rows of slots
+
+-- no slot is read yet
+pub count-start : (ws : List ℕ) (r n : ℕ) → candidatesTo ws 0 + r ≡ candidatesTo ws n → r ≡ candidatesTo ws n
+count-start ws r n e = omega (arith, few-candidates ws 0)
+
+-- one row more
+pub count-row : (ws : List ℕ) (n s m r : ℕ) → m ≡ candidatesTo ws s → candidatesTo ws s + r ≡ candidatesTo ws (s + n)
+    → m + r ≡ candidatesTo ws (s + n)
+count-row ws n s m r e d = rw e d
+
+-- a row whose words are 0 adds none
+pub count-free : (ws : List ℕ) (n s m : ℕ) → allB (zeroAt ws (slotAt (s + 1))) (slotWords * n) ≡ true
+    → m ≡ candidatesTo ws s → m ≡ candidatesTo ws (s + n)
+count-free ws n s m z e =
+    e ∙ sym (free-candidates ws s n (all-to (zeroAt ws (slotAt (s + 1))) (slotWords * n) z))

@@ -1,6 +1,6 @@
 -- What the check of a page's slots computes: whether they are right, and whether one past the first has a candidate. Assumes
 -- nothing.
-use mathlib.Core.Path.{_≡_, refl, ap, ap₂, _∙_}
+use mathlib.Core.Path.{_≡_, refl, ap, _∙_}
 use mathlib.Core.Bool.{Bool, true, false, _&&_}
 use mathlib.Core.List.{List}
 use Prim.Native.Nat.{ℕ, zero, suc, _+_, _-_, _*_, _≤_, _<_}
@@ -8,7 +8,7 @@ use native.Mathlib.Omega.{arith}
 use lib.Dec.{eqb}
 use Rattle.logic.specs.Cases.{bool, same}
 use Rattle.logic.specs.Every.{allB}
-use Rattle.logic.specs.Reflects.{Reflects, reflects-all, reflects-as}
+use Rattle.logic.specs.Reflects.{Reflects, reflects-all, reflects-as, all-same}
 use Rattle.sizes.specs.Sizes.{slotWords, slotAt, lastSlot, slotEnd, laterSlots}
 use Rattle.slots.specs.Zeros.{zeroAt}
 use Rattle.slots.specs.Winner.{wonHop}
@@ -37,11 +37,6 @@ right-slots-reflects ws =
 
 unfoldable pub bareSlotsB : List ℕ → Bool
 bareSlotsB ws = allB (λ s. freeSlotB (wordsAt ws (slotAt (s + 2)))) laterSlots
-
-all-same : (p q : ℕ → Bool) (n : ℕ) → ((i : ℕ) → i < n → p i ≡ q i) → allB p n ≡ allB q n
-unfolding allB
-all-same p q zero e = refl
-all-same p q (suc n) e = ap₂ _&&_ (all-same p q n (λ i h. e i (omega arith))) (e n (omega arith))
 
 -- where they are right, that is the test of the winning hops
 free-hop : (g : ℕ → ℕ) → RightSlot g → freeSlotB g ≡ eqb (wonHop g) 0

@@ -8,3 +8,4 @@ pub mod Stored
 pub mod Count
 pub mod Check
 pub mod Prefix
+pub mod Read

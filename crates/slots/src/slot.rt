@@ -1,10 +1,11 @@
 // The four words of a slot, the first of them at word i of a page: feed f's is at i + f - 1.
+use super::word::fault;
 use super::word::hop_in;
-use super::word::right;
 use sizes::HOP_BOUND;
 use sizes::SLOT_WORDS;
 ghost use mathlib.Core.Path.{_≡_};
 ghost use Prim.Native.Nat.{_+_, _<_, _≤_};
+ghost use lib.Dec.{eqb};
 ghost use lib.ListN.{length};
 ghost use Rattle.sizes.specs.Sizes.{slotWords, slotAt, hopBound};
 ghost use Rattle.slots.specs.Word.{IsFeed};
@@ -19,7 +20,7 @@ pub struct Hops {
     pub after: u32,
 }
 
-// Of a word and one of a higher feed, the one that wins.
+// Of a word and one of a higher feed, the one that wins. By tests: an update looks at few slots, and most words are 0.
 fn lower(x: u32, y: u32) -> u32
     ensures { λ r. ⌜ r ≡ lowerOf x y ⌝ }
 {
@@ -35,11 +36,28 @@ fn lower(x: u32, y: u32) -> u32
     x
 }
 
+// The same by one choice, so that a loop over slots has no branch.
+fn lower_flat(x: u32, y: u32) -> u32
+    ensures { λ r. ⌜ r ≡ lowerOf x y ⌝ }
+{
+    if (y != 0) & ((x == 0) | (y / HOP_BOUND < x / HOP_BOUND)) {
+        y
+    } else {
+        x
+    }
+}
+
 // Of the words of feeds 1 to 4, the one that wins.
 pub fn winner4(a: u32, b: u32, c: u32, d: u32) -> u32
     ensures { λ r. ⌜ r ≡ winnerOf4 a b c d ⌝ }
 {
     lower(a, lower(b, lower(c, d)))
+}
+
+fn winner_flat(a: u32, b: u32, c: u32, d: u32) -> u32
+    ensures { λ r. ⌜ r ≡ winnerOf4 a b c d ⌝ }
+{
+    lower_flat(a, lower_flat(b, lower_flat(c, d)))
 }
 
 // The winning hop of a slot, 0 for none.
@@ -58,6 +76,14 @@ pub fn hop_of(page: &[u32], s: usize) -> u32
     hop_at(page, SLOT_WORDS * s)
 }
 
+// The same for a loop over slots.
+pub fn hop_flat(page: &[u32], i: usize) -> u32
+    requires { ⌜ i + slotWords ≤ length (now page) ⌝ }
+    ensures { λ r. ⌜ (r ≡ wonHop (wordsAt (now (page .entry)) i)) × (r < hopBound) ⌝ }
+{
+    hop_in(winner_flat(page[i], page[i + 1], page[i + 2], page[i + 3]))
+}
+
 // No feed has a candidate there.
 pub fn is_free(page: &[u32], i: usize) -> bool
     requires { ⌜ i + slotWords ≤ length (now page) ⌝ }
@@ -66,12 +92,12 @@ pub fn is_free(page: &[u32], i: usize) -> bool
     page[i] | (page[i + 1] | (page[i + 2] | page[i + 3])) == 0
 }
 
-// The four words are right.
-pub fn is_right(page: &[u32], i: usize) -> bool
+// 0 where the four words are right.
+pub fn faults(page: &[u32], i: usize) -> u32
     requires { ⌜ i + slotWords ≤ length (now page) ⌝ }
-    ensures { λ r. ⌜ r ≡ rightSlotB (wordsAt (now (page .entry)) i) ⌝ }
+    ensures { λ r. ⌜ eqb r 0 ≡ rightSlotB (wordsAt (now (page .entry)) i) ⌝ }
 {
-    right(page[i]) & (right(page[i + 1]) & (right(page[i + 2]) & right(page[i + 3])))
+    fault(page[i]) | (fault(page[i + 1]) | (fault(page[i + 2]) | fault(page[i + 3])))
 }
 
 // A feed's word.

@@ -2,8 +2,12 @@
 use sizes::HOP_BOUND;
 ghost use mathlib.Core.Path.{_≡_};
 ghost use Prim.Native.Nat.{_<_, _≤_};
+ghost use lib.Dec.{eqb};
 ghost use Rattle.sizes.specs.Sizes.{hopBound};
 ghost use Rattle.slots.specs.Word.{wordOf, preferenceIn, hopIn, rightWordB};
+
+// No word of a candidate reaches this.
+const WORD_BOUND: u32 = 16777216;
 
 // The word of a preference and a hop.
 pub fn word_of(preference: u32, hop: u32) -> u32
@@ -27,9 +31,13 @@ pub fn hop_in(word: u32) -> u32
     word % HOP_BOUND
 }
 
-// The word is 0, or has a hop from 1 to 65,535 and a preference up to 255.
-pub fn right(word: u32) -> bool
-    ensures { λ r. ⌜ r ≡ rightWordB word ⌝ }
+// 0 where the word is 0 or has a hop from 1 to 65,535 and a preference up to 255.
+pub fn fault(word: u32) -> u32
+    ensures { λ r. ⌜ eqb r 0 ≡ rightWordB word ⌝ }
 {
-    (word == 0) | ((word % HOP_BOUND >= 1) & (word / HOP_BOUND <= 255))
+    if word % HOP_BOUND == 0 {
+        word
+    } else {
+        word / WORD_BOUND
+    }
 }

@@ -3,3 +3,4 @@ pub mod Seats
 pub mod Looked
 pub mod Kept
 pub mod Records
+pub mod Spreads

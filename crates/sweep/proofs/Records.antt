@@ -19,6 +19,7 @@ use Rattle.routes.specs.Route.{Route}
 use Rattle.routes.specs.Collect.{own}
 use Rattle.candidates.specs.Bytes.{announces, sentBytes, allBytes, plainly}
 use Rattle.words.specs.Half.{halfOf}
+use Rattle.words.specs.Empty.{totalIn}
 use Rattle.writing.specs.Halves.{slot-small}
 use Rattle.shortest.specs.Chosen.{pick, under}
 use Rattle.sweep.specs.Walk.{lowOf, routesAt}
@@ -81,8 +82,8 @@ bytes-append (x ∷ xs) ys =
 unfoldable rest : List ℕ → List ℕ → ℕ → ℕ → ℕ → ℕ → List Route
 rest ws ms zero p v g = []
 rest ws ms (suc d) p v g =
-    cond (eqb (halfOf ws p) 0) []
-    (routesAt ws ms d (halfOf ws p) (2 * v) g ++ routesAt ws ms d (halfOf ws p + slotWords) (2 * v + 1) g)
+    cond (eqb (totalIn ws p) 0) [] (cond (eqb (halfOf ws p) 0) []
+    (routesAt ws ms d (halfOf ws p) (2 * v) g ++ routesAt ws ms d (halfOf ws p + slotWords) (2 * v + 1) g))
 
 split : (ws ms : List ℕ) (bits p v h r : ℕ) → r ≡ pick 32 (getD ms p 0) h
     → routesAt ws ms bits p v h ≡ own bits v (32 - bits) r ++ rest ws ms bits p v (under r h)
@@ -90,19 +91,24 @@ unfolding routesAt rest
 split ws ms zero p v h r e = rw e (sym (append-nil (own zero v 32 (pick 32 (getD ms p 0) h))))
 split ws ms (suc d) p v h r e = rw e
 
-rest-none : (ws ms : List ℕ) (bits p v g : ℕ) → lowOf ws bits p ≡ 0 → rest ws ms bits p v g ≡ []
+rest-empty : (ws ms : List ℕ) (bits p v g : ℕ) → totalIn ws p ≡ 0 → rest ws ms bits p v g ≡ []
 unfolding rest
-rest-none ws ms zero p v g e = refl
-rest-none ws ms (suc d) p v g e = rw (eq-eqb (halfOf ws p) 0 e)
+rest-empty ws ms zero p v g z = refl
+rest-empty ws ms (suc d) p v g z = rw (eq-eqb (totalIn ws p) 0 z)
 
-rest-some : (ws ms : List ℕ) (bits p v g low : ℕ) → low ≡ lowOf ws bits p → low ≢ 0
+rest-none : (ws ms : List ℕ) (bits p v g : ℕ) → totalIn ws p ≢ 0 → lowOf ws bits p ≡ 0 → rest ws ms bits p v g ≡ []
+unfolding rest
+rest-none ws ms zero p v g t e = refl
+rest-none ws ms (suc d) p v g t e = rw (ne-eqb (totalIn ws p) 0 t, eq-eqb (halfOf ws p) 0 e)
+
+rest-some : (ws ms : List ℕ) (bits p v g low : ℕ) → totalIn ws p ≢ 0 → low ≡ lowOf ws bits p → low ≢ 0
     → rest ws ms bits p v g
     ≡ routesAt ws ms (bits - 1) low (2 * v) g ++ routesAt ws ms (bits - 1) (low + slotWords) (2 * v + 1) g
 unfolding rest
-rest-some ws ms zero p v g low e n = absurd (n e)
-rest-some ws ms (suc d) p v g low e n =
+rest-some ws ms zero p v g low t e n = absurd (n e)
+rest-some ws ms (suc d) p v g low t e n =
     let q : suc d - 1 ≡ d = omega arith in
-    rw (ne-eqb (halfOf ws p) 0 (λ z. n (e ∙ z)), q, e)
+    rw (ne-eqb (totalIn ws p) 0 t, ne-eqb (halfOf ws p) 0 (λ z. n (e ∙ z)), q, e)
 
 module _ {ws ms : List ℕ} {p v bits h : ℕ} {b : List ℕ} {at : ℕ} (d : PutsRoutes ws ms p v bits h b at) where
   pub part-inside : p < length ms
@@ -137,16 +143,25 @@ module _ {ws ms : List ℕ} {p v bits h : ℕ} {b : List ℕ} {at : ℕ} (d : Pu
     pub ask-put : Puts r v bits b at
     ask-put = record { most = d .stands .most; small = value; room = omega (arith, total) }
 
-    pub part-leaf : (c : List ℕ) (q low : ℕ) → low ≡ lowOf ws bits p → low ≡ 0 → Wrote b at (bytesOwn bits v r) q c
+    -- nothing below
+    part-end : {c : List ℕ} {q : ℕ} → rest ws ms bits p v (under r h) ≡ [] → Wrote b at (bytesOwn bits v r) q c
         → Wrote b at (bytesOf (routesAt ws ms bits p v h)) q c
     unfolding bytesOf
-    part-leaf c q low f z w =
-        rw (bytes-split, rest-none ws ms bits p v (under r h) (sym f ∙ z), append-nil (bytesOwn bits v r)) w
+    part-end e w = rw (bytes-split, e, append-nil (bytesOwn bits v r)) w
+
+    pub part-empty : {c : List ℕ} {q : ℕ} → totalIn ws p ≡ 0 → Wrote b at (bytesOwn bits v r) q c
+        → Wrote b at (bytesOf (routesAt ws ms bits p v h)) q c
+    part-empty z = part-end (rest-empty ws ms bits p v (under r h) z)
+
+    pub part-leaf : {c : List ℕ} {q low : ℕ} → totalIn ws p ≢ 0 → low ≡ lowOf ws bits p → low ≡ 0
+        → Wrote b at (bytesOwn bits v r) q c → Wrote b at (bytesOf (routesAt ws ms bits p v h)) q c
+    part-leaf t f z = part-end (rest-none ws ms bits p v (under r h) t (sym f ∙ z))
 
 -- a prefix with the route r whose lower half stands in the slot low, with g from above
 pub record Halved (ws ms : List ℕ) (p v bits h : ℕ) (b : List ℕ) (at r low g : ℕ) : Type 0 where
   pub asked : PutsRoutes ws ms p v bits h b at
   pub hop : (r ≡ pick 32 (getD ms p 0) h) × (r ≤ 33)
+  pub held : totalIn ws p ≢ 0
   pub is : low ≡ lowOf ws bits p
   pub some : low ≢ 0
   pub next : g ≡ under r h
@@ -160,7 +175,7 @@ module _ {ws ms : List ℕ} {p v bits h : ℕ} {b : List ℕ} {at r low g : ℕ}
 
   rest-split : bytesOf (rest ws ms bits p v (under r h)) ≡ X ++ Y
   rest-split =
-      rw (← (k .next)) (ap bytesOf (rest-some ws ms bits p v g low (k .is) (k .some))
+      rw (← (k .next)) (ap bytesOf (rest-some ws ms bits p v g low (k .held) (k .is) (k .some))
       ∙ bytes-append (routesAt ws ms (bits - 1) low (2 * v) g) (routesAt ws ms (bits - 1) (low + slotWords) (2 * v + 1) g))
 
   rest-total : at + (length (bytesOwn bits v r) + (length X + length Y)) ≤ length b

@@ -27,6 +27,12 @@ pub record Looks (ws : List ℕ) (p bits : ℕ) : Type 0 where
   pub v : ℕ
   pub stands : Stands ws p v bits
 
+-- spread: the slot of a prefix, and the room
+pub record Spreads (ws : List ℕ) (p bits : ℕ) (ms : List ℕ) : Type 0 where
+  pub v : ℕ
+  pub stands : Stands ws p v bits
+  pub size : length ws ≤ length ms
+
 -- keep_sets: the slot of a prefix in a table of small hops; below it every address has a hop
 pub record KeepsSets (ws : List ℕ) (p bits h : ℕ) (ms : List ℕ) : Type 0 where
   pub v : ℕ

@@ -2,7 +2,7 @@
 -- Assumes nothing.
 use mathlib.Core.Path.{_≡_, refl, sym, ap, ap₂, _∙_}
 use mathlib.Core.Bool.{true, cond, _&&_}
-use mathlib.Core.List.{List, _++_}
+use mathlib.Core.List.{List, [], _++_}
 use Prim.Native.Nat.{ℕ, zero, suc, _+_, _*_, _≤_}
 use native.Mathlib.Omega.{arith}
 use lib.Dec.{eqb}
@@ -14,6 +14,7 @@ use Rattle.tree.specs.Arrays.{Arrays, held}
 use Rattle.words.specs.Words.{arraysOf}
 use Rattle.words.specs.TableBut.{Table}
 use Rattle.words.specs.Half.{halfOf}
+use Rattle.words.specs.Empty.{totalIn}
 use Rattle.shortest.specs.HopSet.{only}
 use Rattle.shortest.specs.Shortest.{upto}
 use Rattle.shortest.specs.Chosen.{setOf, under}
@@ -21,7 +22,7 @@ use Rattle.shortest.specs.Inside.{cost, carried, In, in-one, in-left, in-right,
 use Rattle.shortest.specs.Leaf.{one-hop, bare-carried}
 use Rattle.shortest.specs.Proved.{upto-append, upto-own}
 use Rattle.sweep.specs.Walk.{wonAt, hopIn, setAt, costAt, smallAt}
-use Rattle.sweep.specs.Slot.{At, slot-hop, slot-lower, slot-upper, bare-lower, bare-upper}
+use Rattle.sweep.specs.Slot.{At, slot-hop, slot-lower, slot-upper, bare-lower, bare-upper, empty-all}
 
 module _ (ws : List ℕ) (tb : Table 4 ws) where
   abbrev t : Arrays
@@ -41,15 +42,20 @@ module _ (ws : List ℕ) (tb : Table 4 ws) where
 
   pub small-is : (d p v l : ℕ) → l + d ≡ 32 → At ws tb p v l → smallAt ws d p ≡ upto 32 (collect (held t) d v l)
   unfolding smallAt collect
-  small-is zero p v l e s = rw (← (slot-hop ws tb p v l s)) (sym (upto-own 32 zero v l (held t v l)))
+  small-is zero p v l e s =
+      same (totalIn ws p) 0
+      (λ z q. rw q (sym (ap (upto 32) (empty-all ws tb p v l s z zero e))))
+      (λ n q. rw (q, ← (slot-hop ws tb p v l s)) (sym (upto-own 32 zero v l (held t v l))))
   small-is (suc d) p v l e s =
       let x = collect (held t) d (2 * v) (suc l) in
       let y = collect (held t) d (2 * v + 1) (suc l) in
-      rw (← (slot-hop ws tb p v l s)) (sym (upto-append 32 (own (suc d) v l (held t v l)) (x ++ y)
+      same (totalIn ws p) 0
+      (λ z q. rw q (sym (ap (upto 32) (empty-all ws tb p v l s z (suc d) e))))
+      (λ n q. rw (q, ← (slot-hop ws tb p v l s)) (sym (upto-append 32 (own (suc d) v l (held t v l)) (x ++ y)
       ∙ ap₂ _&&_ (upto-own 32 (suc d) v l (held t v l)) (upto-append 32 x y
       ∙ small-below p v l s d e
       (λ n. small-is d (halfOf ws p) (2 * v) (suc l) (omega arith) (slot-lower ws tb p v l s n))
-      (λ n. small-is d (halfOf ws p + slotWords) (2 * v + 1) (suc l) (omega arith) (slot-upper ws tb p v l s n)))))
+      (λ n. small-is d (halfOf ws p + slotWords) (2 * v + 1) (suc l) (omega arith) (slot-upper ws tb p v l s n))))))
 
   -- ---- the sets, where G is what the table forwards
 
@@ -70,16 +76,16 @@ module _ (ws : List ℕ) (tb : Table 4 ws) where
       unfolding carried
       gives-right d h g a i = let j = in-right d v a i in rw (here h) at (rw (in-head (suc d) v a j) at (g a j))
 
-      -- no slots for the halves: one hop
-      pub flat : (d h : ℕ) → l + suc d ≡ 32 → halfOf ws p ≡ 0 → Gives (suc d) v l h
-          → (setOf G (suc d) v ≡ only (hopIn ws p h)) × (cost G (suc d) v ≡ 0)
-      flat d h e z g =
+      -- nothing in the halves: one hop
+      pub flat : (d h : ℕ) → collect (held t) d (2 * v) (suc l) ≡ [] → collect (held t) d (2 * v + 1) (suc l) ≡ []
+          → Gives (suc d) v l h → (setOf G (suc d) v ≡ only (hopIn ws p h)) × (cost G (suc d) v ≡ 0)
+      flat d h x y g =
           let k = hopIn ws p h in
           one-hop G k (suc d) v (λ a i. in-half d v a i
           (λ j. sym (gives-left d h g a j)
-          ∙ bare-carried (held t) d (2 * v) (suc l) k (ap length (bare-lower ws tb p v l s d z e)) a j)
+          ∙ bare-carried (held t) d (2 * v) (suc l) k (ap length x) a j)
           (λ j. sym (gives-right d h g a j)
-          ∙ bare-carried (held t) d (2 * v + 1) (suc l) k (ap length (bare-upper ws tb p v l s d z e)) a j))
+          ∙ bare-carried (held t) d (2 * v + 1) (suc l) k (ap length y) a j))
 
     -- the set and the cost of the prefix
     pub set-is : (d p v l h : ℕ) → l + d ≡ 32 → At ws tb p v l → Gives d v l h
@@ -89,7 +95,9 @@ module _ (ws : List ℕ) (tb : Table 4 ws) where
     set-is (suc d) p v l h e s g =
         let k = hopIn ws p h in
         same (halfOf ws p) 0
-        (λ z q. (let f = flat p v l s d h e z g in rw q (sym (f .0), sym (f .1))))
+        (λ z q.
+        let f = flat p v l s d h (bare-lower ws tb p v l s d z e) (bare-upper ws tb p v l s d z e) g in
+        rw q (sym (f .0), sym (f .1)))
         (λ n q.
         let i : 1 ≤ halfOf ws p = omega arith in
         let x = set-is d (halfOf ws p) (2 * v) (suc l) k (omega arith) (slot-lower ws tb p v l s i) (gives-left p v l s d h g) in

@@ -1,14 +1,13 @@
 -- The slot of a prefix in a table: its winning hop is the prefix's, one prefix stands in it, and where its halves have no slots
--- nothing is held below it. Assumes nothing.
+-- nothing is held below it, nor where its total is 0. Assumes nothing.
 use mathlib.Core.Path.{_≡_, refl, sym, ap, ap₂, _∙_}
 use mathlib.Core.List.{List, [], _∷_, _++_}
-use Prim.Native.Nat.{ℕ, zero, suc, _+_, _*_, _^_, _≤_, _<_}
+use Prim.Native.Nat.{ℕ, zero, suc, _+_, _-_, _*_, _^_, _≤_, _<_}
 use native.Mathlib.Omega.{arith}
 use lib.ListN.{length, length-append}
 use lib.Pow.{pow-mono}
 use Rattle.sizes.specs.Sizes.{slotWords, slotEnd}
-use Rattle.routes.specs.Collect.{collect}
-use Rattle.candidates.specs.Candidate.{Candidate}
+use Rattle.routes.specs.Collect.{own, collect}
 use Rattle.slots.specs.Word.{hopIn, each-feed}
 use Rattle.slots.specs.Winner.{lower, wonHop, winner-same}
 use Rattle.tree.specs.Arrays.{held}
@@ -19,16 +18,17 @@ use Rattle.gather.specs.Views.{wordHeld, held-won}
 use Rattle.words.specs.Words.{feedsOf, arraysOf, arrayCount}
 use Rattle.words.specs.TableBut.{Table}
 use Rattle.words.specs.Half.{halfOf}
-use Rattle.writing.specs.Halves.{InSlot, slot-words, slot-half, half-bare}
+use Rattle.words.specs.Empty.{totalIn}
+use Rattle.writing.specs.Halves.{InSlot, slot-words, slot-bare, slot-half, half-bare}
 use Rattle.sweep.specs.Walk.{wonAt}
 
 -- ---- no candidates, no hop
 
-list-none : (xs : List Candidate) → length xs ≡ 0 → xs ≡ []
+list-none : {A : Type 0} (xs : List A) → length xs ≡ 0 → xs ≡ []
 list-none [] e = refl
 list-none (x ∷ xs) e = absurd (omega arith)
 
-both-none : (xs ys : List Candidate) → xs ++ ys ≡ [] → (xs ≡ []) × (ys ≡ [])
+both-none : {A : Type 0} (xs ys : List A) → xs ++ ys ≡ [] → (xs ≡ []) × (ys ≡ [])
 both-none xs ys e =
     let n : length xs + length ys ≡ 0 = sym (length-append xs ys) ∙ ap length e in
     (list-none xs (omega arith), list-none ys (omega arith))
@@ -60,6 +60,21 @@ collect-none f g h (suc d) v l e =
       collect-none f g h d (2 * v) (suc l) (b .0),
       collect-none f g h d (2 * v + 1) (suc l) (b .1),
     )
+
+-- nothing collected: nothing at the prefix, and nothing in its halves
+pub collect-own : (f : ℕ → ℕ → ℕ) (d v l : ℕ) → collect f d v l ≡ [] → own d v l (f v l) ≡ []
+unfolding collect
+collect-own f zero v l e = e
+collect-own f (suc d) v l e =
+    both-none (own (suc d) v l (f v l)) (collect f d (2 * v) (suc l) ++ collect f d (2 * v + 1) (suc l)) e .0
+
+pub collect-halves : (f : ℕ → ℕ → ℕ) (d v l : ℕ) → collect f (suc d) v l ≡ []
+    → (collect f d (2 * v) (suc l) ≡ []) × (collect f d (2 * v + 1) (suc l) ≡ [])
+unfolding collect
+collect-halves f d v l e =
+    let x = collect f d (2 * v) (suc l) in
+    let y = collect f d (2 * v + 1) (suc l) in
+    both-none x y (both-none (own (suc d) v l (f v l)) (x ++ y) e .1)
 
 -- ---- one prefix stands in a slot
 
@@ -107,3 +122,12 @@ module _ (ws : List ℕ) (tb : Table 4 ws) where
 
     pub bare-upper : (d : ℕ) → halfOf ws p ≡ 0 → l + suc d ≡ 32 → collect (held (arraysOf ws)) d (2 * v + 1) (suc l) ≡ []
     bare-upper d z e = bare d 1 z e (omega arith)
+
+    -- its total is 0: nothing there, and so nothing below
+    module _ (z : totalIn ws p ≡ 0) where
+      pub empty-all : (d : ℕ) → l + d ≡ 32 → collect (held (arraysOf ws)) d v l ≡ []
+      empty-all d e = let o : 32 - l ≡ d = omega arith in rw o at (slot-bare 4 ws tb p v l s (omega arith) z)
+
+      pub empty-below : (d : ℕ) → l + suc d ≡ 32
+          → (collect (held (arraysOf ws)) d (2 * v) (suc l) ≡ []) × (collect (held (arraysOf ws)) d (2 * v + 1) (suc l) ≡ [])
+      empty-below d e = collect-halves (held (arraysOf ws)) d v l (empty-all (suc d) e)

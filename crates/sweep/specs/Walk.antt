@@ -11,6 +11,7 @@ use Rattle.routes.specs.Collect.{own}
 use Rattle.slots.specs.Winner.{wonHop}
 use Rattle.slots.specs.Page.{wordsAt}
 use Rattle.words.specs.Half.{halfOf}
+use Rattle.words.specs.Empty.{totalIn}
 use Rattle.shortest.specs.HopSet.{only}
 use Rattle.shortest.specs.Chosen.{meet, pick, under}
 use Rattle.shortest.specs.Inside.{apart}
@@ -28,12 +29,13 @@ abbrev pub lowOf : List ℕ → ℕ → ℕ → ℕ
 lowOf ws zero p = 0
 lowOf ws (suc d) p = halfOf ws p
 
--- no winning hop of the prefix in slot p and of all below it is over 32
+-- no winning hop of the prefix in slot p and of all below it is over 32; nothing is held there where the total is 0
 unfoldable pub smallAt : List ℕ → ℕ → ℕ → Bool
-smallAt ws zero p = leb (wonAt ws p) 32
+smallAt ws zero p = cond (eqb (totalIn ws p) 0) true (leb (wonAt ws p) 32)
 smallAt ws (suc d) p =
-    leb (wonAt ws p) 32
-    && cond (eqb (halfOf ws p) 0) true (smallAt ws d (halfOf ws p) && smallAt ws d (halfOf ws p + slotWords))
+    cond (eqb (totalIn ws p) 0) true
+    (leb (wonAt ws p) 32
+    && cond (eqb (halfOf ws p) 0) true (smallAt ws d (halfOf ws p) && smallAt ws d (halfOf ws p + slotWords)))
 
 -- ---- from below
 
@@ -61,13 +63,21 @@ storeAt ws (suc d) p h ms =
     cond (eqb (halfOf ws p) 0) (set ms p (setAt ws (suc d) p h))
     (set (storeAt ws d (halfOf ws p + slotWords) g (storeAt ws d (halfOf ws p) g ms)) p (setAt ws (suc d) p h))
 
+-- and once one set is kept for all of them
+unfoldable pub spreadAt : List ℕ → ℕ → ℕ → ℕ → List ℕ → List ℕ
+spreadAt ws zero p m ms = set ms p m
+spreadAt ws (suc d) p m ms =
+    cond (eqb (halfOf ws p) 0) (set ms p m)
+    (set (spreadAt ws d (halfOf ws p + slotWords) m (spreadAt ws d (halfOf ws p) m ms)) p m)
+
 -- ---- from above
 
--- the routes of the prefix v in slot p and of all below it, where h comes from above, by the sets ms
+-- the routes of the prefix v in slot p and of all below it, where h comes from above, by the sets ms; where the total is 0 one
+-- set serves all, and there is none below
 unfoldable pub routesAt : List ℕ → List ℕ → ℕ → ℕ → ℕ → ℕ → List Route
 routesAt ws ms zero p v h = own zero v 32 (pick 32 (getD ms p 0) h)
 routesAt ws ms (suc d) p v h =
     let r = pick 32 (getD ms p 0) h in
     own (suc d) v (32 - suc d) r
-    ++ cond (eqb (halfOf ws p) 0) []
-    (routesAt ws ms d (halfOf ws p) (2 * v) (under r h) ++ routesAt ws ms d (halfOf ws p + slotWords) (2 * v + 1) (under r h))
+    ++ cond (eqb (totalIn ws p) 0) [] (cond (eqb (halfOf ws p) 0) []
+    (routesAt ws ms d (halfOf ws p) (2 * v) (under r h) ++ routesAt ws ms d (halfOf ws p + slotWords) (2 * v + 1) (under r h)))

@@ -18,6 +18,7 @@ use Rattle.words.specs.Words.{feedsOf, arraysOf, arrayCount}
 use Rattle.words.specs.Table.{listOf}
 use Rattle.words.specs.TableBut.{Table}
 use Rattle.words.specs.Half.{halfOf}
+use Rattle.words.specs.Empty.{totalIn}
 use Rattle.writing.specs.Halves.{slot-root, slot-small}
 use Rattle.shortest.specs.Shortest.{hopOf, forwards, upto}
 use Rattle.shortest.specs.Chosen.{pick, under, above, chosen, shortest}
@@ -27,7 +28,7 @@ use Rattle.shortest.specs.Leaf.{chosen-leaf}
 use Rattle.shortest.specs.Lists.{carried-last}
 use Rattle.shortest.specs.Proved.{Upto, upto-hop, forwards-some, forwards-upto, whole-length}
 use Rattle.sweep.specs.Walk.{wonAt, hopIn, smallAt, costAt, storeAt, routesAt}
-use Rattle.sweep.specs.Slot.{At, slot-hop, slot-lower, slot-upper}
+use Rattle.sweep.specs.Slot.{At, slot-hop, slot-lower, slot-upper, bare-lower, bare-upper, empty-below}
 use Rattle.sweep.specs.Sets.{Gives, gives-left, gives-right, flat, set-is, small-is}
 use Rattle.sweep.specs.Stored.{Done, store-is}
 
@@ -49,15 +50,22 @@ module _ (ws : List ℕ) (tb : Table 4 ws) where
     routes-are (suc d) p v l h g ms e s f b c i =
         let q : 32 - suc d ≡ l = omega arith in
         let r : pick 32 (getD ms p 0) g ≡ chosen 32 32 G v l = rw (c .0, i) (sym (set-at 32 32 G (suc d) v l e)) in
-        same (halfOf ws p) 0
+        same (totalIn ws p) 0
         (λ z y.
-        let k = chosen-leaf 32 32 G d v l e b (flat ws tb G p v l s d h e z f .1) in
+        let o = empty-below ws tb p v l s z d e in
+        let k = chosen-leaf 32 32 G d v l e b (flat ws tb G p v l s d h (o .0) (o .1) f .1) in
         rw (y, q, r, k .0, k .1))
+        (λ _ x. same (halfOf ws p) 0
+        (λ z y.
+        let o = flat ws tb G p v l s d h (bare-lower ws tb p v l s d z e) (bare-upper ws tb p v l s d z e) f in
+        let k = chosen-leaf 32 32 G d v l e b (o .1) in
+        rw (x, y, q, r, k .0, k .1))
         (λ n y.
         let m : 1 ≤ halfOf ws p = omega arith in
         let o = under (chosen 32 32 G v l) g in
         let u : o ≡ under (chosen 32 32 G v l) (above 32 32 G l v) = rw i in
         rw (
+          x,
           y,
           q,
           r,
@@ -67,7 +75,7 @@ module _ (ws : List ℕ) (tb : Table 4 ws) where
           routes-are d (halfOf ws p + slotWords) (2 * v + 1) (suc l) (hopIn ws p h) o ms (omega arith)
               (slot-upper ws tb p v l s m) (gives-right ws tb G p v l s d h f) (hops-right 32 G d v b) (c .1 m .1)
               (u ∙ sym (below 32 32 G d v l (2 * v + 1) e (omega arith))),
-        ))
+        )))
 
   -- ---- the whole table
 

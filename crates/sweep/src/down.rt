@@ -3,6 +3,7 @@ use super::half::lower;
 use super::set::choose;
 use super::set::under;
 use sizes::SLOT_WORDS;
+use words::total::total_in;
 ghost use Rattle.numbers.specs.Wrote.{Wrote};
 ghost use Rattle.sweep.specs.Walk.{routesAt};
 ghost use Rattle.sweep.specs.Asked.{bytesOf, bytesOwn, Puts, PutsRoutes};
@@ -25,7 +26,7 @@ fn put(hop: u32, v: usize, bits: usize, buffer: &mut [u8], at: usize) -> usize
 }
 
 // The records of the prefix v in `slot`, with some bits below it, and of all below it, where a hop comes from above; returns the
-// place after them.
+// place after them. Below a slot whose total is 0 every set is the slot's own, so that there are none.
 pub fn put_routes(
     words: &[u32],
     scratch: &[u32],
@@ -42,6 +43,9 @@ pub fn put_routes(
 {
     let hop = choose(scratch[slot], above);
     let p = put(hop, v, bits, buffer, at);
+    if total_in(words, slot) == 0 {
+        return p;
+    }
     let low = lower(words, slot, bits);
     if low == 0 {
         return p;

@@ -9,38 +9,28 @@ use native.Mathlib.Omega.{arith}
 use lib.Dec.{eqb}
 use lib.ListN.{length, drop}
 use Rattle.routes.specs.Family.{Family, levels}
-use Rattle.routes.specs.Answers.{refused, isRefused}
 use Rattle.routes.specs.Seen.{Answer, gives, refuses}
-use Rattle.candidates.specs.Answers.{Update}
 use Rattle.candidates.specs.Seen.{Seen, countOn, frontOn}
 use borrow.Author.Tests.{lt-ltb, le-ltb}
 use Rattle.logic.specs.Cases.{less, same}
 use Rattle.sizes.specs.Sizes.{hopBound}
-use Rattle.laws.specs.Given.{refused-one, given-refused}
+use Rattle.laws.specs.Given.{given-refused}
 use Rattle.words.specs.Table.{seen}
 use Rattle.audit.specs.declared.Cleared.{Cleared}
 use Rattle.audit.specs.Answer.{clearAnswer, HasCleared as Below}
-use Rattle.replies.specs.Said.{saidReply}
-use Rattle.replies.specs.declared.Reply.{Reply}
-use Rattle.update.specs.Update.{HasUpdated as Made}
 use Rattle.writing.specs.declared.Counted.{Counted}
 use Rattle.writing.specs.Answer.{countAnswer, HasFilled, front-length, front-none}
 use Rattle.lookup.specs.declared.End.{End}
 use Rattle.lookup.specs.Ended.{ended}
-use Rattle.feed.specs.declared.Ran.{Ran as Outcome}
-use Rattle.feed.specs.declared.Ran.the-variants.{Stopped, Refused as Unfit}
-use Rattle.feed.specs.Runs.{runAnswer, reported, HasRun as Run}
 use Rattle.lengths.specs.Marks.{wordsFor}
 use Rattle.listing.specs.Listed.{Listed, unlisted, listed, listedIn}
 use Rattle.lengths_build.specs.Answer.{buildOn}
 use Rattle.lengths_build.specs.declared.Built.{Built}
 use Rattle.lengths_build.specs.Answer.{buildAnswer}
 use Rattle.lengths_build.specs.Build.{LeavesOn}
-use Rattle.toggleash.specs.Face.{refusal, looked, updated, wrote, ran, HasCleared, HasUpdated, HasWritten, HasRun}
+use Rattle.toggleash.specs.Face.{refusal, looked, wrote, HasCleared, HasWritten}
 use Rattle.toggleash.specs.Copies.{built, HasBuilt}
-use Rattle.toggleash.specs.declared.Updated.{Updated}
 use Rattle.toggleash.specs.declared.Written.{Written}
-use Rattle.toggleash.specs.declared.Ran.{Ran as Fields}
 use Rattle.toggleash.specs.declared.copies.Built.{Built as Numbers}
 
 -- ---- a lookup: where the walk ended, in plain numbers
@@ -70,23 +60,12 @@ module _ (e : End) where
       let l : 0 + e .best / hopBound ≡ e .best / hopBound = omega arith in
       rw (le-ltb 128 (e .block) h, t, o, one-mul (e .best / hopBound), l))
 
--- ---- the other calls, of a family
+-- ---- clearing
 
 pub cleared : (F : Family) (ws vs : List ℕ) (r : Cleared) (n : ℕ) → Below (levels F) ws vs r → n ≡ refusal (clearAnswer r)
     → HasCleared F ws vs n
 cleared F ws vs r n b e =
     record { answer = e ∙ ap refusal (b .answer); left = b .left; kept = λ m q. b .kept m (b .answer ∙ q) }
-
-pub made : (F : Family) (ws vs : List ℕ) (u : Update) (r : Reply) (x : Updated) → Made (levels F) ws vs u r
-    → x ≡ updated (saidReply r) → HasUpdated F ws vs u x
-made F ws vs u r x m e =
-    record {
-      answer = e ∙ ap updated (m .answer);
-      list = m .list;
-      kept = λ n q. m .kept (ap isRefused (m .answer ∙ q));
-      still = m .still;
-      frame = m .frame;
-    }
 
 -- ---- writing out
 
@@ -108,23 +87,6 @@ module _ (F : Family) (ws b c : List ℕ) (n : ℕ) (f : HasFilled F (seen (leve
   pub written-told : (r : Counted) (k : ℕ) (x : Written) → k ≡ length b → countAnswer r ≡ countOn F s k
       → x ≡ wrote (countAnswer r) → HasWritten F ws b c x
   written-told r k x e t w = record { answer = w ∙ ap wrote (t ∙ ap (countOn F s) e); front = front }
-
--- ---- the run
-
-told-refused : (r : Outcome) (n : ℕ) → runAnswer r ≡ refuses n → r ≡ Unfit n
-told-refused (Stopped x) n e = absurd (given-refused e)
-told-refused (Unfit m) n e = ap Unfit (refused-one e)
-
-pub ran-so : (F : Family) (ws feed b vs c : List ℕ) (r : Outcome) (x : Fields) → Run F ws feed b vs c r → x ≡ ran (runAnswer r)
-    → HasRun F ws feed b vs c x
-ran-so F ws feed b vs c r x p e =
-    record {
-      answer = e ∙ ap ran (p .answer);
-      list = p .list;
-      replies = p .replies;
-      kept = λ n q. p .kept n (told-refused r n (p .answer ∙ ap reported q));
-      series = p .series;
-    }
 
 -- ---- the copy's build
 

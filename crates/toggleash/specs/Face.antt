@@ -11,9 +11,13 @@ use Rattle.candidates.specs.Answers.{Update}
 use Rattle.candidates.specs.Seen.{answerOn, afterOn, clearOn, clearedOn, countOn, frontOn}
 use Rattle.candidates.specs.Seen.{runOn, ranOn, repliedOn, recordsOn, answersOn}
 use Rattle.words.specs.Table.{seen}
+use Rattle.words.specs.TableBut.{Table}
 use Rattle.paths.specs.Alike.{Alike}
+use Rattle.update.specs.Anywhere.{localWords}
 use Rattle.update.specs.Update.{Touches}
 use Rattle.feed.specs.Series.{Series}
+use Rattle.feed.specs.Turns.{IsTable}
+use Rattle.feed.specs.Local.{ranWords}
 use Rattle.feed.specs.declared.Report.{Report}
 use Rattle.feed.specs.Runs.{reported}
 use Rattle.toggleash.specs.declared.Counted.{Counted}
@@ -80,6 +84,8 @@ pub record HasUpdated (F : Family) (ws vs : List ℕ) (u : Update) (r : Updated)
   pub still : seen (levels F) vs ≡ seen (levels F) ws → vs ≡ ws
   -- an array off the prefix's path has the same words, and where the prefix neither appears nor goes all but its own
   pub frame : (c : ℕ) → 1 ≤ c → ¬ Touches (levels F) u ws vs c → Alike ws vs c
+  -- of a table, the words are those that the call which tests only what it touches leaves
+  pub words : Table (levels F) ws → vs ≡ localWords (levels F) ws u
 
 pub record HasWritten (F : Family) (ws b c : List ℕ) (r : Written) : Type 0 where
   pub answer : r ≡ wrote (countOn F (seen (levels F) ws) (length b))
@@ -92,3 +98,5 @@ pub record HasRun (F : Family) (ws feed b vs c : List ℕ) (r : Fields) : Type 0
   pub kept : (n : ℕ) → runOn F (seen (levels F) ws) feed b ≡ refuses n → vs ≡ ws
   -- a call for each record taken: a lookup, and a record that is refused, leave every word
   pub series : Series (levels F) ws (recordsOn F (seen (levels F) ws) feed b) (answersOn F (seen (levels F) ws) feed b) vs
+  -- of a table, the words are those that the run leaves which tests only what its records touch
+  pub words : IsTable (seen (levels F) ws) → vs ≡ ranWords F ws feed (length b)

@@ -1,2 +1,4 @@
 pub mod Face
 pub mod Copies
+pub mod Made
+pub mod Local

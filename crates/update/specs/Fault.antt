@@ -14,7 +14,11 @@ use Rattle.candidates.specs.Candidate.{badFeed}
 use Rattle.candidates.specs.Answers.{Update, announce, withdraw, faulty}
 use Rattle.slots.specs.Word.{IsFeed}
 use Rattle.address.specs.Address.{IsPrefix, prefixFault}
-use Rattle.update.specs.Update.{faultOf}
+
+-- the number of the first fault of an update itself, 0 where it has none
+abbrev pub faultOf : ℕ → Update → ℕ
+faultOf W (announce a l h f p) = cond (tooLong W l) 3 (cond (stray W a l) 4 (cond (badHop h) 5 (cond (badFeed f) 10 0)))
+faultOf W (withdraw a l f) = cond (tooLong W l) 3 (cond (stray W a l) 4 (cond (badFeed f) 10 0))
 
 -- 3, 4, 5, 10
 pub faulty-by : (W : ℕ) (u : Update) (r : Reply) → faulty W u r ≡ cond (eqb (faultOf W u) 0) r (refused (faultOf W u))

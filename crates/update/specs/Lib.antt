@@ -11,3 +11,6 @@ pub mod Withdraw
 pub mod Fault
 pub mod Refuse
 pub mod Passes
+pub mod Anywhere
+pub mod Local
+pub mod Locally

@@ -21,8 +21,9 @@ use Rattle.words.specs.View.{fits-no-misfit, no-misfit-fits, table-fits, seen-m
 use Rattle.words.specs.CheckReflects.{table-reflects}
 use Rattle.replies.specs.declared.Reply as code
 use Rattle.replies.specs.declared.Reply.the-variants.{Refused}
-use Rattle.update.specs.Update.{faultOf, refusalOf, HasUpdated, HasApplied}
-use Rattle.update.specs.Fault.{faulty-by}
+use Rattle.update.specs.Fault.{faultOf, faulty-by}
+use Rattle.update.specs.Anywhere.{touchFault, wordsBy, localFault, localWords}
+use Rattle.update.specs.Update.{refusalOf, HasUpdated, HasApplied}
 
 -- what is not accepted leaves what the words are seen to be
 pub unaccepted : (W : ℕ) (s : Seen) (u : Update) → isDone (answerOn W s u) ≡ false → afterOn W s u ≡ s
@@ -32,14 +33,18 @@ unaccepted W (table A cs) u e = rw e
 
 -- a refusal that leaves the words
 refuses : (L : ℕ) (ws : List ℕ) (u : Update) (n : ℕ) → answerOn (8 * L) (seen L ws) u ≡ refused n
-    → HasUpdated L ws ws u (Refused n)
-refuses L ws u n e =
+    → (Table L ws → ws ≡ localWords L ws u) → HasUpdated L ws ws u (Refused n)
+refuses L ws u n e w =
     let l = sym (unaccepted (8 * L) (seen L ws) u (ap isDone e)) in
-    record { answer = sym e; list = l; kept = λ _. refl; still = λ _. refl; frame = λ c h n w b. refl }
+    record { answer = sym e; list = l; kept = λ _. refl; still = λ _. refl; frame = λ c h n w b. refl; words = w }
+
+sized : (L : ℕ) (ws : List ℕ) → Table L ws → misfits (length ws) ≡ false
+sized L ws t = fits-no-misfit (length ws) (table-fits L ws t)
 
 -- 1
 refuses-size : (L : ℕ) (ws : List ℕ) (u : Update) → misfits (length ws) ≡ true → HasUpdated L ws ws u (Refused 1)
-refuses-size L ws u e = refuses L ws u 1 (rw (seen-misfit L ws e))
+refuses-size L ws u e =
+    refuses L ws u 1 (rw (seen-misfit L ws e)) (λ t. absurd (true≢false (sym e ∙ sized L ws t)))
 
 module _ (L : ℕ) (ws : List ℕ) (u : Update) where
   refuses-fault : 1 ≤ L → L < levelBound → (n : ℕ) → misfits (length ws) ≡ false → n ≡ faultOf (8 * L) u → n ≢ 0
@@ -52,13 +57,17 @@ module _ (L : ℕ) (ws : List ℕ) (u : Update) where
       (λ m _. absurd (true≢false (sym m ∙ e)))
       (λ _ _ s. rw s (any (refused 2)))
       (λ _ _ _ s. rw s (any (verdict (8 * L) (arrayCount ws) (listOf L ws) u))))
+      (λ t. (let d : localFault L ws u ≡ n = rw (e, ← f, ne-eqb n 0 z) in rw (d, ne-eqb n 0 z)))
 
   pub refuses-table : (n : ℕ) → Table L ws → n ≡ faultOf (8 * L) u → n ≢ 0 → HasUpdated L ws ws u (Refused n)
-  refuses-table n t = refuses-fault (t .shape .some-level) (t .shape .levels) n (fits-no-misfit (length ws) (table-fits L ws t))
+  refuses-table n t = refuses-fault (t .shape .some-level) (t .shape .levels) n (sized L ws t)
 
   -- 2
   refuses-foreign : misfits (length ws) ≡ false → faultOf (8 * L) u ≡ 0 → tableB L ws ≡ false → HasUpdated L ws ws u (Refused 2)
-  refuses-foreign e f b = refuses L ws u 2 (rw (seen-foreign L ws e b) (faulty-by (8 * L) u (refused 2) ∙ rw f))
+  refuses-foreign e f b =
+      refuses L ws u 2 (rw (seen-foreign L ws e b) (faulty-by (8 * L) u (refused 2) ∙ rw f))
+      (λ t. absurd (true≢false (sym (table-reflects L ws (t .shape .some-level) (t .shape .levels) (table-fits L ws t) .from t)
+      ∙ b)))
 
 -- ---- the first of them, for tables of L levels
 
@@ -103,15 +112,16 @@ module _ (L : ℕ) (ws : List ℕ) (some : 1 ≤ L) (levels : L < levelBound) wh
       (λ z _. absurd (omega (arith, refusal-fault L ws f m z))))
 
 pub applied : (L : ℕ) (ws vs : List ℕ) (u : Update) (r : code.Reply) → Table L ws → faultOf (8 * L) u ≡ 0 → HasApplied L ws vs u r
-    → HasUpdated L ws vs u r
+    → vs ≡ wordsBy L ws u (touchFault L ws u) → HasUpdated L ws vs u r
 unfolding answer
-applied L ws vs u r t f p = record {
+applied L ws vs u r t f p w = record {
   answer = rw (seen-table L ws t) (p .answer ∙ sym none);
   list = rw (seen-table L vs (p .table), seen-table L ws t, none)
       (ap₂ table (ap (λ (n : ℕ). n / arrayWords - 1) (p .size)) (p .list ∙ rw (p .answer)));
   kept = p .kept;
   still = λ e. p .still (held-in (rw (seen-table L vs (p .table), seen-table L ws t) at e));
   frame = p .frame;
+  words = λ _. rw (sized L ws t, f) w;
 }
   where
     held-in : {A B : ℕ} {xs ys : List Candidate} → table A xs ≡ table B ys → xs ≡ ys

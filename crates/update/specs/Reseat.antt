@@ -20,7 +20,6 @@ use Rattle.words.specs.Words.{feedsOf, arraysOf, arrayCount, slotsOf, totalsOf}
 use Rattle.words.specs.TableBut.{TableBut}
 use Rattle.words.specs.SlotSet.{SlotSet, slot-set-tree}
 use Rattle.words.specs.Added.{own-bits}
-use Rattle.words.specs.Climbing.{Climbing}
 use Rattle.words.specs.Retotalled.{step, retotalled, WordSet, end-slots, end-slot-set, end-sums, end-still, end-off}
 use Rattle.paths.specs.Alike.{Alike}
 use Rattle.update.specs.Seat.{Seat, Seated, reseated, seat-at}
@@ -60,21 +59,6 @@ module _ {L : ℕ} {ws vs : List ℕ} {a k d x f w : ℕ} {r : Changed} (s : Sit
 
   tree : TreeWordSet (feedsOf ws) (feedsOf vs) a slot f w
   tree = slot-set-tree L (s .e) ws vs a slot f w (s .seat .some) (g .slot)
-
-  -- what the totals' code asks
-  pub reseat-climbing : Climbing L vs a
-  reseat-climbing = record {
-    whole = rw (g .slot .size) (s .ok .whole);
-    low = rw (g .slot .size) (s .ok .low);
-    shape = rw (g .slot .size)
-        (same-shape (arraysOf ws) (arraysOf vs) (tree .tags) (tree .links) (arrayCount ws) L (s .ok .shape));
-    some = s .seat .some;
-    within = rw (g .slot .size) (s .within);
-    used = rw (g .slot .tag) (omega (arith, s .seat .level));
-  }
-
-  pub reseat-size : length vs ≤ mostWords
-  reseat-size = rw (g .slot .size) (s .ok .high)
 
   set : (v : ℕ) → node (arraysOf ws) v k ≡ a → WordSet L (s .e) ws vs v k a slot f w
   set v e = record {

@@ -7,10 +7,9 @@ use mathlib.Core.Logic.{_⊎_}
 use Prim.Native.Nat.{ℕ, _+_, _*_, _≤_}
 use lib.Dec.{eqb}
 use lib.ListN.{length}
-use Rattle.routes.specs.Route.{tooLong, stray, badHop}
 use Rattle.routes.specs.Room.{level}
 use Rattle.routes.specs.Answers.{isDone, isRefused}
-use Rattle.candidates.specs.Candidate.{Candidate, badFeed}
+use Rattle.candidates.specs.Candidate.{Candidate}
 use Rattle.candidates.specs.Winners.{winning}
 use Rattle.candidates.specs.Answers.{Update, announce, withdraw, changed, verdict}
 use Rattle.candidates.specs.Seen.{misfits, answerOn, afterOn}
@@ -22,6 +21,7 @@ use Rattle.numbers.specs.Front.{front}
 use Rattle.paths.specs.Alike.{Alike}
 use Rattle.replies.specs.Said.{saidReply}
 use Rattle.replies.specs.declared.Reply.{Reply}
+use Rattle.update.specs.Anywhere.{localWords}
 
 -- ---- which arrays may differ
 
@@ -47,6 +47,8 @@ pub record HasUpdated (L : ℕ) (ws vs : List ℕ) (u : Update) (r : Reply) : Ty
   pub kept : isRefused (saidReply r) ≡ true → vs ≡ ws
   pub still : seen L vs ≡ seen L ws → vs ≡ ws
   pub frame : (c : ℕ) → 1 ≤ c → ¬ Touches L u ws vs c → Alike ws vs c
+  -- of a table, the words are those that the call which tests only what it touches leaves
+  pub words : Table L ws → vs ≡ localWords L ws u
 
 -- ---- the same of a table, once the update itself is without fault
 
@@ -59,11 +61,6 @@ pub record HasApplied (L : ℕ) (ws vs : List ℕ) (u : Update) (r : Reply) : Ty
   pub kept : isRefused (saidReply r) ≡ true → vs ≡ ws
   pub still : listOf L vs ≡ listOf L ws → vs ≡ ws
   pub frame : (c : ℕ) → 1 ≤ c → ¬ Touches L u ws vs c → Alike ws vs c
-
--- the number of the first fault of an update itself, 0 where it has none
-abbrev pub faultOf : ℕ → Update → ℕ
-faultOf W (announce a l h f p) = cond (tooLong W l) 3 (cond (stray W a l) 4 (cond (badHop h) 5 (cond (badFeed f) 10 0)))
-faultOf W (withdraw a l f) = cond (tooLong W l) 3 (cond (stray W a l) 4 (cond (badFeed f) 10 0))
 
 -- the first number before the work, 0 where there is none: 1 for the size, the update's own fault f, 2 for words that are no
 -- table of L levels

@@ -1,22 +1,24 @@
 // Announcements and withdrawals: a feed's candidate put into a table of lent words, or taken out of it. An address is its bytes,
 // as many as the table has levels.
 use array::change::Changed;
+use paths::ASTRAY;
 use replies::Reply;
 use slots::word::hop_in;
 use slots::word::word_of;
 ghost use mathlib.Core.Path.{_≡_};
-ghost use Prim.Native.Nat.{_*_, _<_};
+ghost use mathlib.Core.Bool.{true};
+ghost use Prim.Native.Nat.{_*_, _<_, _≤_};
 ghost use lib.ListN.{length as size};
-ghost use Rattle.sizes.specs.Sizes.{levelBound};
+ghost use Rattle.sizes.specs.Sizes.{leastWords, mostWords, levelBound};
 ghost use Rattle.candidates.specs.Answers.{announce as announced, withdraw as withdrawn};
 ghost use Rattle.slots.specs.Word.{IsFeed};
 ghost use Rattle.words.specs.TableBut.{Table};
 ghost use Rattle.address.specs.Address.{IsAddress, IsPrefix};
 ghost use Rattle.numbers.specs.Number.{number};
-ghost use Rattle.update.specs.Fault.{feedFault, SoundRoute};
-ghost use Rattle.update.specs.Seat.{Seat, Seated};
-ghost use Rattle.update.specs.Reseat.{Sits, Reseated};
-ghost use Rattle.update.specs.Update.{HasUpdated, HasApplied, faultOf, refusalOf};
+ghost use Rattle.update.specs.Fault.{faultOf, feedFault, SoundRoute};
+ghost use Rattle.update.specs.Locally.{HasUpdatedLocally};
+ghost use Rattle.update.specs.Local.{SpotIn, SeatedAny, SitsAny, ReseatedAny, AppliedAny};
+ghost use Rattle.update.specs.Update.{HasUpdated, refusalOf};
 
 // The number of the fault of a feed's number, 0 where it has none.
 fn feed_fault(feed: u32) -> u32
@@ -64,8 +66,8 @@ pub fn withdraw_fault(address: &[u8], length: u32, feed: u32) -> u32
 
 // A feed's word in the slot at a place of array a set, to 0 for none. The page of that array alone is lent.
 fn reslot(words: &mut [u32], a: usize, p: address::Place, feed: usize, word: u32) -> Changed
-    requires { ⌜ Seat (now words) a (p .level) (p .depth) (p .value) × IsFeed feed ⌝ }
-    ensures { λ r. ⌜ Seated (now (words .entry)) (now (words .exit)) a (p .depth) (p .value) feed word r ⌝ }
+    requires { ⌜ SpotIn (now words) a (p .depth) (p .value) × IsFeed feed ⌝ }
+    ensures { λ r. ⌜ SeatedAny (now (words .entry)) (now (words .exit)) a (p .depth) (p .value) feed word r ⌝ }
 {
     let from = words::part::array_at(a);
     let to = words::part::array_at(a + 1);
@@ -75,25 +77,18 @@ fn reslot(words: &mut [u32], a: usize, p: address::Place, feed: usize, word: u32
 }
 
 // The same, and the totals on the path of the array; the cells rewritten are counted.
-fn reseat(
-    words: &mut [u32],
-    levels: usize,
-    a: usize,
-    p: address::Place,
-    feed: usize,
-    word: u32,
-) -> u32
-    requires { ⌜ Sits levels (now words) a (p .level) (p .depth) (p .value) × IsFeed feed ⌝ }
-    ensures { λ r. ⌜ Reseated (now (words .entry)) (now (words .exit)) a (p .level) (p .depth) (p .value) feed word r ⌝ }
+fn reseat(words: &mut [u32], a: usize, p: address::Place, feed: usize, word: u32) -> u32
+    requires { ⌜ SitsAny (now words) a (p .depth) (p .value) × (size (now words) ≤ mostWords) × IsFeed feed ⌝ }
+    ensures { λ r. ⌜ ReseatedAny (now (words .entry)) (now (words .exit)) a (p .depth) (p .value) feed word r ⌝ }
 {
     let changed = reslot(words, a, p, feed, word);
     let slot = array::place::slot_of(p.depth, p.value);
-    words::total::retotal(words, levels, a, slot, changed.before, changed.after);
+    words::total::retotal(words, a, slot, changed.before, changed.after);
     changed.cells
 }
 
-// A candidate announced to a table. One that is held already changes no word; another replaces the feed's, in the array that is
-// there.
+// A candidate announced, to any words of a right size. One that is held already changes no word; another replaces the feed's, in
+// the array that is there. A caller who knows the words to be a table spares the tests of what is touched.
 fn announce_in(
     words: &mut [u32],
     address: &[u8],
@@ -101,81 +96,58 @@ fn announce_in(
     hop: u32,
     feed: u32,
     preference: u8,
+    known: bool,
 ) -> Reply
-    requires { ⌜ Table (size (now address)) (now words) ⌝ }
+    requires { ⌜ (leastWords ≤ size (now words)) × (size (now words) ≤ mostWords) × IsAddress (now address)
+        × ((known ≡ true) → Table (size (now address)) (now words)) ⌝ }
     requires { ⌜ SoundRoute (size (now address)) (number (now address)) length hop feed ⌝ }
-    ensures { λ r. ⌜ HasApplied (size (now (address .entry))) (now (words .entry)) (now (words .exit))
+    ensures { λ r. ⌜ AppliedAny (size (now (address .entry))) (now (words .entry)) (now (words .exit))
         (announced (number (now (address .entry))) length hop feed preference) r ⌝ }
 {
     let word = word_of(preference as u32, hop);
-    let f = paths::find(words, address, length, feed as usize);
-    if f.word == word {
-        return Reply::Done(hop, 0);
-    }
+    let f = paths::find(words, address, length, feed as usize, known);
     let p = f.place;
     let s = f.stop;
     let k = p.level;
     let b = s.array;
     let j = s.level;
-    let a = paths::extend(words, address, b, j, k);
+    if b == 0 {
+        return Reply::Refused(2);
+    }
+    if f.word == word {
+        return Reply::Done(hop, 0);
+    }
+    let a = paths::extend(words, address, b, j, k, known);
     if a == 0 {
         return Reply::Refused(8);
     }
-    let cells = reseat(words, address.len(), a, p, feed as usize, word);
+    if a == ASTRAY {
+        return Reply::Refused(2);
+    }
+    let cells = reseat(words, a, p, feed as usize, word);
     Reply::Done(hop, cells)
 }
 
-// A candidate withdrawn from a table.
-fn withdraw_in(words: &mut [u32], address: &[u8], length: u32, feed: u32) -> Reply
-    requires { ⌜ Table (size (now address)) (now words) ⌝ }
+// A candidate withdrawn, from any words of a right size.
+fn withdraw_in(words: &mut [u32], address: &[u8], length: u32, feed: u32, known: bool) -> Reply
+    requires { ⌜ (leastWords ≤ size (now words)) × (size (now words) ≤ mostWords) × IsAddress (now address)
+        × ((known ≡ true) → Table (size (now address)) (now words)) ⌝ }
     requires { ⌜ IsPrefix (size (now address)) (number (now address)) length × IsFeed feed ⌝ }
-    ensures { λ r. ⌜ HasApplied (size (now (address .entry))) (now (words .entry)) (now (words .exit))
+    ensures { λ r. ⌜ AppliedAny (size (now (address .entry))) (now (words .entry)) (now (words .exit))
         (withdrawn (number (now (address .entry))) length feed) r ⌝ }
 {
-    let f = paths::find(words, address, length, feed as usize);
+    let f = paths::find(words, address, length, feed as usize, known);
+    let s = f.stop;
+    let a = s.array;
+    if a == 0 {
+        return Reply::Refused(2);
+    }
     if f.word == 0 {
         return Reply::Refused(7);
     }
-    let s = f.stop;
-    let a = s.array;
-    let cells = reseat(words, address.len(), a, f.place, feed as usize, 0);
-    paths::prune(words, address.len(), a);
+    let cells = reseat(words, a, f.place, feed as usize, 0);
+    paths::prune(words, a);
     Reply::Done(hop_in(f.word), cells)
-}
-
-// ---- updates of a table, by callers that know it to be one: a run has checked it and has kept it one since
-
-// A candidate announced: refused with the first of 3, 4, 5, 10 and 8 that applies, or held afterwards.
-pub fn announce_on(
-    words: &mut [u32],
-    address: &[u8],
-    length: u32,
-    hop: u32,
-    feed: u32,
-    preference: u8,
-) -> Reply
-    requires { ⌜ Table (size (now address)) (now words) ⌝ }
-    ensures { λ r. ⌜ HasUpdated (size (now (address .entry))) (now (words .entry)) (now (words .exit))
-        (announced (number (now (address .entry))) length hop feed preference) r ⌝ }
-{
-    let f = announce_fault(address, length, hop, feed);
-    if f != 0 {
-        return Reply::Refused(f);
-    }
-    announce_in(words, address, length, hop, feed, preference)
-}
-
-// A candidate withdrawn: refused with the first of 3, 4, 10 and 7 that applies, or held no more.
-pub fn withdraw_on(words: &mut [u32], address: &[u8], length: u32, feed: u32) -> Reply
-    requires { ⌜ Table (size (now address)) (now words) ⌝ }
-    ensures { λ r. ⌜ HasUpdated (size (now (address .entry))) (now (words .entry)) (now (words .exit))
-        (withdrawn (number (now (address .entry))) length feed) r ⌝ }
-{
-    let f = withdraw_fault(address, length, feed);
-    if f != 0 {
-        return Reply::Refused(f);
-    }
-    withdraw_in(words, address, length, feed)
 }
 
 // ---- updates of any words
@@ -215,7 +187,7 @@ pub fn announce_of(
     if n != 0 {
         return Reply::Refused(n);
     }
-    announce_in(words, address, length, hop, feed, preference)
+    announce_in(words, address, length, hop, feed, preference, true)
 }
 
 // The same of an IPv4 address.
@@ -244,7 +216,7 @@ pub fn withdraw_of(words: &mut [u32], address: &[u8], length: u32, feed: u32) ->
     if n != 0 {
         return Reply::Refused(n);
     }
-    withdraw_in(words, address, length, feed)
+    withdraw_in(words, address, length, feed, true)
 }
 
 // The same of an IPv4 address.
@@ -253,4 +225,102 @@ pub fn withdraw(words: &mut [u32], address: u32, length: u32, feed: u32) -> Repl
 {
     let bytes = address::four_of(address);
     withdraw_of(words, &bytes, length, feed)
+}
+
+// ---- updates of any words that test what they touch, and no more
+
+// A candidate announced: refused with the first of 1, 3, 4, 5, 10, 2 (what it touches is not as in a table) and 8 that applies,
+// or held afterwards. A caller who knows the words to be a table spares the tests.
+pub fn announce_with(
+    words: &mut [u32],
+    address: &[u8],
+    length: u32,
+    hop: u32,
+    feed: u32,
+    preference: u8,
+    known: bool,
+) -> Reply
+    requires { ⌜ IsAddress (now address) × ((known ≡ true) → Table (size (now address)) (now words)) ⌝ }
+    ensures { λ r. ⌜ HasUpdatedLocally (size (now (address .entry))) (now (words .entry)) (now (words .exit))
+        (announced (number (now (address .entry))) length hop feed preference) r ⌝ }
+{
+    if words::size::misfit(words.len()) {
+        return Reply::Refused(1);
+    }
+    let f = announce_fault(address, length, hop, feed);
+    if f != 0 {
+        return Reply::Refused(f);
+    }
+    announce_in(words, address, length, hop, feed, preference, known)
+}
+
+// A candidate withdrawn: refused with the first of 1, 3, 4, 10, 2 and 7 that applies, or held no more.
+pub fn withdraw_with(
+    words: &mut [u32],
+    address: &[u8],
+    length: u32,
+    feed: u32,
+    known: bool,
+) -> Reply
+    requires { ⌜ IsAddress (now address) × ((known ≡ true) → Table (size (now address)) (now words)) ⌝ }
+    ensures { λ r. ⌜ HasUpdatedLocally (size (now (address .entry))) (now (words .entry)) (now (words .exit))
+        (withdrawn (number (now (address .entry))) length feed) r ⌝ }
+{
+    if words::size::misfit(words.len()) {
+        return Reply::Refused(1);
+    }
+    let f = withdraw_fault(address, length, feed);
+    if f != 0 {
+        return Reply::Refused(f);
+    }
+    withdraw_in(words, address, length, feed, known)
+}
+
+// A candidate announced, by a caller who knows nothing of the words.
+pub fn announce_local_of(
+    words: &mut [u32],
+    address: &[u8],
+    length: u32,
+    hop: u32,
+    feed: u32,
+    preference: u8,
+) -> Reply
+    requires { ⌜ IsAddress (now address) ⌝ }
+    ensures { λ r. ⌜ HasUpdatedLocally (size (now (address .entry))) (now (words .entry)) (now (words .exit))
+        (announced (number (now (address .entry))) length hop feed preference) r ⌝ }
+{
+    announce_with(words, address, length, hop, feed, preference, false)
+}
+
+// The same of an IPv4 address.
+pub fn announce_local(
+    words: &mut [u32],
+    address: u32,
+    length: u32,
+    hop: u32,
+    feed: u32,
+    preference: u8,
+) -> Reply
+    ensures { λ r. ⌜ HasUpdatedLocally 4 (now (words .entry)) (now (words .exit))
+        (announced address length hop feed preference) r ⌝ }
+{
+    let bytes = address::four_of(address);
+    announce_local_of(words, &bytes, length, hop, feed, preference)
+}
+
+// A candidate withdrawn, by a caller who knows nothing of the words.
+pub fn withdraw_local_of(words: &mut [u32], address: &[u8], length: u32, feed: u32) -> Reply
+    requires { ⌜ IsAddress (now address) ⌝ }
+    ensures { λ r. ⌜ HasUpdatedLocally (size (now (address .entry))) (now (words .entry)) (now (words .exit))
+        (withdrawn (number (now (address .entry))) length feed) r ⌝ }
+{
+    withdraw_with(words, address, length, feed, false)
+}
+
+// The same of an IPv4 address.
+pub fn withdraw_local(words: &mut [u32], address: u32, length: u32, feed: u32) -> Reply
+    ensures { λ r. ⌜ HasUpdatedLocally 4 (now (words .entry)) (now (words .exit)) (withdrawn address length feed) r ⌝ }
+{
+    let bytes = address::four_of(address);
+    withdraw_local_of(words, &bytes, length, feed)
 }

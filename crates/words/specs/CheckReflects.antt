@@ -28,7 +28,7 @@ use Rattle.tree.specs.Shape.{Child, ParentLinks, HasSlot, HasLink}
 use Rattle.words.specs.Words.{arraysOf, arrayCount, wordsOf, slotsOf, bestsOf, blocksOf, totalsOf}
 use Rattle.totals.specs.Check.{SumsAt, sums-reflects, sums-all, sums-one}
 use Rattle.totals.specs.Empty.{empty-none, none-sums}
-use Rattle.words.specs.TableBut.{Header, RightSlotsOf, Table}
+use Rattle.words.specs.TableBut.{Header, RightSlotsOf, TableBut, Table}
 use Rattle.tree.specs.Check.{linksB, parentLinksB, links-reflects, parent-links-reflects}
 use Rattle.words.specs.Table.{slotsB, contentB, blankB, arrayB, groupB, headerB, tableB}
 
@@ -134,7 +134,7 @@ module _ (L : ℕ) (ws : List ℕ) (a : ℕ) where
       (parent-links-reflects A t a .from (inr (x .hung n))) (some-reflects t a .from (x .some n))))))
 
   -- n words of the array from word m on are 0
-  zeros-reflect : (m n : ℕ)
+  pub zeros-reflect : (m n : ℕ)
       → Reflects (allB (zeroAt ws (arrayAt a + m)) n) ((k : ℕ) → m ≤ k → k < m + n → getD ws (wordAt a k) 0 ≡ 0)
   zeros-reflect m n =
       reflects-as
@@ -170,6 +170,18 @@ module _ (L : ℕ) (ws : List ℕ) (a : ℕ) where
         to = λ b. inr (used-to n b);
         from = λ b. ⊎-elim (λ (x : Free ws a). absurd (n (x .tag))) (λ (x : Used L ws a). used-from x) b;
       }))
+
+-- a free array of a table is blank
+pub blank-array : (L e : ℕ) (ws : List ℕ) → TableBut L e ws → (a : ℕ) → 1 ≤ a → a ≤ arrayCount ws → getD ws (arrayAt a) 0 ≡ 0
+    → blankB ws a ≡ true
+blank-array L e ws k a h w z =
+    let blank = k .blank a h w z in
+    free-reflects L ws a z .from (record {
+      tag = z;
+      blank = blank;
+      totals = empty-none (arrayCount ws) (arraysOf ws) (totalsOf ws) a (k .sums) h w (blank-slots ws a blank)
+          (blank-links ws a blank);
+    })
 
 -- ---- the header, and all words
 
@@ -242,7 +254,7 @@ module _ (L : ℕ) (ws : List ℕ) (some : 1 ≤ L) (levels : L < levelBound) (s
   from-table : Table L ws → Each
   from-table k j h =
       same (getD ws (arrayAt (j + 1)) 0) 0
-      (λ z _. inl (free z))
+      (λ z _. inl (free-reflects L ws (j + 1) z .to (blank-array L 0 ws k (j + 1) (omega arith) (omega arith) z)))
       (λ m _. inr (record {
         tag = m;
         words = λ s x y. k .words (j + 1) s (omega arith) (omega arith) (omega arith) x y;
@@ -255,16 +267,6 @@ module _ (L : ℕ) (ws : List ℕ) (some : 1 ≤ L) (levels : L < levelBound) (s
             (λ (z : ParentLinks (arrayCount ws) (arraysOf ws) (j + 1)). z) (k .shape .tags (j + 1) (omega arith) (omega arith));
         some = λ e. k .filled (j + 1) (omega arith) (omega arith) (λ q. omega arith) (omega arith);
       }))
-    where
-      free : getD ws (arrayAt (j + 1)) 0 ≡ 0 → Free ws (j + 1)
-      free z =
-          let blank = k .blank (j + 1) (omega arith) (omega arith) z in
-          record {
-            tag = z;
-            blank = blank;
-            totals = empty-none (arrayCount ws) (arraysOf ws) (totalsOf ws) (j + 1) (k .sums) (omega arith) (omega arith)
-                (blank-slots ws (j + 1) blank) (blank-links ws (j + 1) blank);
-          }
 
   -- the check is true exactly of a table
   pub table-reflects : Reflects (tableB L ws) (Table L ws)

@@ -1,103 +1,115 @@
--- A number added to totals from an array up to the root, array by array: what is left to add is the whole. Assumes nothing.
+-- A number added to totals from an array up to the root, array by array, on any words whose tags lead there: what is left to add
+-- is the whole. Assumes nothing.
 use mathlib.Core.Path.{_≡_, refl, sym, ap, _∙_}
-use mathlib.Core.Logic.{_≢_}
+use mathlib.Core.Logic.{_≢_, inr, inl}
 use mathlib.Core.List.{List}
-use Prim.Native.Nat.{ℕ, zero, suc, _+_, _-_, _/_, _%_, _≤_, _<_}
+use Prim.Native.Nat.{ℕ, zero, suc, _+_, _-_, _≤_, _<_}
 use native.Mathlib.Omega.{arith}
 use lib.ListN.{length, getD}
-use Rattle.sizes.specs.Sizes.{arrayWords, leastWords, slotEnd, cellSlots, arrayAt}
+use Rattle.sizes.specs.Sizes.{arrayWords, slotEnd, cellsAt, cellSlots, arrayAt, wordAt, cellAt}
 use Rattle.array.specs.Tag.{parentIn, cellIn, levelIn}
-use Rattle.tree.specs.Arrays.{node, lev}
-use Rattle.tree.specs.Shape.{Shape}
-use Rattle.tree.specs.Tree.{path, reach, node-level, used-level}
-use Rattle.words.specs.Words.{arraysOf, arrayCount}
-use Rattle.words.specs.Added.{addedIn, addedOn, Climbs, climbs-fit, climbs-more, parent-path, in-size}
+use Rattle.tree.specs.Arrays.{par, cell, lev}
+use Rattle.words.specs.Words.{arraysOf}
+use Rattle.words.specs.Added.{addedIn, addedOn, NoTotal, in-size, in-kept}
+use Rattle.words.specs.Rises.{Rises, SameUp, Above, Off, off-same}
+use Rattle.words.specs.Rises.{rises-inside, rises-level, rises-top, rises-above, rises-same}
 
--- a used array of words whose arrays have the shape of a table
-pub record Climbing (L : ℕ) (ws : List ℕ) (a : ℕ) : Type 0 where
-  pub whole : length ws % arrayWords ≡ 0
-  pub low : leastWords ≤ length ws
-  pub shape : Shape (arrayCount ws) L (arraysOf ws)
-  pub some : 1 ≤ a
-  pub within : a ≤ arrayCount ws
-  pub used : 1 ≤ getD ws (arrayAt a) 0
+-- the tags lead from array a up to the root
+pub record Climbing (ws : List ℕ) (a : ℕ) : Type 0 where
+  pub n : ℕ
+  pub rises : Rises ws n a
 
--- so far the words are vs; the rest begins at slot s of array b, the last of the path v of k levels
-pub record Rest (L : ℕ) (ws : List ℕ) (a slot by : ℕ) (vs : List ℕ) (b s : ℕ) : Type 0 where
-  pub v : ℕ
+-- words that differ in totals alone
+pub record TotalsOnly (ws vs : List ℕ) : Type 0 where
+  pub size : length vs ≡ length ws
+  pub kept : (c k : ℕ) → k < arrayWords → NoTotal k → getD vs (wordAt c k) 0 ≡ getD ws (wordAt c k) 0
+
+pub totals-same : {ws vs : List ℕ} → TotalsOnly ws vs → (n : ℕ) → SameUp ws vs n
+totals-same t n = record {
+  size = t .size;
+  tags = λ c h l u. (let e : arrayAt c ≡ wordAt c 0 = omega arith in rw e (t .kept c 0 (omega arith) (inl (omega arith))));
+  cells = λ c i h l u v. (let e : cellAt c i ≡ wordAt c (cellsAt + i) = omega arith in
+      rw e (t .kept c (cellsAt + i) (omega arith) (inl (omega arith))));
+}
+
+-- totals written into an array, and into those above it, leave that so
+in-totals : (ws : List ℕ) (a s by : ℕ) → arrayAt (a + 1) ≤ length ws → s < slotEnd → TotalsOnly ws (addedIn ws a s by)
+in-totals ws a s by f w =
+    record { size = in-size ws a s by f w; kept = λ c k h o. in-kept ws a s by f w c k h (inr o) }
+
+in-rises : (ws : List ℕ) (a s by n b : ℕ) → arrayAt (a + 1) ≤ length ws → s < slotEnd → Rises ws n b
+    → Rises (addedIn ws a s by) n b
+in-rises ws a s by n b f w = rises-same ws (addedIn ws a s by) n b (totals-same (in-totals ws a s by f w) n)
+
+pub on-totals : (k : ℕ) (ws : List ℕ) (b s by : ℕ) → Rises ws k b → s < slotEnd → TotalsOnly ws (addedOn k ws b s by)
+unfolding addedOn Rises
+on-totals zero ws b s by r w = in-totals ws b s by (rises-inside ws zero b r) w
+on-totals (suc k) ws b s by r w =
+    let f = rises-inside ws (suc k) b r in
+    let p = par (arraysOf ws) b in
+    let x = in-totals ws b s by f w in
+    let y = on-totals k (addedIn ws b s by) p (cellSlots + cell (arraysOf ws) b) by (in-rises ws b s by k p f w (r .1))
+    (omega arith) in
+    record { size = y .size ∙ x .size; kept = λ c j h o. y .kept c j h o ∙ x .kept c j h o }
+
+-- an array that is none of them stays
+pub on-spared : (k : ℕ) (ws : List ℕ) (b s by c j : ℕ) → Rises ws k b → s < slotEnd → Off (arraysOf ws) k b c → j < arrayWords
+    → getD (addedOn k ws b s by) (wordAt c j) 0 ≡ getD ws (wordAt c j) 0
+unfolding addedOn Rises Off
+on-spared zero ws b s by c j r w o h = in-kept ws b s by (rises-inside ws zero b r) w c j h (inl o)
+on-spared (suc k) ws b s by c j r w o h =
+    let f = rises-inside ws (suc k) b r in
+    let p = par (arraysOf ws) b in
+    let t = totals-same (in-totals ws b s by f w) k in
+    on-spared k (addedIn ws b s by) p (cellSlots + cell (arraysOf ws) b) by c j (in-rises ws b s by k p f w (r .1)) (omega arith)
+    (off-same ws (addedIn ws b s by) k p c t (r .1) (o .1)) h
+    ∙ in-kept ws b s by f w c j h (inl (o .0))
+
+-- so far the words are vs; the rest begins at slot s of array b, of level k
+pub record Rest (ws : List ℕ) (a slot by : ℕ) (vs : List ℕ) (b s : ℕ) : Type 0 where
   pub k : ℕ
-  pub climbs : Climbs L vs v k
-  pub at : node (arraysOf vs) v k ≡ b
+  pub rises : Rises vs k b
   pub small : s < slotEnd
   pub size : length vs ≡ length ws
   pub left : addedOn k vs b s by ≡ addedOn (lev (arraysOf ws) a - 1) ws a slot by
 
-pub rest-all : (L : ℕ) (ws : List ℕ) (a slot by : ℕ) → Climbing L ws a → slot < slotEnd → Rest L ws a slot by ws a slot
-rest-all L ws a slot by g w =
-    let z = used-level (arrayCount ws) L (arraysOf ws) (g .shape) a (g .some) (g .within) (g .used) in
-    let k = lev (arraysOf ws) a - 1 in
-    let r = reach (arrayCount ws) L (arraysOf ws) (g .shape) k a (g .some) (g .within) (omega arith) in
-    record {
-      v = path (arraysOf ws) k a;
-      k = k;
-      climbs = record { whole = g .whole; low = g .low; shape = g .shape; there = rw (r .leads) (g .some) };
-      at = r .leads;
-      small = w;
-      size = refl;
-      left = refl;
-    }
+pub rest-all : (ws : List ℕ) (a slot by : ℕ) → Climbing ws a → slot < slotEnd → Rest ws a slot by ws a slot
+rest-all ws a slot by g w =
+    let e : lev (arraysOf ws) a - 1 ≡ g .n = omega (arith, rises-level ws (g .n) a (g .rises)) in
+    record { k = g .n; rises = g .rises; small = w; size = refl; left = rw e }
 
-module _ {L : ℕ} {ws : List ℕ} {a slot by : ℕ} {vs : List ℕ} {b s : ℕ} (r : Rest L ws a slot by vs b s) where
+module _ {ws : List ℕ} {a slot by : ℕ} {vs : List ℕ} {b s : ℕ} (r : Rest ws a slot by vs b s) where
   pub rest-fits : arrayAt (b + 1) ≤ length vs
-  rest-fits = rw (r .at) at (climbs-fit (r .climbs))
-
-  -- the level of b
-  rest-level : lev (arraysOf vs) b ≡ r .k + 1
-  rest-level =
-      rw (r .at) at
-      (node-level (arrayCount vs) L (arraysOf vs) (r .climbs .shape) (r .v) (r .k) (r .climbs .there) .level)
-
-  -- at the root nothing is left but to add there
-  pub rest-root : b ≡ 1 → r .k ≡ 0
-  rest-root e = omega (arith, rest-level, ap (lev (arraysOf vs)) e, r .climbs .shape .root)
+  rest-fits = rises-inside vs (r .k) b (r .rises)
 
   pub rest-done : b ≡ 1 → (us : List ℕ) → us ≡ addedIn vs 1 s by → us ≡ addedOn (lev (arraysOf ws) a - 1) ws a slot by
   unfolding addedOn
-  rest-done e us u = u ∙ rw (e, rest-root e) at (r .left)
-
-root-only : (L : ℕ) (vs : List ℕ) (v b : ℕ) → Climbs L vs v 0 → node (arraysOf vs) v 0 ≡ b → b ≡ 1
-unfolding node
-root-only L vs v b g e = sym e
+  rest-done e us u = u ∙ rw (rises-top vs (r .k) b (r .rises) e, e) at (r .left)
 
 -- one array further up
-module _ (L : ℕ) (ws : List ℕ) (a slot by : ℕ) (vs : List ℕ) (b s : ℕ) (n : b ≢ 1) (us : List ℕ) (own p i : ℕ)
+module _ (ws : List ℕ) (a slot by : ℕ) (vs : List ℕ) (b s : ℕ) (n : b ≢ 1) (us : List ℕ) (own p i : ℕ)
     (ue : us ≡ addedIn vs b s by) (oe : own ≡ getD vs (arrayAt b) 0) (pe : p ≡ parentIn own) (ie : i ≡ cellIn own) where
   pub record More : Type 0 where
-    pub rest : Rest L ws a slot by us p (cellSlots + i)
+    pub rest : Rest ws a slot by us p (cellSlots + i)
     pub falls : levelIn (getD us (arrayAt p) 0) < levelIn (getD vs (arrayAt b) 0)
 
-  more : (v k : ℕ) → Climbs L vs v k → node (arraysOf vs) v k ≡ b → s < slotEnd → length vs ≡ length ws
-      → addedOn k vs b s by ≡ addedOn (lev (arraysOf ws) a - 1) ws a slot by → More
+  pub rest-more : Rest ws a slot by vs b s → More
   unfolding addedOn
-  more v zero g e w z l = absurd (n (root-only L vs v b g e))
-  more v (suc k) g e w z l =
-      let h : node (arraysOf us) (v / 256) k ≡ p =
-      rw (ue, pe, oe, ← e) (sym (parent-path g s by w)) in
-      let d : Climbs L us (v / 256) k = rw (ue, ← e) (climbs-more g s by w) in
-      let x = node-level (arrayCount us) L (arraysOf us) (d .shape) (v / 256) k (d .there) .level in
-      let y = node-level (arrayCount vs) L (arraysOf vs) (g .shape) v (suc k) (g .there) .level in
+  rest-more r =
+      let f = rest-fits r in
+      let up = rises-above vs (r .k) b (r .rises) n in
+      let h : p ≡ par (arraysOf vs) b = pe ∙ ap parentIn oe in
+      let j = in-rises vs b s by (up .m) (par (arraysOf vs) b) f (r .small) (up .rest) in
+      let d : Rises us (up .m) p = rw (ue, h) j in
+      let l : addedOn (up .m) us p (cellSlots + i) by ≡ addedOn (lev (arraysOf ws) a - 1) ws a slot by =
+      rw (ue, h, ie, oe) (rw (up .is) at (r .left)) in
       record {
         rest = record {
-          v = v / 256;
-          k = k;
-          climbs = d;
-          at = h;
+          k = up .m;
+          rises = d;
           small = omega (arith, ie);
-          size = rw (ue, ← e) (in-size vs _ s by (climbs-fit g) w ∙ z);
-          left = rw (ue, pe, ie, oe) l;
+          size = ap length ue ∙ in-size vs b s by f (r .small) ∙ r .size;
+          left = l;
         };
-        falls = omega (arith, rw h at x, rw e at y);
+        falls = omega (arith, rises-level us (up .m) p d, up .rung .level);
       }
-
-  pub rest-more : Rest L ws a slot by vs b s → More
-  rest-more r = more (r .v) (r .k) (r .climbs) (r .at) (r .small) (r .size) (r .left)

@@ -58,7 +58,6 @@ module _ (L : ℕ) (ws : List ℕ) (p i a : ℕ) (ok : TableBut L p ws) (gn : Ga
     some = not-root;
     within = omega (arith, ok .whole, ok .low, gn .within);
     apart = λ e. (let q : t .tag p ≡ t .tag a = ap (t .tag) e in omega (arith, gn .used, gn .free));
-    settled = ok .settled p (gn .parent) (gn .inside) (omega (arith, gn .used));
     small = best-small (lev t p) (slotsOf ws p) (bestsOf ws p)
         (ok .right p (gn .parent) (gn .inside) (omega (arith, gn .used))) i (gn .cells);
   }

@@ -10,10 +10,14 @@ pub mod Rehung
 pub mod Gain
 pub mod Release
 pub mod Stock
+pub mod Offers
+pub mod Frees
 pub mod Clear
 pub mod SlotSet
 pub mod Added
+pub mod Rises
 pub mod Climbing
 pub mod Retotalled
 pub mod Listed
 pub mod Half
+pub mod Empty

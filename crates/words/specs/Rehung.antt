@@ -16,14 +16,20 @@ use Rattle.array.specs.Cell.{bestIn, linkIn, blockIn}
 use Rattle.calm.specs.Calm.{Settled}
 use Rattle.calm.specs.Same.{settled-ext}
 use Rattle.settle.specs.Link.{Relinked}
+use Rattle.settle.specs.Recell.{cutIn}
+use Rattle.settle.specs.Any.{CellsOnly, LinkedAny, CutAny}
+use Rattle.array.specs.Tag.{tagOf, parentIn, cellIn, levelIn}
+use Rattle.totals.specs.Up.{plus}
+use Rattle.array.specs.Page.{bests, links}
 use Rattle.array.specs.Frame.{pageOf, withPage, page-word, page-length, with-length, with-in, with-other}
 use Rattle.tree.specs.Arrays.{Arrays, usedIn, usedOf}
 use Rattle.tree.specs.HungBelow.{HungBelow, used-out, used-inside}
 use Rattle.totals.specs.Sums.{Sums, sums-ext}
 use Rattle.words.specs.Words.{arraysOf, arrayCount, wordsOf, slotsOf, bestsOf, blocksOf, totalsOf}
-use Rattle.words.specs.Lent.{lent-best, lent-link, settled-page}
+use Rattle.words.specs.Lent.{lent-best, lent-link, page-settled, settled-page}
 use Rattle.words.specs.TableBut.{Header}
-use Rattle.words.specs.Gained.{groupAt, retagged, Ends, Rehung}
+use Rattle.words.specs.Gained.{groupAt, retagged, gainedIn, releasedIn, Ends, Gains, ReleasesOf, minusOne}
+use Rattle.words.specs.Gained.{Rehung, RehungAny, GainedAny, ReleasedAny}
 
 -- ---- the words with another page of p, then the tag of a and the counts stored
 
@@ -35,7 +41,7 @@ no-tag c a k h n e = ⊎-elim (λ (z : c ≢ a). z (omega arith)) (λ (z : k ≢
 no-group : (c a k : ℕ) → 1 ≤ c → arrayAt a ≤ mostWords → wordAt c k ≢ groupAt a
 no-group c a k h w e = omega arith
 
-module _ (ws b : List ℕ) (p i a x c n m : ℕ) (g : Ends ws p i a) (k : Relinked (pageOf ws p) b i c) where
+module _ (ws b : List ℕ) (p i a x c n m : ℕ) (g : Ends ws p i a) (k : length b ≡ length (pageOf ws p)) where
   abbrev us : List ℕ
   us = withPage ws p b
 
@@ -49,7 +55,7 @@ module _ (ws b : List ℕ) (p i a x c n m : ℕ) (g : Ends ws p i a) (k : Relink
   vs = retagged us a x n m
 
   whole : length b ≡ arrayWords
-  whole = k .size ∙ page-length ws p (g .inside)
+  whole = k ∙ page-length ws p (g .inside)
 
   lent : length us ≡ length ws
   lent = with-length ws p b (g .inside) whole
@@ -92,15 +98,97 @@ module _ (ws b : List ℕ) (p i a x c n m : ℕ) (g : Ends ws p i a) (k : Relink
       (no-group p a r (g .parent) (omega (arith, g .within, g .size)))
       ∙ with-in ws p b (g .inside) whole r l)
 
-  pub rehangs : Rehung ws (retagged (withPage ws p b) a x n m) p i a x c n m
-  rehangs = record {
+  pub rehangs-any : CellsOnly (pageOf ws p) b → RehungAny ws (retagged (withPage ws p b) a x n m) p a x n m
+  rehangs-any l = record {
     size = long;
     tag = tag;
-    page = rw new-page k;
+    page = rw new-page l;
     count = count;
     group = group;
     other = λ j e f h o. other j e f h ∙ with-other ws p b (g .inside) whole j o;
   }
+
+  -- what is seen in cell i of p
+  pub re-at-link : arraysOf (retagged (withPage ws p b) a x n m) .link p i ≡ links b i
+  re-at-link = sym (lent-link vs p i (g .cells)) ∙ ap (λ (l : List ℕ). links l i) new-page
+
+  pub re-at-best : bestsOf (retagged (withPage ws p b) a x n m) p i ≡ bests b i
+  re-at-best = sym (lent-best vs p i (g .cells)) ∙ ap (λ (l : List ℕ). bests l i) new-page
+
+  pub rehangs : Relinked (pageOf ws p) b i c → Rehung ws (retagged (withPage ws p b) a x n m) p i a x c n m
+  rehangs l = record {
+    size = long;
+    tag = tag;
+    page = rw new-page l;
+    count = count;
+    group = group;
+    other = λ j e f h o. other j e f h ∙ with-other ws p b (g .inside) whole j o;
+  }
+
+-- ---- as the code makes them, with counts that may wrap
+
+pub gained-any : (ws b : List ℕ) (p i a n m : ℕ) → Gains ws p i a → LinkedAny (pageOf ws p) b i a
+    → n ≡ plus (getD ws 0 0) 1 → m ≡ plus (getD ws (groupAt a) 0) 1
+    → GainedAny ws (retagged (withPage ws p b) a (tagOf p i (levelIn (getD ws (arrayAt p) 0) + 1)) n m) p i a
+unfolding gainedIn
+gained-any ws b p i a n m g l ne me =
+    let x = tagOf p i (levelIn (getD ws (arrayAt p) 0) + 1) in
+    let e = g .ends in
+    let z = l .cells .size in
+    record {
+      is = λ k. retagged (withPage ws p (l .is k)) a x (ne k) (me k);
+      any = rw (← ne, ← me) (rehangs-any ws b p i a x a n m e z (l .cells));
+      here = re-at-link ws b p i a x a n m e z ∙ l .here;
+      best = re-at-best ws b p i a x a n m e z ∙ l .best ∙ lent-best ws p i (e .cells);
+      right = λ r.
+          let o : links (pageOf ws p) i ≡ 0 = lent-link ws p i (e .cells) ∙ r .off in
+          let nn : n ≡ getD ws 0 0 + 1 = omega (arith, r .count) in
+          let mm : m ≡ getD ws (groupAt a) 0 + 1 = omega (arith, r .groups) in
+          rw (← nn, ← mm) (rehangs ws b p i a x a n m e z (l .right (page-settled ws p (r .settled)) o));
+    }
+
+pub released-any : (ws b : List ℕ) (a p i n m : ℕ) → p ≡ parentIn (getD ws (arrayAt a) 0) → i ≡ cellIn (getD ws (arrayAt a) 0)
+    → getD ws 0 0 < 4294967296 → getD ws (groupAt a) 0 < 4294967296
+    → Ends ws p i a → CutAny (pageOf ws p) b i
+    → n ≡ plus (getD ws 0 0) minusOne → m ≡ plus (getD ws (groupAt a) 0) minusOne
+    → ReleasedAny ws (retagged (withPage ws p b) a 0 n m) a
+unfolding releasedIn
+released-any ws b a p i n m pe ie nb mb e l ne me =
+    let z = l .cells .size in
+    record {
+      is = (λ k. retagged (withPage ws p (l .is k)) a 0 (ne k) (me k))
+          ∙ (λ k. retagged (withPage ws (pe k) (cutIn (pageOf ws (pe k)) (ie k))) a 0 (plus (getD ws 0 0) minusOne)
+          (plus (getD ws (groupAt a) 0) minusOne));
+      any = rw (← ne, ← me, ← pe) (rehangs-any ws b p i a 0 0 n m e z (l .cells));
+      right = λ r0.
+          let r : ReleasesOf ws p i a = rw (pe, ie) r0 in
+          let o : links (pageOf ws p) i ≢ 0 = λ q. r .on (sym (lent-link ws p i (e .cells)) ∙ q) in
+          let nn : n ≡ getD ws 0 0 - 1 = omega (arith, r .count) in
+          let mm : m ≡ getD ws (groupAt a) 0 - 1 = omega (arith, r .groups) in
+          rw (← nn, ← mm, ← pe, ← ie) (rehangs ws b p i a 0 0 n m e z (l .right (page-settled ws p (r .settled)) o));
+    }
+
+-- ---- what is seen in any
+
+module _ {ws vs : List ℕ} {p i a x n m : ℕ} (g : Ends ws p i a) (r : RehungAny ws vs p a x n m) where
+  -- another array than p
+  pub any-word : (d k : ℕ) → 1 ≤ d → k < arrayWords → d ≢ p → (d ≢ a) ⊎ (k ≢ 0) → getD vs (wordAt d k) 0 ≡ getD ws (wordAt d k) 0
+  any-word d k h w e f =
+      r .other (wordAt d k) (no-tag d a k w f) (λ q. omega arith) (no-group d a k h (omega (arith, g .within, g .size)))
+      (less d p (λ l _. inl (omega arith)) (λ l _. inr (omega arith)))
+
+  pub any-low : (k : ℕ) → k < cellsAt → getD vs (wordAt p k) 0 ≡ getD ws (wordAt p k) 0
+  any-low k h = sym (page-word vs p k (omega arith)) ∙ r .page .low k h ∙ page-word ws p k (omega arith)
+
+  pub any-tags : (d : ℕ) → 1 ≤ d → d ≢ a → arraysOf vs .tag d ≡ arraysOf ws .tag d
+  any-tags d h e =
+      let z : arrayAt d ≡ wordAt d 0 = omega arith in
+      rw z (same d p (λ q _. rw q (any-low 0 (omega arith))) (λ f _. any-word d 0 h (omega arith) f (inl e)))
+
+  pub any-cell : (d j : ℕ) → 1 ≤ d → j < cellCount → d ≢ p → getD vs (cellAt d j) 0 ≡ getD ws (cellAt d j) 0
+  any-cell d j h b f =
+      let z : cellAt d j ≡ wordAt d (cellsAt + j) = omega arith in
+      rw z (any-word d (cellsAt + j) h (omega arith) f (inr (λ q. omega arith)))
 
 -- ---- what is seen in them
 

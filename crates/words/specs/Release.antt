@@ -24,7 +24,7 @@ use Rattle.gather.specs.Hung.{feed-hung-below}
 use Rattle.totals.specs.Empty.{free-sums}
 use Rattle.words.specs.Words.{feedsOf, arraysOf, arrayCount, wordsOf, slotsOf, bestsOf, blocksOf, totalsOf}
 use Rattle.words.specs.TableBut.{TableBut}
-use Rattle.words.specs.Gained.{groupAt, Ends, Releases, Released}
+use Rattle.words.specs.Gained.{groupAt, Ends, Releases, ReleasesRight, Released}
 use Rattle.words.specs.Rehung.{re-word, re-header, re-tags, re-words, re-slots, re-bests, re-here, re-links}
 use Rattle.words.specs.Rehung.{re-settled-here, re-settled, re-sums, Counted, counted-down}
 
@@ -65,7 +65,6 @@ module _ (L : ℕ) (ws : List ℕ) (a : ℕ) (ok : TableBut L a ws) (em : Releas
     some = em .some;
     within = omega (arith, ok .whole, ok .low, em .within);
     apart = not-self;
-    settled = ok .settled p (hu .some) (hu .within) (omega (arith, ha .used));
     small = best-small (lev u₁ p) (slotsOf ws p) (bestsOf ws p)
         (ok .right p (hu .some) (hu .within) (omega (arith, ha .used))) i (omega arith);
   }
@@ -89,8 +88,11 @@ module _ (L : ℕ) (ws : List ℕ) (a : ℕ) (ok : TableBut L a ws) (em : Releas
       )
 
   pub releases : Releases ws a
-  releases = record {
-    ends = ends;
+  releases = ends
+
+  pub releases-right : ReleasesRight ws a
+  releases-right = record {
+    settled = ok .settled p (hu .some) (hu .within) (omega (arith, ha .used));
     on = λ e. omega (arith, hu .back, em .some);
     count = counts;
     groups = counts-group;

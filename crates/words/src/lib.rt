@@ -12,18 +12,34 @@ use part::page;
 use part::tag;
 use size::arrays_in;
 use sizes::ARRAY_WORDS;
+use sizes::BODY_WORDS;
 use sizes::GROUP_STRIDE;
+use sizes::LAST_SLOT;
 use sizes::PER_GROUP;
+use sizes::SLOT_WORDS;
 use sizes::STRIDE_ARRAYS;
+use sizes::TOTALS_AT;
+use slots::blank::zeros;
 ghost use mathlib.Core.Path.{_≡_};
-ghost use Prim.Native.Nat.{_+_, _*_, _-_, _<_, _≤_};
-ghost use lib.ListN.{length};
+ghost use mathlib.Core.Logic.{_≢_};
+ghost use mathlib.Core.Bool.{true, false};
+ghost use Prim.Native.Nat.{_+_, _*_, _-_, _/_, _<_, _≤_};
+ghost use lib.Dec.{eqb};
+ghost use lib.ListN.{length, getD};
+ghost use Rattle.logic.specs.Every.{allB};
 ghost use Rattle.sizes.specs.Sizes.{mostArrays, leastWords, mostWords, cellCount, arrayAt, perGroup, groupCount, groupStride};
-ghost use Rattle.array.specs.Check.{emptyB};
+ghost use Rattle.array.specs.Check.{emptyB, bareB};
+ghost use Rattle.array.specs.Frame.{pageOf};
 ghost use Rattle.words.specs.Words.{arraysOf, arrayCount, slotsOf};
-ghost use Rattle.words.specs.TableBut.{Header, RightSlotsOf};
-ghost use Rattle.tree.specs.Free.{usedFrom, firstFree};
-ghost use Rattle.words.specs.Gained.{retagged, Gains, Releases, Gained, Released};
+ghost use Rattle.words.specs.TableBut.{RightSlotsOf};
+ghost use Rattle.tree.specs.Free.{firstFree};
+ghost use Rattle.words.specs.Table.{blankB};
+ghost use Rattle.words.specs.Offers.{toldFull, behind, nextFree};
+ghost use Rattle.words.specs.Frees.{Passed, Blanks, Frees};
+ghost use Rattle.words.specs.Gained.{retagged, Gains, Releases, GainedAny, ReleasedAny};
+
+// What takes 1 away, as words wrap.
+const LESS_ONE: u32 = 4294967295;
 
 // The first free array among from .. to - 1, 0 where there is none.
 fn first_free(words: &[u32], from: usize, to: usize) -> usize
@@ -40,31 +56,27 @@ fn first_free(words: &[u32], from: usize, to: usize) -> usize
     0
 }
 
-// How many arrays are used in GROUP_STRIDE groups from g on. No early way out: so the loop reads several counts at once.
-fn used_from(words: &[u32], g: usize) -> u32
-    requires { ⌜ (g + groupStride ≤ groupCount) × (leastWords ≤ length (now words)) × Header (now words) ⌝ }
-    ensures { λ r. ⌜ r ≡ usedFrom (arraysOf (now (words .entry))) g groupStride ⌝ }
+// The header tells that GROUP_STRIDE groups from g on are full. No early way out: so the loop reads several counts at once.
+fn full_from(words: &[u32], g: usize) -> bool
+    requires { ⌜ (g + groupStride ≤ groupCount) × (leastWords ≤ length (now words)) ⌝ }
+    ensures { λ r. ⌜ r ≡ allB (λ k. eqb (getD (now (words .entry)) (g + 1 + k) 0) perGroup) groupStride ⌝ }
 {
-    let mut used: u32 = 0;
-    let mut k = 0;
-    while k < GROUP_STRIDE {
-        used += words[g + 1 + k];
-        k += 1;
+    let mut full = true;
+    for k in 0..GROUP_STRIDE {
+        full = full & (words[g + 1 + k] == PER_GROUP as u32);
     }
-    used
+    full
 }
 
-// The group from which to search: those before it are full, GROUP_STRIDE at a time.
+// The group from which to search: those before it are told full, GROUP_STRIDE at a time.
 fn passed(words: &[u32]) -> usize
-    requires { ⌜ (leastWords ≤ length (now words)) × (length (now words) ≤ mostWords) × Header (now words) ⌝ }
-    ensures { λ r. ⌜ (perGroup * r ≤ arrayCount (now (words .entry)))
-        × (firstFree (arraysOf (now (words .entry))) (perGroup * r + 1) (arrayCount (now (words .entry)) - perGroup * r)
-        ≡ firstFree (arraysOf (now (words .entry))) 1 (arrayCount (now (words .entry)))) ⌝ }
+    requires { ⌜ (leastWords ≤ length (now words)) × (length (now words) ≤ mostWords) ⌝ }
+    ensures { λ r. ⌜ Passed (now (words .entry)) r ⌝ }
 {
     let n = arrays_in(words);
     let mut g = 0;
     while PER_GROUP * g + STRIDE_ARRAYS <= n {
-        if used_from(words, g) != STRIDE_ARRAYS as u32 {
+        if !full_from(words, g) {
             return g;
         }
         g += GROUP_STRIDE;
@@ -72,13 +84,14 @@ fn passed(words: &[u32]) -> usize
     g
 }
 
-// The first free array, 0 where there is none: full groups are passed over.
-pub fn find_free(words: &[u32]) -> usize
-    requires { ⌜ (leastWords ≤ length (now words)) × (length (now words) ≤ mostWords) × Header (now words) ⌝ }
-    ensures { λ r. ⌜ r ≡ firstFree (arraysOf (now (words .entry))) 1 (arrayCount (now (words .entry))) ⌝ }
+// The first free array past the first `from` groups, 0 where there is none: groups that are told full are passed over.
+fn free_past(words: &[u32], from: usize) -> usize
+    requires { ⌜ (leastWords ≤ length (now words)) × (length (now words) ≤ mostWords)
+        × (perGroup * from ≤ arrayCount (now words)) ⌝ }
+    ensures { λ r. ⌜ r ≡ behind (now (words .entry)) from ⌝ }
 {
     let n = arrays_in(words);
-    let mut g = passed(words);
+    let mut g = from;
     while PER_GROUP * g + PER_GROUP <= n {
         let h = g + 1;
         if words[h] != PER_GROUP as u32 {
@@ -92,6 +105,68 @@ pub fn find_free(words: &[u32]) -> usize
     first_free(words, PER_GROUP * g + 1, n + 1)
 }
 
+// The first free array after array f, which was found so, 0 where there is none; the first of all for f = 0.
+fn free_after(words: &[u32], f: usize) -> usize
+    requires { ⌜ (leastWords ≤ length (now words)) × (length (now words) ≤ mostWords) × (f ≤ arrayCount (now words))
+        × (f ≢ 0 → toldFull (now words) ((f - 1) / perGroup) ≡ false) ⌝ }
+    ensures { λ r. ⌜ r ≡ nextFree (now (words .entry)) f ⌝ }
+{
+    if f == 0 {
+        return free_past(words, passed(words));
+    }
+    let n = arrays_in(words);
+    let g = (f + 7) / PER_GROUP;
+    let e = PER_GROUP * g;
+    if n <= e {
+        return first_free(words, f + 1, n + 1);
+    }
+    let a = first_free(words, f + 1, e + 1);
+    if a != 0 {
+        return a;
+    }
+    free_past(words, g)
+}
+
+// The slots, cells and totals of array f are 0; a caller may know it.
+fn clean(words: &[u32], f: usize, known: bool) -> bool
+    requires { ⌜ (arrayAt (f + 1) ≤ length (now words)) × (length (now words) ≤ mostWords)
+        × ((known ≡ true) → blankB (now words) f ≡ true) ⌝ }
+    ensures { λ r. ⌜ r ≡ blankB (now (words .entry)) f ⌝ }
+{
+    if known {
+        return true;
+    }
+    let at = ARRAY_WORDS * f;
+    if !zeros(words, at + SLOT_WORDS, BODY_WORDS) {
+        return false;
+    }
+    zeros(words, at + (TOTALS_AT + 1), LAST_SLOT)
+}
+
+// The first m free arrays, one after the other; the last is 0 where so many were not found, or one of them is not clean. A caller
+// who knows that free arrays are spares the look at them.
+pub fn frees(words: &[u32], m: usize, known: bool) -> [u32; 32]
+    requires { ⌜ (leastWords ≤ length (now words)) × (length (now words) ≤ mostWords) × (1 ≤ m) × (m ≤ 32)
+        × ((known ≡ true) → Blanks (now words)) ⌝ }
+    ensures { λ r. ⌜ Frees (now (words .entry)) m r ⌝ }
+{
+    let mut all = [0; 32];
+    let mut f = 0;
+    let mut i = 0;
+    while i < m {
+        f = free_after(words, f);
+        if f == 0 {
+            return all;
+        }
+        if !clean(words, f, known) {
+            return all;
+        }
+        all[i] = f as u32;
+        i += 1;
+    }
+    all
+}
+
 // The array below cell i of array a, 0 where there is none.
 pub fn below(words: &[u32], a: usize, i: usize) -> usize
     requires { ⌜ (arrayAt (a + 1) ≤ length (now words)) × (length (now words) ≤ mostWords) × (i < cellCount) ⌝ }
@@ -102,8 +177,9 @@ pub fn below(words: &[u32], a: usize, i: usize) -> usize
 
 // Array a holds no candidate and no link, length 0 aside.
 pub fn empty(words: &[u32], a: usize) -> bool
-    requires { ⌜ (arrayAt (a + 1) ≤ length (now words)) × (length (now words) ≤ mostWords) × RightSlotsOf (now words) a ⌝ }
-    ensures { λ r. ⌜ r ≡ emptyB (slotsOf (now (words .entry)) a) (arraysOf (now (words .entry)) .link a) ⌝ }
+    requires { ⌜ (arrayAt (a + 1) ≤ length (now words)) × (length (now words) ≤ mostWords) ⌝ }
+    ensures { λ r. ⌜ (r ≡ bareB (pageOf (now (words .entry)) a)) × (RightSlotsOf (now (words .entry)) a
+        → r ≡ emptyB (slotsOf (now (words .entry)) a) (arraysOf (now (words .entry)) .link a)) ⌝ }
 {
     array::check::empty(page(words, a))
 }
@@ -123,7 +199,7 @@ fn retag(words: &mut [u32], a: usize, x: u32, n: u32, m: u32)
 // The free array a, hung below cell i of p.
 pub fn gain(words: &mut [u32], p: usize, i: usize, a: usize)
     requires { ⌜ Gains (now words) p i a ⌝ }
-    ensures { λ _. ⌜ Gained (now (words .entry)) (now (words .exit)) p i a ⌝ }
+    ensures { λ _. ⌜ GainedAny (now (words .entry)) (now (words .exit)) p i a ⌝ }
 {
     let from = ARRAY_WORDS * p;
     let to = from + ARRAY_WORDS;
@@ -132,13 +208,15 @@ pub fn gain(words: &mut [u32], p: usize, i: usize, a: usize)
     let n = words[0];
     let m = words[group];
     settle::link::set_link(&mut words[from..to], i, a as u32);
-    retag(words, a, tag_of(p, i, level + 1), n + 1, m + 1);
+    let n1 = std::num::wrapping_add_u32(n, 1);
+    let m1 = std::num::wrapping_add_u32(m, 1);
+    retag(words, a, tag_of(p, i, level + 1), n1, m1);
 }
 
 // The array a, that is empty, taken from its parent.
 pub fn release(words: &mut [u32], a: usize)
     requires { ⌜ Releases (now words) a ⌝ }
-    ensures { λ _. ⌜ Released (now (words .entry)) (now (words .exit)) a ⌝ }
+    ensures { λ _. ⌜ ReleasedAny (now (words .entry)) (now (words .exit)) a ⌝ }
 {
     let tag = tag(words, a);
     let p = parent_in(tag);
@@ -149,5 +227,7 @@ pub fn release(words: &mut [u32], a: usize)
     let n = words[0];
     let m = words[group];
     settle::link::cut_link(&mut words[from..to], i);
-    retag(words, a, 0, n - 1, m - 1);
+    let n1 = std::num::wrapping_add_u32(n, LESS_ONE);
+    let m1 = std::num::wrapping_add_u32(m, LESS_ONE);
+    retag(words, a, 0, n1, m1);
 }

@@ -21,7 +21,7 @@ use Rattle.slots.specs.Page.{wordsAt}
 use Rattle.gather.specs.Gather.{meant, listed, ofFeeds}
 use Rattle.writing.specs.Records.{bytesOf, bytes-append}
 use Rattle.writing.specs.Prefix.{reach, prefixOf, leads-number}
-use Rattle.writing.specs.Halves.{slot-none}
+use Rattle.words.specs.Empty.{slot-none}
 use Rattle.writing.specs.Asked.{familyOf, bytesWord, bytesFeeds, bytesOwn, Puts, PutsSlot}
 
 -- ---- put_address: what is left to be copied is the whole

@@ -7,6 +7,8 @@ use slots::slot::is_free;
 use slots::slot::word_at;
 use slots::word::hop_in;
 use slots::word::preference_in;
+use words::part::half;
+use words::total::total_in;
 ghost use mathlib.Core.Path.{_≡_};
 ghost use Prim.Native.Nat.{_+_, _*_, _<_, _≤_};
 ghost use lib.ListN.{length, getD};
@@ -17,8 +19,8 @@ ghost use Rattle.words.specs.Table.{seen};
 ghost use Rattle.families.specs.Said.{saidFamily};
 ghost use Rattle.writing.specs.Answer.{countAnswer, HasFilled};
 ghost use Rattle.numbers.specs.Wrote.{Wrote};
-ghost use Rattle.writing.specs.Asked.{familyOf, bytesWord, bytesOwn, bytesBelow, Puts, PutsSlot, Branches, Splits, Keeps};
-ghost use Rattle.writing.specs.Asked.{listBytes, Starts, Dumps};
+ghost use Rattle.writing.specs.Asked.{familyOf, bytesWord, bytesOwn, bytesBelow, bytesAll, Puts, PutsSlot};
+ghost use Rattle.writing.specs.Asked.{Sides, Branches, Splits, Keeps, listBytes, Starts, Dumps};
 ghost use Rattle.writing.specs.Prefix.{standAt};
 ghost use Rattle.address.specs.Parts.{filled};
 
@@ -117,7 +119,7 @@ fn put_slot(
 // Makes the address that of the prefix in `slot`, of which the whole bytes are there. The slot's number in its array is a 1 and
 // then the prefix's bits there: moved to the front of a byte they are the prefix's last, and the 1 falls out. So do the arrays
 // before it: the words of one are those of 3 * 256 slots.
-fn stand_at(address: &mut [u8], slot: usize, bits: usize)
+pub fn stand_at(address: &mut [u8], slot: usize, bits: usize)
     requires { ⌜ bits < 8 * length (now address) ⌝ }
     ensures { λ _. ⌜ now (address .exit) ≡ standAt (now (address .entry)) slot bits ⌝ }
 {
@@ -125,8 +127,49 @@ fn stand_at(address: &mut [u8], slot: usize, bits: usize)
     address[k] = (((slot / SLOT_WORDS) << (bits % 8)) % 256) as u8;
 }
 
-// The records of all below the prefix in `slot`, which has some bits below it in the address. Returns the place after them. The
-// address is lent to be changed: it is left as another prefix's, with the same whole bytes.
+// The records of the prefix in `slot`, which has some bits below it in the address, and of all below it. Returns the place after
+// them. The address is lent to be changed: of the bytes that the prefix reaches into all but the last are there, and stay. Where
+// the slot's total is 0 there are no records, and nothing else is read.
+fn side(
+    words: &[u32],
+    slot: usize,
+    address: &mut [u8],
+    bits: usize,
+    buffer: &mut [u8],
+    at: usize,
+) -> usize
+    requires { ⌜ Sides (now words) slot (now address) bits (now buffer) at ⌝ }
+    ensures kept { λ r. ⌜ Keeps (now (address .entry)) (bits + 1) (now (address .exit)) ⌝ }
+    ensures wrote { λ r. ⌜ Wrote (now (buffer .entry)) at
+        (bytesAll (now (words .entry)) bits (standAt (now (address .entry)) slot bits)) r (now (buffer .exit)) ⌝ }
+{
+    if total_in(words, slot) == 0 {
+        return at;
+    }
+    some(words, slot, address, bits, buffer, at)
+}
+
+// The same without the test: the prefix's own records, and what is below it. Apart from `side`, so that the compiler tests a
+// total before it calls: most are 0.
+fn some(
+    words: &[u32],
+    slot: usize,
+    address: &mut [u8],
+    bits: usize,
+    buffer: &mut [u8],
+    at: usize,
+) -> usize
+    requires { ⌜ Sides (now words) slot (now address) bits (now buffer) at ⌝ }
+    ensures kept { λ r. ⌜ Keeps (now (address .entry)) (bits + 1) (now (address .exit)) ⌝ }
+    ensures wrote { λ r. ⌜ Wrote (now (buffer .entry)) at
+        (bytesAll (now (words .entry)) bits (standAt (now (address .entry)) slot bits)) r (now (buffer .exit)) ⌝ }
+{
+    stand_at(address, slot, bits);
+    let p = put_slot(words, slot, address, bits, buffer, at);
+    branch(words, slot, address, bits, buffer, p)
+}
+
+// The records of all below that prefix alone, whose address is lent: it is left as another prefix's, with the same whole bytes.
 fn branch(
     words: &[u32],
     slot: usize,
@@ -143,15 +186,14 @@ fn branch(
     if bits == 0 {
         return at;
     }
-    let low = words::part::half(words, slot);
+    let low = half(words, slot);
     if low == 0 {
         return at;
     }
     halves(words, low, address, bits, buffer, at)
 }
 
-// The same where its lower half stands in the slot `low`: that half's own records and what is below it, then the upper half's.
-// Apart from `branch`, so that the compiler tests for a half before it calls: most prefixes have none.
+// The same where its lower half stands in the slot `low`: that half's records, then the upper half's.
 fn halves(
     words: &[u32],
     low: usize,
@@ -167,12 +209,8 @@ fn halves(
 {
     let high = low + SLOT_WORDS;
     let rest = bits - 1;
-    stand_at(address, low, rest);
-    let p = put_slot(words, low, address, rest, buffer, at);
-    let q = branch(words, low, address, rest, buffer, p);
-    stand_at(address, high, rest);
-    let r = put_slot(words, high, address, rest, buffer, q);
-    branch(words, high, address, rest, buffer, r)
+    let p = side(words, low, address, rest, buffer, at);
+    side(words, high, address, rest, buffer, p)
 }
 
 // The whole list of a table: the root's length 0, what is below it, and the end. The address lent is that of the root.

@@ -1,6 +1,7 @@
 //! The front before an IPv4 table, which calms candidates that come and go: penalties by candidate, what is held back, and what
 //! is kept of it meanwhile. Nothing here knows the words of a front but [`read`] and [`lay`], which read docs/LAYOUT.md.
 
+mod local;
 mod program;
 mod run;
 mod words;
@@ -11,6 +12,7 @@ use crate::list::Prefix;
 use crate::memory::{known, right_hop, well_formed, Memory, Update};
 use crate::refusal::Refusal;
 
+pub use local::Aside;
 pub use program::output;
 pub use run::Told;
 pub use words::{lay, read, FRONT_WORDS, ROW_WORDS};
@@ -113,12 +115,17 @@ impl Damped {
                 place.kept = None;
             }
         }
-        for place in places.values_mut() {
-            place.held_back &= place.penalty >= RELEASE_BELOW || place.kept.is_some();
-        }
-        places.retain(|_, place| place.penalty > 0 || place.kept.is_some());
+        settle(places);
         Ok(held(places))
     }
+}
+
+/// Lets go who is below 750 with nothing kept, and frees places.
+fn settle(places: &mut Places) {
+    for place in places.values_mut() {
+        place.held_back &= place.penalty >= RELEASE_BELOW || place.kept.is_some();
+    }
+    places.retain(|_, place| place.penalty > 0 || place.kept.is_some());
 }
 
 /// What an accepted withdrawal does to the candidate's place, or to a free one. Nothing is kept of it then.

@@ -1,8 +1,9 @@
 //! A reading of docs/LAYOUT.md: which words are a table and of which list, what the walks to an address and to a total give on
-//! any words, and words laid out for a list with freely chosen array numbers.
+//! any words, what refuses a local update there, and words laid out for a list with freely chosen array numbers.
 
 mod cell;
 mod lay;
+mod local;
 mod places;
 mod read;
 mod slot;
@@ -12,6 +13,7 @@ mod within;
 
 pub use cell::{Cell, End, LINKS, MOST};
 pub use lay::lay;
+pub use local::{announce_local, withdraw_local, Stray, Unfit};
 pub use places::places;
 pub use read::{check, read};
 pub use slot::{winner, winners, word, HOPS, SLOT};
@@ -59,6 +61,12 @@ impl<'a> Arrays<'a> {
 
     pub fn tag(&self, a: usize) -> u32 {
         self.page(a)[0]
+    }
+
+    /// Whether the words of its slots, cells and totals are 0.
+    pub fn is_blank(&self, a: usize) -> bool {
+        let page = self.page(a);
+        page[SLOT..TOTALS].iter().chain(&page[TOTALS + 1..UNUSED]).all(|&word| word == 0)
     }
 
     /// The words of a slot, by feed.

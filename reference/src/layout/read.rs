@@ -2,7 +2,7 @@
 
 use super::slot::{candidate, is_right};
 use super::totals::totals_right;
-use super::{cells, tag_below, winners, Arrays, CELLS, ROOT_TAG, SLOT, TOTALS, UNUSED};
+use super::{cells, tag_below, winners, Arrays, CELLS, ROOT_TAG, SLOT};
 use crate::address::Address;
 use crate::candidates::{Candidate, CandidateList};
 use crate::list::Prefix;
@@ -43,8 +43,7 @@ fn header_right(arrays: &Arrays) -> bool {
 }
 
 fn free_is_zero(arrays: &Arrays, a: usize) -> bool {
-    let mut used = (SLOT..TOTALS).chain(TOTALS + 1..UNUSED).map(|at| arrays.page(a)[at]);
-    arrays.tag(a) != 0 || used.all(|word| word == 0)
+    arrays.tag(a) != 0 || arrays.is_blank(a)
 }
 
 fn used_right(arrays: &Arrays, a: usize) -> bool {

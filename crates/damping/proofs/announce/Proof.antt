@@ -1,4 +1,5 @@
 -- By the number that stands before the work, or by the work's promise on a front and a table. Assumes nothing.
+use Rattle.damping.specs.Update.{damped-table}
 use Rattle.damping.specs.Refuse.{refusalThrough, fault-sound, refused-by, passed-all}
 use Rattle.numbers.specs.Four.{four-number}
 use Rattle.candidates.specs.Answers.{announce as update}
@@ -31,26 +32,24 @@ returns : tie.Need-returns
 returns c =
     let t = c .before .before .before .before .before .before .before .before .before in
     let a = t .args in
+    let u = update (a .address) (a .length) (a .hop) (a .feed) (a .preference) in
     let f = c .before .before .announce-fault in
     let e = rw (c .before .before .before .before .before .before .four-of .ensures, four-number (a .address) (omega arith)) at (f .ensures) in
-    refused-by (a .front .now) (a .words .now) (update (a .address) (a .length) (a .hop) (a .feed) (a .preference)) (c .before .refusal .result)
+    refused-by (a .front .now) (a .words .now) u (c .before .refusal .result)
     (c .before .refusal .ensures ∙ ap (refusalThrough (a .front .now) (a .words .now)) e) (c .if1 .taken)
 
 announce-in-requires : tie.Need-announce-in-requires
 announce-in-requires c κs =
-    let c2 = c .before .before in
-    let c3 = c2 .before in
-    let c4 = c3 .before in
-    let c8 = c4 .before .before .before .before in
-    let c10 = c8 .before .before in
-    let c11 = c10 .before in
-    let t = c11 in
-    let a = t .args in
-    let f = c4 .announce-fault in
-    let e = rw (c8 .four-of .ensures, four-number (a .address) (omega arith)) at (f .ensures) in
-    let p = passed-all (a .front .now) (a .words .now) (f .result) (λ i. omega (arith, c10 .slice-known .given (4 * i)))
-    (sym (c3 .refusal .ensures) ∙ c2 .if1 .left) in
-    record { front = p .0; table = p .1; sound = fault-sound (update (a .address) (a .length) (a .hop) (a .feed) (a .preference)) (sym e ∙ p .2) }
+    let n = c .before .before in
+    let f = n .before .before in
+    let o = f .before .before .before .before in
+    let s = o .before .before in
+    let a = s .before .args in
+    let u = update (a .address) (a .length) (a .hop) (a .feed) (a .preference) in
+    let e = rw (o .four-of .ensures, four-number (a .address) (omega arith)) at (f .announce-fault .ensures) in
+    let p = passed-all (a .front .now) (a .words .now) (f .announce-fault .result) (λ i. omega (arith, s .slice-known .given (4 * i)))
+    (sym (n .before .refusal .ensures) ∙ n .if1 .left) in
+    record { front = p .0; table = λ _. p .1; sound = fault-sound u (sym e ∙ p .2) }
 
 same-length-3 : tie.Need-same-length-3
 same-length-3 c = search needs
@@ -59,7 +58,19 @@ same-length-4 : tie.Need-same-length-4
 same-length-4 c = search needs
 
 returns-2 : tie.Need-returns-2
-returns-2 c = search needs
+returns-2 c =
+    let w = c .before .before .before .before in
+    let n = w .before .before .before in
+    let f = n .before .before in
+    let o = f .before .before .before .before in
+    let s = o .before .before in
+    let a = s .before .args in
+    let u = update (a .address) (a .length) (a .hop) (a .feed) (a .preference) in
+    let e = rw (o .four-of .ensures, four-number (a .address) (omega arith)) at (f .announce-fault .ensures) in
+    let p = passed-all (a .front .now) (a .words .now) (f .announce-fault .result) (λ i. omega (arith, s .slice-known .given (4 * i)))
+    (sym (n .before .refusal .ensures) ∙ n .if1 .left) in
+    damped-table (a .front .now) (a .words .now) (p .0) (p .1) _ _ u (w .announce-in .result) (fault-sound u (sym e ∙ p .2))
+    (w .announce-in .ensures)
 
 pub announce-spec : {M : Type 1} → statement M
 announce-spec =

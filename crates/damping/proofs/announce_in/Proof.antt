@@ -1,9 +1,6 @@
 -- Kept where it is held back, passed to the table where not. Assumes nothing.
-use Rattle.damping.specs.Update.{keeps, announces}
+use Rattle.damping.specs.Work.{keeps, announces}
 use Rattle.restraint.specs.Keeps.{announce-sound}
-use Rattle.words.specs.View.{seen-table}
-use Rattle.words.specs.Table.{listOf}
-use Rattle.words.specs.Words.{arrayCount}
 use Rattle.numbers.specs.Four.{four-number}
 use Prim.Native.Nat.{_%_}
 use borrow.Author.Tests.{eq-eqb}
@@ -36,20 +33,20 @@ returns c =
     let t = c .before .before .before .before .before .before .before .before .before .before in
     let a = t .args in
     let s = c .before .before .before .before .before .before .find in
-    let ws = a .words .now in
-    keeps (a .front .now) ws (t .pre .front) (arrayCount ws) (listOf 4 ws) (seen-table 4 ws (t .pre .table)) (a .address) (a .length)
-    (a .feed) (s .result .at) (s .result .mark) (s .result .kept) (s .ensures) (a .hop) (a .preference) (t .pre .sound)
-    (c .before .before .keep .last .0) (c .before .before .before .before .if1 .taken) (c .before .before .keep .ensures)
+    keeps (a .front .now) (a .words .now) (t .pre .front) (a .address) (a .length) (a .feed) (s .result .at) (s .result .mark)
+    (s .result .kept) (s .ensures) (a .hop) (a .preference) (c .before .before .keep .last .0)
+    (c .before .before .before .before .if1 .taken) (c .before .before .keep .ensures)
 
 four-of-requires : tie.Need-four-of-requires
 four-of-requires c κs = search needs
 
-slice-aggregate-announce-on : tie.Need-slice-aggregate-announce-on
-slice-aggregate-announce-on c = search needs
+slice-aggregate-announce-with : tie.Need-slice-aggregate-announce-with
+slice-aggregate-announce-with c = search needs
 
-announce-on-requires : tie.Need-announce-on-requires
-announce-on-requires c κs =
-    rw (c .before .before .four-of .ensures) (c .before .before .before .before .before .before .before .before .before .pre .table)
+announce-with-requires : tie.Need-announce-with-requires
+announce-with-requires c κs =
+    let b = c .before .before in
+    (search needs, λ k. rw (b .four-of .ensures) (b .before .before .before .before .before .before .before .pre .table k))
 
 same-length-2 : tie.Need-same-length-2
 same-length-2 c = search needs
@@ -67,11 +64,10 @@ returns-2 c =
     let t = c12 in
     let a = t .args in
     let s = c8 .find in
-    let ws = a .words .now in
-    let on = c2 .announce-on in
-    announces (a .front .now) ws (t .pre .front) (arrayCount ws) (listOf 4 ws) (seen-table 4 ws (t .pre .table)) (a .address) (a .length)
-    (a .feed) (s .result .at) (s .result .mark) (s .result .kept) (s .ensures) (a .hop) (a .preference) (t .pre .sound)
-    (on .last .0) (on .result) (c6 .if1 .left) (rw (c5 .four-of .ensures, four-number (a .address) (omega arith)) at (on .ensures))
+    let on = c2 .announce-with in
+    announces (a .front .now) (a .words .now) (t .pre .front) (a .address) (a .length) (a .feed) (s .result .at) (s .result .mark)
+    (s .result .kept) (s .ensures) (a .hop) (a .preference) (on .last .0) (on .result) (c6 .if1 .left)
+    (rw (c5 .four-of .ensures, four-number (a .address) (omega arith)) at (on .ensures))
 
 pub announce-in-spec : {M : Type 1} → statement M
 announce-in-spec =
@@ -82,8 +78,8 @@ announce-in-spec =
     same-length
     returns
     four-of-requires
-    slice-aggregate-announce-on
-    announce-on-requires
+    slice-aggregate-announce-with
+    announce-with-requires
     same-length-2
     same-length-3
     returns-2)

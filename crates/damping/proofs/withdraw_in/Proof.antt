@@ -1,9 +1,6 @@
 -- What is kept is dropped where it is held back; else the table answers, and what it accepts is charged. Assumes nothing.
-use Rattle.damping.specs.Update.{drops-nothing, drops, charges, charges-not}
+use Rattle.damping.specs.Work.{drops-nothing, drops, charges, charges-not}
 use Rattle.restraint.specs.Keeps.{withdraw-sound}
-use Rattle.words.specs.View.{seen-table}
-use Rattle.words.specs.Table.{listOf}
-use Rattle.words.specs.Words.{arrayCount}
 use Rattle.numbers.specs.Four.{four-number}
 use mathlib.Core.Path.{sym, _∙_}
 use native.Mathlib.Omega.{arith}
@@ -22,9 +19,8 @@ returns c =
     let t = c .before .before .before .before .before .before .before .before in
     let a = t .args in
     let s = c .before .before .before .before .find in
-    let ws = a .words .now in
-    drops-nothing (a .front .now) ws (t .pre .front) (arrayCount ws) (listOf 4 ws) (seen-table 4 ws (t .pre .table)) (a .address)
-    (a .length) (a .feed) (s .result .at) (s .result .mark) (s .result .kept) (s .ensures) (t .pre .sound) (c .before .before .if1 .taken)
+    drops-nothing (a .front .now) (a .words .now) (t .pre .front) (a .address)
+    (a .length) (a .feed) (s .result .at) (s .result .mark) (s .result .kept) (s .ensures) (c .before .before .if1 .taken)
     (c .if2 .taken)
 
 charge-requires : tie.Need-charge-requires
@@ -50,20 +46,20 @@ returns-2 c =
     let t = c13 in
     let a = t .args in
     let s = c9 .find in
-    let ws = a .words .now in
-    drops (a .front .now) ws (t .pre .front) (arrayCount ws) (listOf 4 ws) (seen-table 4 ws (t .pre .table)) (a .address)
-    (a .length) (a .feed) (s .result .at) (s .result .mark) (s .result .kept) (s .ensures) (t .pre .sound)
+    drops (a .front .now) (a .words .now) (t .pre .front) (a .address)
+    (a .length) (a .feed) (s .result .at) (s .result .mark) (s .result .kept) (s .ensures)
     (c3 .charge .last .0) (c7 .if1 .taken) (c5 .if2 .left) (c3 .charge .ensures)
 
 four-of-requires : tie.Need-four-of-requires
 four-of-requires c κs = search needs
 
-slice-aggregate-withdraw-on : tie.Need-slice-aggregate-withdraw-on
-slice-aggregate-withdraw-on c = search needs
+slice-aggregate-withdraw-with : tie.Need-slice-aggregate-withdraw-with
+slice-aggregate-withdraw-with c = search needs
 
-withdraw-on-requires : tie.Need-withdraw-on-requires
-withdraw-on-requires c κs =
-    rw (c .before .before .four-of .ensures) (c .before .before .before .before .before .before .before .before .before .pre .table)
+withdraw-with-requires : tie.Need-withdraw-with-requires
+withdraw-with-requires c κs =
+    let b = c .before .before in
+    (search needs, λ k. rw (b .four-of .ensures) (b .before .before .before .before .before .before .before .pre .table k))
 
 is-done-requires : tie.Need-is-done-requires
 is-done-requires c κs = search needs
@@ -97,10 +93,9 @@ returns-3 c =
     let t = c18 in
     let a = t .args in
     let s = c14 .find in
-    let ws = a .words .now in
-    let on = c8 .withdraw-on in
-    charges (a .front .now) ws (t .pre .front) (arrayCount ws) (listOf 4 ws) (seen-table 4 ws (t .pre .table)) (a .address)
-    (a .length) (a .feed) (s .result .at) (s .result .mark) (s .result .kept) (s .ensures) (t .pre .sound)
+    let on = c8 .withdraw-with in
+    charges (a .front .now) (a .words .now) (t .pre .front) (a .address)
+    (a .length) (a .feed) (s .result .at) (s .result .mark) (s .result .kept) (s .ensures)
     (on .last .0) (on .result) (c12 .if1 .left) (rw (c11 .four-of .ensures, four-number (a .address) (omega arith)) at (on .ensures))
     (c2 .charge2 .last .0) (sym (c5 .is-done .ensures) ∙ c4 .if3 .taken) (c2 .charge2 .ensures)
 
@@ -120,10 +115,9 @@ returns-4 c =
     let t = c14 in
     let a = t .args in
     let s = c10 .find in
-    let ws = a .words .now in
-    let on = c4 .withdraw-on in
-    charges-not (a .front .now) ws (t .pre .front) (arrayCount ws) (listOf 4 ws) (seen-table 4 ws (t .pre .table)) (a .address)
-    (a .length) (a .feed) (s .result .at) (s .result .mark) (s .result .kept) (s .ensures) (t .pre .sound)
+    let on = c4 .withdraw-with in
+    charges-not (a .front .now) (a .words .now) (t .pre .front) (a .address)
+    (a .length) (a .feed) (s .result .at) (s .result .mark) (s .result .kept) (s .ensures)
     (on .last .0) (on .result) (c8 .if1 .left) (rw (c7 .four-of .ensures, four-number (a .address) (omega arith)) at (on .ensures))
     (sym (c .before .is-done .ensures) ∙ c .if3 .left)
 
@@ -138,8 +132,8 @@ withdraw-in-spec =
     same-length-2
     returns-2
     four-of-requires
-    slice-aggregate-withdraw-on
-    withdraw-on-requires
+    slice-aggregate-withdraw-with
+    withdraw-with-requires
     is-done-requires
     charge-requires-2
     same-length-3

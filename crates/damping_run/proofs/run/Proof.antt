@@ -3,7 +3,8 @@ use mathlib.Core.Path.{sym, _∙_}
 use Prim.Native.Nat.{_*_}
 use native.Mathlib.Omega.{arith}
 use Rattle.damping.specs.Refuse.{passed-all}
-use Rattle.damping_run.proofs.Loop.{run-refused}
+use Rattle.damping_run.specs.Tables.{ran-table}
+use Rattle.damping_run.proofs.Loop.{run-refused, table-ready}
 use borrow.Author.Needs.{needs}
 use Rattle.damping_run.proofs.run.Statement.{statement}
 use Rattle.damping_run.proofs.run.Tie as tie
@@ -20,14 +21,14 @@ same-length-2 c = search needs
 returns : tie.Need-returns
 returns c = run-refused _ _ _ _ _ (c .before .refusal .ensures) (c .if1 .taken)
 
-run-both-requires : tie.Need-run-both-requires
-run-both-requires c κs =
+run-with-requires : tie.Need-run-with-requires
+run-with-requires c κs =
     let e = c .before .before .before in
     let s = c .before .before .before .before .before .before .before .before .before .before in
     let a = s .before .args in
     let p = passed-all (a .front .now) (a .words .now) 0 (λ i. omega (arith, s .slice-known .given (4 * i)))
     (sym (e .before .refusal .ensures) ∙ e .if1 .left) in
-    record { front = p .0; table = p .1 }
+    table-ready (a .front .now) (a .words .now) (p .0) (p .1)
 
 same-length-3 : tie.Need-same-length-3
 same-length-3 c = search needs
@@ -39,7 +40,13 @@ same-length-5 : tie.Need-same-length-5
 same-length-5 c = search needs
 
 returns-2 : tie.Need-returns-2
-returns-2 c = search needs
+returns-2 c =
+    let e = c .before .before .before .before .before .before .before .before .before .before in
+    let s = c .before .before .before .before .before .before .before .before .before .before .before .before .before .before .before .before .before in
+    let a = s .before .args in
+    let p = passed-all (a .front .now) (a .words .now) 0 (λ i. omega (arith, s .slice-known .given (4 * i)))
+    (sym (e .before .refusal .ensures) ∙ e .if1 .left) in
+    ran-table _ _ _ _ _ _ _ _ (record { front = p .0; table = p .1 }) (c .before .before .before .before .before .before .run-with .ensures)
 
 pub run-spec : {M : Type 1} → statement M
 run-spec =
@@ -49,7 +56,7 @@ run-spec =
     same-length
     same-length-2
     returns
-    run-both-requires
+    run-with-requires
     same-length-3
     same-length-4
     same-length-5

@@ -3,7 +3,7 @@ use mathlib.Core.Path.{refl}
 use Prim.Native.Nat.{_+_}
 use native.Mathlib.Omega.{arith}
 use borrow.Author.Needs.{needs}
-use Rattle.feed.proofs.Answers.{is-table, asked-announce}
+use Rattle.feed.proofs.Answers.{any-announce, is-table}
 use Rattle.feed.proofs.Part.{part-length, part-number}
 use Rattle.feed.proofs.announce.Statement.{statement}
 use Rattle.feed.proofs.announce.Tie as tie
@@ -28,36 +28,40 @@ add-two-at c = search needs
 two-at-requires : tie.Need-two-at-requires
 two-at-requires c κs = search needs
 
-add-announce-on : tie.Need-add-announce-on
-add-announce-on c = search needs
+add-announce-with : tie.Need-add-announce-with
+add-announce-with c = search needs
 
-sub-announce-on : tie.Need-sub-announce-on
-sub-announce-on c = search needs
+sub-announce-with : tie.Need-sub-announce-with
+sub-announce-with c = search needs
 
-part-announce-on-start : tie.Need-part-announce-on-start
-part-announce-on-start c = search needs
+part-announce-with-start : tie.Need-part-announce-with-start
+part-announce-with-start c = search needs
 
-part-announce-on-end : tie.Need-part-announce-on-end
-part-announce-on-end c = search needs
+part-announce-with-end : tie.Need-part-announce-with-end
+part-announce-with-end c = search needs
 
-announce-on-requires : tie.Need-announce-on-requires
-announce-on-requires c κs =
+announce-with-requires : tie.Need-announce-with-requires
+announce-with-requires c κs =
     let s = c .before .before .before .before .before .before in
-    let h = s .pre in
+    let h = s .pre .0 in
     let L = s .args .levels in
-    rw (part-length L (s .args .feed .now) (s .args .at) (omega (arith, h .body))) (is-table L _ (h .some) (h .few) (h .isTable))
+    let e = part-length L (s .args .feed .now) (s .args .at) (omega (arith, h .body)) in (
+      record { some = omega (arith, e, h .some); levels = omega (arith, e, h .few) },
+      λ k. rw e (is-table L (s .args .words .now) (h .some) (h .few) (s .pre .1 k)),
+    )
 
 same-length : tie.Need-same-length
 same-length c = search needs
 
 returns : tie.Need-returns
 returns c =
-    let on = c .before .before .announce-on in
+    let on = c .before .before .announce-with in
     let b = c .before .before .before .before .before in
     let s = b .before .before .before .before in
     let a = s .args in
-    let p = rw (part-length (a .levels) (a .feed .now) (a .at) (omega (arith, s .pre .body))) at (on .ensures) in
-    asked-announce (a .levels) _ _ (on .result) (a .feed .now) (a .at) _ _ _ _ _ (part-number (a .levels) (a .feed .now) (a .at)) refl
+    let p = rw (part-length (a .levels) (a .feed .now) (a .at) (omega (arith, s .pre .0 .body))) at (on .ensures) in
+    any-announce (a .levels) _ _ (on .result) (a .feed .now) (a .at) _ _ _ _ _ (s .pre .0 .some) (s .pre .0 .few)
+    (part-number (a .levels) (a .feed .now) (a .at)) refl
     (b .two-at .ensures .0) p
 
 pub announce-spec : {M : Type 1} → statement M
@@ -70,10 +74,10 @@ announce-spec =
     cast-length
     add-two-at
     two-at-requires
-    add-announce-on
-    sub-announce-on
-    part-announce-on-start
-    part-announce-on-end
-    announce-on-requires
+    add-announce-with
+    sub-announce-with
+    part-announce-with-start
+    part-announce-with-end
+    announce-with-requires
     same-length
     returns)

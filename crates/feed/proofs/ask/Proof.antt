@@ -25,7 +25,7 @@ announce-requires c κs =
     let t = c .before .enum-told .given .1 in
     let l = c .before .before .before .levels .ensures .0 in
     let s = c .before .before .before .before .before .before in
-    asks-whole _ _ _ _ _ (s .pre) announcing _ 4 (ap saidRole t) l (omega arith)
+    (asks-whole _ _ _ _ _ (s .pre .0) announcing _ 4 (ap saidRole t) l (omega arith), λ k. rw l (s .pre .1 k))
 
 enum-told-2 : tie.Need-enum-told-2
 enum-told-2 c = search needs
@@ -35,7 +35,7 @@ withdraw-requires c κs =
     let t = c .before .enum-told2 .given .1 in
     let l = c .before .before .before .levels .ensures .0 in
     let s = c .before .before .before .before .before .before in
-    asks-whole _ _ _ _ _ (s .pre) withdrawing _ 2 (ap saidRole t) l (omega arith)
+    (asks-whole _ _ _ _ _ (s .pre .0) withdrawing _ 2 (ap saidRole t) l (omega arith), λ k. rw l (s .pre .1 k))
 
 enum-told-3 : tie.Need-enum-told-3
 enum-told-3 c = search needs
@@ -48,7 +48,7 @@ shared-slice-read-from c =
     let t = c .before .enum-told3 .given .1 in
     let l = c .before .before .before .levels .ensures .0 in
     let s = c .before .before .before .before .before .before in
-    omega (arith, asks-body _ _ _ _ _ (s .pre) announcingFor (ap saidRole t), l)
+    omega (arith, asks-body _ _ _ _ _ (s .pre .0) announcingFor (ap saidRole t), l)
 
 add-preference : tie.Need-add-preference
 add-preference c = search needs
@@ -58,14 +58,14 @@ shared-slice-read-preference c =
     let t = c .before .before .enum-told3 .given .1 in
     let l = c .before .before .before .before .levels .ensures .0 in
     let s = c .before .before .before .before .before .before .before in
-    omega (arith, asks-body _ _ _ _ _ (s .pre) announcingFor (ap saidRole t), l)
+    omega (arith, asks-body _ _ _ _ _ (s .pre .0) announcingFor (ap saidRole t), l)
 
 announce-requires-2 : tie.Need-announce-requires-2
 announce-requires-2 c κs =
     let t = c .before .before .before .enum-told3 .given .1 in
     let l = c .before .before .before .before .before .levels .ensures .0 in
     let s = c .before .before .before .before .before .before .before .before in
-    asks-whole _ _ _ _ _ (s .pre) announcingFor _ 4 (ap saidRole t) l (omega arith)
+    (asks-whole _ _ _ _ _ (s .pre .0) announcingFor _ 4 (ap saidRole t) l (omega arith), λ k. rw l (s .pre .1 k))
 
 enum-told-4 : tie.Need-enum-told-4
 enum-told-4 c = search needs
@@ -78,14 +78,14 @@ shared-slice-read-from-2 c =
     let t = c .before .enum-told4 .given .1 in
     let l = c .before .before .before .levels .ensures .0 in
     let s = c .before .before .before .before .before .before in
-    omega (arith, asks-body _ _ _ _ _ (s .pre) withdrawingFor (ap saidRole t), l)
+    omega (arith, asks-body _ _ _ _ _ (s .pre .0) withdrawingFor (ap saidRole t), l)
 
 withdraw-requires-2 : tie.Need-withdraw-requires-2
 withdraw-requires-2 c κs =
     let t = c .before .before .enum-told4 .given .1 in
     let l = c .before .before .before .before .levels .ensures .0 in
     let s = c .before .before .before .before .before .before .before in
-    asks-whole _ _ _ _ _ (s .pre) withdrawingFor _ 2 (ap saidRole t) l (omega arith)
+    (asks-whole _ _ _ _ _ (s .pre .0) withdrawingFor _ 2 (ap saidRole t) l (omega arith), λ k. rw l (s .pre .1 k))
 
 enum-told-5 : tie.Need-enum-told-5
 enum-told-5 c = search needs
@@ -95,7 +95,7 @@ lookup-requires c κs =
     let t = c .before .enum-told5 .given .1 in
     let l = c .before .before .before .levels .ensures .0 in
     let s = c .before .before .before .before .before .before in
-    asks-whole _ _ _ _ _ (s .pre) looking _ 1 (ap saidRole t) l (omega arith)
+    asks-whole _ _ _ _ _ (s .pre .0) looking _ 1 (ap saidRole t) l (omega arith)
 
 enum-told-6 : tie.Need-enum-told-6
 enum-told-6 c = search needs
@@ -151,12 +151,12 @@ returns-5 c =
 returns-6 : tie.Need-returns-6
 returns-6 c =
     let s = c .before .before .before .before .before in
-    absurd (not-ending _ _ _ _ _ (s .pre) (ap saidRole (c .enum-told6 .given .1)))
+    absurd (not-ending _ _ _ _ _ (s .pre .0) (ap saidRole (c .enum-told6 .given .1)))
 
 returns-7 : tie.Need-returns-7
 returns-7 c =
     let s = c .before .before .before .before .before in
-    absurd (not-unknown _ _ _ _ _ (s .pre) (ap saidRole (c .enum-told7 .given .1)))
+    absurd (not-unknown _ _ _ _ _ (s .pre .0) (ap saidRole (c .enum-told7 .given .1)))
 
 pub ask-spec : {M : Type 1} → statement M
 ask-spec =

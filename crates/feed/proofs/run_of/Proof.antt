@@ -5,7 +5,7 @@ use borrow.Author.Needs.{needs}
 use Rattle.routes.specs.Family.{levels}
 use Rattle.families.specs.Said.{saidFamily}
 use Rattle.update.specs.Update.{refusalOf}
-use Rattle.feed.proofs.Loop.{run-refused, run-started}
+use Rattle.feed.proofs.Loop.{run-refused, run-fits, run-started}
 use Rattle.feed.proofs.run_of.Statement.{statement}
 use Rattle.feed.proofs.run_of.Tie as tie
 
@@ -36,7 +36,10 @@ run-table-requires : tie.Need-run-table-requires
 run-table-requires c κs =
     let t = c .before .before in
     let s = t .before .before .before .before .before .before .before in
-    run-started (saidFamily (s .args .family)) _ _ (first (t .before)) (omega arith)
+    let F = saidFamily (s .args .family) in (
+      run-fits F (s .args .words .now) _ (first (t .before)) (omega arith),
+      λ _. run-started F (s .args .words .now) _ (first (t .before)) (omega arith),
+    )
 
 same-length-2 : tie.Need-same-length-2
 same-length-2 c = search needs
@@ -45,7 +48,11 @@ same-length-3 : tie.Need-same-length-3
 same-length-3 c = search needs
 
 returns-2 : tie.Need-returns-2
-returns-2 c = search needs
+returns-2 c =
+    let e = c .before .before .before .before .before .before .before in
+    let s = e .before .before .before .before .before .before .before in
+    c .before .before .before .before .run-table .ensures .table
+    (run-started (saidFamily (s .args .family)) _ _ (first (e .before)) (e .if1 .left))
 
 pub run-of-spec : {M : Type 1} → statement M
 run-of-spec =

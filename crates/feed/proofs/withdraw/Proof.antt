@@ -3,7 +3,7 @@ use mathlib.Core.Path.{refl}
 use Prim.Native.Nat.{_+_}
 use native.Mathlib.Omega.{arith}
 use borrow.Author.Needs.{needs}
-use Rattle.feed.proofs.Answers.{is-table, asked-withdraw}
+use Rattle.feed.proofs.Answers.{any-withdraw, is-table}
 use Rattle.feed.proofs.Part.{part-length, part-number}
 use Rattle.feed.proofs.withdraw.Statement.{statement}
 use Rattle.feed.proofs.withdraw.Tie as tie
@@ -22,35 +22,39 @@ cast-length c =
     let a = c .before .before .before .args in
     omega (arith, c .shared-slice-known2 .given (a .at + 1 + a .levels))
 
-add-withdraw-on : tie.Need-add-withdraw-on
-add-withdraw-on c = search needs
+add-withdraw-with : tie.Need-add-withdraw-with
+add-withdraw-with c = search needs
 
-sub-withdraw-on : tie.Need-sub-withdraw-on
-sub-withdraw-on c = search needs
+sub-withdraw-with : tie.Need-sub-withdraw-with
+sub-withdraw-with c = search needs
 
-part-withdraw-on-start : tie.Need-part-withdraw-on-start
-part-withdraw-on-start c = search needs
+part-withdraw-with-start : tie.Need-part-withdraw-with-start
+part-withdraw-with-start c = search needs
 
-part-withdraw-on-end : tie.Need-part-withdraw-on-end
-part-withdraw-on-end c = search needs
+part-withdraw-with-end : tie.Need-part-withdraw-with-end
+part-withdraw-with-end c = search needs
 
-withdraw-on-requires : tie.Need-withdraw-on-requires
-withdraw-on-requires c κs =
+withdraw-with-requires : tie.Need-withdraw-with-requires
+withdraw-with-requires c κs =
     let s = c .before .before .before .before .before in
-    let h = s .pre in
+    let h = s .pre .0 in
     let L = s .args .levels in
-    rw (part-length L (s .args .feed .now) (s .args .at) (omega (arith, h .body))) (is-table L _ (h .some) (h .few) (h .isTable))
+    let e = part-length L (s .args .feed .now) (s .args .at) (omega (arith, h .body)) in (
+      record { some = omega (arith, e, h .some); levels = omega (arith, e, h .few) },
+      λ k. rw e (is-table L (s .args .words .now) (h .some) (h .few) (s .pre .1 k)),
+    )
 
 same-length : tie.Need-same-length
 same-length c = search needs
 
 returns : tie.Need-returns
 returns c =
-    let on = c .before .before .withdraw-on in
+    let on = c .before .before .withdraw-with in
     let s = c .before .before .before .before .before .before .before .before in
     let a = s .args in
-    let p = rw (part-length (a .levels) (a .feed .now) (a .at) (omega (arith, s .pre .body))) at (on .ensures) in
-    asked-withdraw (a .levels) _ _ (on .result) (a .feed .now) (a .at) _ _ _ (part-number (a .levels) (a .feed .now) (a .at)) refl p
+    let p = rw (part-length (a .levels) (a .feed .now) (a .at) (omega (arith, s .pre .0 .body))) at (on .ensures) in
+    any-withdraw (a .levels) _ _ (on .result) (a .feed .now) (a .at) _ _ _ (s .pre .0 .some) (s .pre .0 .few)
+    (part-number (a .levels) (a .feed .now) (a .at)) refl p
 
 pub withdraw-spec : {M : Type 1} → statement M
 withdraw-spec =
@@ -60,10 +64,10 @@ withdraw-spec =
     add-end-2
     shared-slice-read-length
     cast-length
-    add-withdraw-on
-    sub-withdraw-on
-    part-withdraw-on-start
-    part-withdraw-on-end
-    withdraw-on-requires
+    add-withdraw-with
+    sub-withdraw-with
+    part-withdraw-with-start
+    part-withdraw-with-end
+    withdraw-with-requires
     same-length
     returns)

@@ -4,6 +4,7 @@ use mathlib.Core.Logic.{⊎-elim}
 use Prim.Native.Nat.{_+_, _-_, _≤_}
 use native.Mathlib.Omega.{arith}
 use Rattle.words.specs.Words.{arraysOf, arrayCount}
+use Rattle.packed_arrays.specs.Flags.{table-tells}
 use Rattle.packed_arrays.specs.Laying.{LaidTo, laid-none}
 use Rattle.packed_build.specs.Laying.{room-at, laid-more, laid-same}
 use Rattle.packed_build.proofs.lay.Statement.{statement}
@@ -63,7 +64,13 @@ fill-requires c κs =
     let room = room-at (s .args .table .now) (s .args .map .now) (s .args .words .now) (s .pre) (l .a) (l .inv .0)
     (omega (arith, b8 .arrays-in .ensures)) (omega (arith, b5 .tag .ensures, b4 .if1 .taken))
     (c .before .place-in .result) (c .mask-in .result) (c .before .place-in .ensures) (c .mask-in .ensures .0) in
-    (b3 .page .ensures .1, s .pre .mapped .size, c .mask-in .ensures .1, rw (l .inv .2 .size) room)
+    let tells = table-tells (s .args .table .now) (s .pre .table) (l .a) (l .inv .0) (omega (arith, b8 .arrays-in .ensures)) in (
+      b3 .page .ensures .1,
+      s .pre .mapped .size,
+      c .mask-in .ensures .1,
+      rw (l .inv .2 .size) room,
+      rw (b3 .page .ensures .0) tells,
+    )
 
 add-a : tie.Need-add-a Inv-loop μ-loop
 add-a c = omega arith

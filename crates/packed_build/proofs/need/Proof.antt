@@ -2,7 +2,6 @@
 use mathlib.Core.Path.{_≡_, refl, sym, _∙_}
 use native.Mathlib.Omega.{arith}
 use borrow.Author.Tests.{not-true, not-false}
-use Rattle.words.specs.View.{no-misfit-fits}
 use Rattle.packed_build.specs.Laying.{need-misfit, need-foreign, need-table, is-table}
 use borrow.Author.Needs.{needs}
 use Rattle.packed_build.proofs.need.Statement.{statement}
@@ -30,7 +29,14 @@ slice-aggregate-places : tie.Need-slice-aggregate-places
 slice-aggregate-places c = search needs
 
 places-requires : tie.Need-places-requires
-places-requires c κs = (no-misfit-fits _ (sym (c .before .before .before .before .misfit .ensures) ∙ c .before .before .before .if1 .left), refl)
+places-requires c κs =
+    let b1 = c .before in
+    let b3 = b1 .before .before in
+    let b4 = b3 .before in
+    let i = b1 .before .is-table-of in
+    let o = is-table (b4 .before .before .args .table .now) (sym (b4 .misfit .ensures) ∙ b3 .if1 .left)
+    (sym (i .ensures) ∙ not-false (i .result) (b1 .if2 .left)) in
+    (o, refl)
 
 mul-t5 : tie.Need-mul-t5
 mul-t5 c = search needs

@@ -1,70 +1,107 @@
--- `paths::hang_path` meets its contract. A turn hangs the next array, as the first free one, below the last; the room asked for at entry is room for
--- each, since a turn takes one. Assumes nothing.
-use mathlib.Core.Path.{_≡_}
-use Prim.Native.Nat.{_-_, _≤_}
+-- `paths::hang_path` meets its contract. A turn hangs the next of the free arrays below the last. Assumes nothing.
+use mathlib.Core.Path.{_≡_, refl}
+use Prim.Native.Nat.{_-_, _<_}
 use native.Mathlib.Omega.{arith}
-use lib.ListN.{length}
+use lib.ListN.{length, getD}
 use Rattle.numbers.specs.Number.{number}
-use Rattle.paths.specs.Grown.{Turn, turn-first, turn-room, turn-gains, turn-more}
+use Rattle.words.specs.Rises.{rises-inside}
+use Rattle.paths.specs.Hung.{Hanging, hanging-first, hanging-gains, hanging-more, hanging-done}
+use borrow.Author.Needs.{needs}
 use Rattle.paths.proofs.hang_path.Statement.{statement}
 use Rattle.paths.proofs.hang_path.Tie as tie
 
 abbrev Inv-loop : tie.InvT-loop
-Inv-loop words₀ address a j k b₀ i₀ words b i = (i ≤ k) × Turn (length address) words₀ words (number address) j i b
+Inv-loop words₀ address a j k fresh b₀ i₀ words b i = (b < 4097) × Hanging (length address) words₀ words (number address) j k a fresh i b
 
 abbrev μ-loop : tie.MeasureT-loop
-μ-loop words₀ address a j k b₀ i₀ words b i = k - i
+μ-loop words₀ address a j k fresh b₀ i₀ words b i = k - i
 
 loop-holds : tie.Need-loop-holds Inv-loop μ-loop
 loop-holds c =
-    let s = c .before .before in
-    let a = s .args in
-    let n = a .address .now in
-    (omega arith, turn-first (length n) (a .words .now) (number n) (a .j) (a .a) (omega arith) (s .pre .1))
+    let s = c .before .before .before in
+    (omega (arith, rises-inside _ _ _ (s .pre .rises), s .pre .most), hanging-first (s .pre))
 
 byte-at-requires : tie.Need-byte-at-requires Inv-loop μ-loop
-byte-at-requires c κs = omega arith
+byte-at-requires c κs =
+    let l = c .before in
+    let s = l .before .before .before .before in
+    let a = s .args in
+    let q = s .pre in
+    let g = l .loop .inv .1 in
+    omega (arith, q .top)
 
-find-free-requires : tie.Need-find-free-requires Inv-loop μ-loop
-find-free-requires c κs =
-    let o = c .before .before .before .loop .inv .1 .tip .ok in
-    (o .low, o .high, o .header)
+sub-at : tie.Need-sub-at Inv-loop μ-loop
+sub-at c =
+    let l = c .before .before in
+    let s = l .before .before .before .before in
+    let a = s .args in
+    let q = s .pre in
+    let g = l .loop .inv .1 in
+    omega (arith, g .low)
+
+mul-f : tie.Need-mul-f Inv-loop μ-loop
+mul-f c = search needs
+
+shared-slice-read-f : tie.Need-shared-slice-read-f Inv-loop μ-loop
+shared-slice-read-f c =
+    let l = c .before .before .before in
+    let s = l .before .before .before .before in
+    let a = s .args in
+    let q = s .pre in
+    let g = l .loop .inv .1 in
+    omega (arith, g .low, q .long, q .short)
+
+cast-f : tie.Need-cast-f Inv-loop μ-loop
+cast-f c =
+    let l = c .before .before .before in
+    let s = l .before .before .before .before in
+    let a = s .args in
+    let q = s .pre in
+    let g = l .loop .inv .1 in
+    omega (arith, c .shared-slice-known3 .given (l .loop .i - a .j))
 
 gain-requires : tie.Need-gain-requires Inv-loop μ-loop
 gain-requires c κs =
-    let l = c .before .before .before .before .before .loop in
-    let s = c .before .before .before .before .before .before .before .before in
-    let room = turn-room (l .inv .1) (s .args .k) (omega arith) (s .pre .0 .2) in
-    turn-gains (l .inv .1) (omega arith) room
-    (c .before .before .before .byte-at .result) (c .before .find-free .result) (c .before .before .before .byte-at .ensures .0) (c .before .find-free .ensures)
+    let y = c .before .before in
+    let l = y .before .before in
+    let s = l .before .before .before .before in
+    let a = s .args in
+    let q = s .pre in
+    let g = l .loop .inv .1 in
+    hanging-gains q g (omega arith) (y .byte-at .result) _ (y .byte-at .ensures .0) refl
 
 add-i : tie.Need-add-i Inv-loop μ-loop
-add-i c = omega arith
+add-i c = search needs
 
 loop-less : tie.Need-loop-less Inv-loop μ-loop
-loop-less c = omega arith
+loop-less c = search needs
 
 loop-again : tie.Need-loop-again Inv-loop μ-loop
 loop-again c =
-    let l = c .before .before .before .before .before .before .before .before .loop in
-    let s = c .before .before .before .before .before .before .before .before .before .before .before in
-    let byte = c .before .before .before .before .before .before .byte-at in
-    let free = c .before .before .before .before .find-free in
-    let room = turn-room (l .inv .1) (s .args .k) (omega arith) (s .pre .0 .2) in (
-      omega arith,
-      turn-more (l .inv .1) (omega arith) room
-          (byte .result) (free .result) (byte .ensures .0) (free .ensures) (c .before .before .gain .last .0) (c .before .before .gain .ensures),
+    let w = c .before .before in
+    let y = w .before .before .before in
+    let l = y .before .before in
+    let s = l .before .before .before .before in
+    let a = s .args in
+    let q = s .pre in
+    let g = l .loop .inv .1 in
+    let n = l .loop .i - a .j in
+    let p : n < a .k - a .j = omega (arith, g .low) in (
+      omega (arith, q .fresh n p .within, q .most),
+      hanging-more q g (omega arith) (y .byte-at .result) _ (y .byte-at .ensures .0) refl (w .gain .last .0) (w .gain .ensures),
     )
 
 same-length : tie.Need-same-length Inv-loop μ-loop
-same-length c = c .before .loop .inv .1 .grown .size
+same-length c = c .before .loop .inv .1 .size
 
 returns : tie.Need-returns Inv-loop μ-loop
 returns c =
-    let l = c .before .loop in
-    let s = c .before .before .before .before in
-    let e : l .i ≡ s .args .k = omega arith in
-    rw e at (l .inv .1 .grown)
+    let l = c .before in
+    let s = l .before .before .before .before in
+    let a = s .args in
+    let q = s .pre in
+    let g = l .loop .inv .1 in
+    (hanging-done q g (omega arith), l .loop .inv .0)
 
 pub hang-path-spec : {M : Type 1} → statement M
 hang-path-spec =
@@ -74,7 +111,10 @@ hang-path-spec =
     μ-loop
     loop-holds
     byte-at-requires
-    find-free-requires
+    sub-at
+    mul-f
+    shared-slice-read-f
+    cast-f
     gain-requires
     add-i
     loop-less

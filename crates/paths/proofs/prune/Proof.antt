@@ -7,36 +7,37 @@ use lib.ListN.{getD}
 use borrow.Author.Tests.{not-false}
 use Rattle.sizes.specs.Sizes.{arrayAt}
 use Rattle.array.specs.Tag.{levelIn}
-use Rattle.paths.specs.Shrunk.{Shrunk, shrunk-none, shrunk-slots, prune-root, prune-some, can-release, shrink, falls}
+use Rattle.paths.specs.Shed.{Shed, shed-none, shed-inside, shed-root, shed-some, shed-releases, shed-more, shed-falls}
 use borrow.Author.Needs.{needs}
 use Rattle.paths.proofs.prune.Statement.{statement}
 use Rattle.paths.proofs.prune.Tie as tie
 
 abbrev Inv-loop : tie.InvT-loop
-Inv-loop words₀ levels a b₀ words b = Shrunk levels words₀ words a b
+Inv-loop words₀ a b₀ words b = Shed words₀ words a b
 
 abbrev μ-loop : tie.MeasureT-loop
-μ-loop words₀ levels a b₀ words b = levelIn (getD words (arrayAt b) 0)
+μ-loop words₀ a b₀ words b = levelIn (getD words (arrayAt b) 0)
 
 loop-holds : tie.Need-loop-holds Inv-loop μ-loop
-loop-holds c = shrunk-none (c .before .args .levels) (c .before .args .words .now) (c .before .args .a) (c .before .pre)
+loop-holds c = shed-none (c .before .args .words .now) (c .before .args .a) (c .before .pre .0)
 
 empty-requires : tie.Need-empty-requires Inv-loop μ-loop
 empty-requires c κs =
-    let i = c .before .before .loop .inv in
-    let k = i .loose in
-    (omega (arith, k .within, k .ok .low), k .ok .high, shrunk-slots i)
+    let l = c .before .before in
+    let i = l .loop .inv in
+    (shed-inside i, rw (i .size) (l .before .before .pre .1))
 
 same-length : tie.Need-same-length Inv-loop μ-loop
-same-length c = c .before .before .before .before .loop .inv .freed .size
+same-length c = c .before .before .before .before .loop .inv .size
 
 returns : tie.Need-returns Inv-loop μ-loop
-returns c = prune-some (c .before .before .before .before .loop .inv) (ap not (sym (c .before .empty .ensures)) ∙ c .if1 .taken)
+returns c =
+    let e = c .before .empty .ensures in
+    shed-some (c .before .before .before .before .loop .inv) _ (λ z. omega arith) (e .0) (e .1) (c .if1 .taken)
 
 tag-requires : tie.Need-tag-requires Inv-loop μ-loop
 tag-requires c κs =
-    let k = c .before .before .before .before .before .loop .inv .loose in
-    omega (arith, k .within, k .ok .low)
+    omega (arith, shed-inside (c .before .before .before .before .before .loop .inv))
 
 parent-in-requires : tie.Need-parent-in-requires Inv-loop μ-loop
 parent-in-requires c κs = search needs
@@ -44,7 +45,8 @@ parent-in-requires c κs = search needs
 release-requires : tie.Need-release-requires Inv-loop μ-loop
 release-requires c κs =
     let b = c .before .before .before .before in
-    can-release (b .before .before .before .before .loop .inv) (λ z. omega arith) (sym (b .before .empty .ensures) ∙ not-false _ (b .if1 .left))
+    let l = b .before .before .before .before in
+    shed-releases (l .loop .inv) (rw (l .loop .inv .size) (l .before .before .pre .1)) (λ z. omega arith)
 
 loop-less : tie.Need-loop-less Inv-loop μ-loop
 loop-less c =
@@ -52,7 +54,8 @@ loop-less c =
     let p = r .before .before in
     let b = p .before .before .before in
     rw (p .parent-in .ensures, p .before .tag .ensures)
-    (falls (b .before .before .before .before .loop .inv) (λ z. omega arith) (sym (b .before .empty .ensures) ∙ not-false _ (b .if1 .left))
+    (let l = b .before .before .before .before in
+    shed-falls (l .loop .inv) (rw (l .loop .inv .size) (l .before .before .pre .1)) (λ z. omega arith)
     (r .release .last .0) (r .release .ensures))
 
 loop-again : tie.Need-loop-again Inv-loop μ-loop
@@ -61,14 +64,15 @@ loop-again c =
     let p = r .before .before in
     let b = p .before .before .before in
     rw (p .parent-in .ensures, p .before .tag .ensures)
-    (shrink (b .before .before .before .before .loop .inv) (λ z. omega arith) (sym (b .before .empty .ensures) ∙ not-false _ (b .if1 .left))
-    (r .release .last .0) (r .release .ensures))
+    (let l = b .before .before .before .before in
+    shed-more (l .loop .inv) (rw (l .loop .inv .size) (l .before .before .pre .1)) (λ z. omega arith)
+    (r .release .last .0) (r .release .ensures) _ (b .before .empty .ensures .0) (b .before .empty .ensures .1) (not-false _ (b .if1 .left)))
 
 same-length-2 : tie.Need-same-length-2 Inv-loop μ-loop
-same-length-2 c = c .before .loop .inv .freed .size
+same-length-2 c = c .before .loop .inv .size
 
 returns-2 : tie.Need-returns-2 Inv-loop μ-loop
-returns-2 c = prune-root (c .before .loop .inv) (omega arith)
+returns-2 c = shed-root (c .before .loop .inv) (omega arith)
 
 pub prune-spec : {M : Type 1} → statement M
 prune-spec =

@@ -1,12 +1,14 @@
 -- `update::reseat` meets its contract: the slot is set in its page, then the totals on the path follow. Assumes nothing.
 use mathlib.Core.Path.{_≡_}
 use borrow.Author.Needs.{needs}
-use Rattle.update.specs.Reseat.{reseat-climbing, reseat-size, reseats}
+use Rattle.update.specs.Local.{sits-spot, seated-climbs, reseated-any}
 use Rattle.update.proofs.reseat.Statement.{statement}
 use Rattle.update.proofs.reseat.Tie as tie
 
 reslot-requires : tie.Need-reslot-requires
-reslot-requires c κs = search needs
+reslot-requires c κs =
+    let t = c .before .before in
+    (sits-spot _ _ _ _ (t .pre .0), t .pre .2)
 
 slot-of-requires : tie.Need-slot-of-requires
 slot-of-requires c κs = search needs
@@ -16,7 +18,7 @@ retotal-requires c κs =
     let slot = c .before in
     let r = slot .before .before .before in
     let t = r .before .before .before in
-    (reseat-climbing (t .pre .0) (r .reslot .ensures), reseat-size (t .pre .0) (r .reslot .ensures), slot .slot-of .ensures .1)
+    (seated-climbs (t .pre .0) (r .reslot .ensures), rw (r .reslot .ensures .size) (t .pre .1), slot .slot-of .ensures .1)
 
 same-length : tie.Need-same-length
 same-length c = search needs
@@ -27,7 +29,8 @@ returns c =
     let slot = total .before .before in
     let r = slot .before .before .before in
     let t = r .before .before .before in
-    reseats (t .pre .0) (r .reslot .ensures) (total .retotal .last .0) (rw (slot .slot-of .ensures .0) at (total .retotal .ensures))
+    reseated-any (t .pre .0) (r .reslot .ensures) (total .retotal .last .0)
+    (rw (slot .slot-of .ensures .0) at (slot .slot-of .ensures .1)) (rw (slot .slot-of .ensures .0) at (total .retotal .ensures))
 
 pub reseat-spec : {M : Type 1} → statement M
 reseat-spec = tie.close (tie.spec reslot-requires slot-of-requires retotal-requires same-length returns)

@@ -3,7 +3,7 @@ use mathlib.Core.Path.{_≡_, refl}
 use Prim.Native.Nat.{_+_, _-_}
 use native.Mathlib.Omega.{arith}
 use Rattle.sizes.specs.Sizes.{arrayWords, arrayAt}
-use Rattle.update.specs.Seat.{seat-spot, seat-settled, seated}
+use Rattle.update.specs.Local.{spot-in, seated-any}
 use borrow.Author.Needs.{needs}
 use Rattle.update.proofs.reslot.Statement.{statement}
 use Rattle.update.proofs.reslot.Tie as tie
@@ -36,8 +36,7 @@ reslot-requires c κs =
     let p = t .args .p in
     let e : arrayAt (a + 1) - arrayAt a ≡ arrayWords = omega arith in
     rw (c .before .array-at2 .ensures, c .before .before .array-at .ensures, e) (
-      seat-spot (t .args .words .now) a (p .level) (p .depth) (p .value) (t .pre .0),
-      seat-settled (t .args .words .now) a (p .level) (p .depth) (p .value) (t .pre .0),
+      spot-in (t .args .words .now) a (p .depth) (p .value) (t .pre .0),
       t .pre .1,
     )
 
@@ -54,7 +53,7 @@ returns c =
     let e : arrayAt (a + 1) - arrayAt a ≡ arrayWords = omega arith in
     let r = c .before .before .reslot in
     let g = rw (to, from, e) at (r .ensures) in
-    rw (to, from, e) (seated (t .args .words .now) _ (r .last .0) a (p .level) (p .depth) (p .value) (t .args .feed)
+    rw (to, from, e) (seated-any (t .args .words .now) _ (r .last .0) a (p .depth) (p .value) (t .args .feed)
     (t .args .word) (r .result) (t .pre .0) g refl)
 
 pub reslot-spec : {M : Type 1} → statement M

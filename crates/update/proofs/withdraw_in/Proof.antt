@@ -1,47 +1,76 @@
--- `update::withdraw_in` meets its contract. `find` tells whether the candidate is held; its word cleared, its array is the one that may be
--- empty, and pruning makes a table again. Assumes nothing.
+-- `update::withdraw_in` meets its contract. `find` tells whether the path test passes and the candidate is held; its word cleared, its
+-- array may be empty, and pruning releases it then. Assumes nothing.
+use mathlib.Core.Path.{refl}
+use native.Mathlib.Omega.{arith}
 use borrow.Author.Needs.{needs}
-use Rattle.update.specs.Withdraw.{withdraw-none, withdraw-sits, withdraw-loose, withdraw-done}
+use Rattle.update.specs.Local.{local-two, local-none, local-sits, local-loose, local-withdrawn}
 use Rattle.update.proofs.withdraw_in.Statement.{statement}
 use Rattle.update.proofs.withdraw_in.Tie as tie
 
 find-requires : tie.Need-find-requires
-find-requires c κs = search needs
+find-requires c κs =
+    let t = c .before .before .before in
+    (t .pre .0 .0, t .pre .0 .1, t .pre .0 .2, t .pre .1 .0 .fits, t .pre .1 .1, t .pre .0 .3)
 
 same-length : tie.Need-same-length
 same-length c = search needs
 
 returns : tie.Need-returns
-returns c = withdraw-none (c .before .before .find .ensures) (c .if1 .taken)
-
-reseat-requires : tie.Need-reseat-requires
-reseat-requires c κs =
-    let some = c .before .before in
-    let f = some .before .before in
-    (withdraw-sits (f .find .ensures) (some .if1 .left), f .before .before .before .before .pre .1 .1)
-
-prune-requires : tie.Need-prune-requires
-prune-requires c κs =
-    let r = c .before .before .before in
-    let some = r .before .before .before in
-    let f = some .before .before .find in
-    withdraw-loose (f .ensures) (some .if1 .left) (r .reseat .last .0) (r .reseat .result) (r .reseat .ensures)
-
-hop-in-requires : tie.Need-hop-in-requires
-hop-in-requires c κs = search needs
+returns c =
+    let f = c .before .before in
+    let t = f .before .before .before .before in
+    let s = f .find .ensures in
+    (local-two (t .pre .1 .0) (t .pre .1 .1) s _ refl refl (c .if1 .taken))
 
 same-length-2 : tie.Need-same-length-2
 same-length-2 c = search needs
 
 returns-2 : tie.Need-returns-2
 returns-2 c =
+    let there = c .before .before in
+    let f = there .before .before in
+    let t = f .before .before .before .before in
+    let s = f .find .ensures in
+    (local-none (t .pre .1 .0) (t .pre .1 .1) s (there .if1 .left) (c .if2 .taken))
+
+reseat-requires : tie.Need-reseat-requires
+reseat-requires c κs =
+    let there = c .before .before .before in
+    let f = there .before .before in
+    let t = f .before .before .before .before in
+    (local-sits (t .pre .1 .0) (t .pre .1 .1) (f .find .ensures) (there .if1 .left), t .pre .0 .1, t .pre .1 .1)
+
+prune-requires : tie.Need-prune-requires
+prune-requires c κs =
+    let r = c .before .before .before in
+    let some = r .before .before in
+    let there = some .before .before in
+    let f = there .before .before in
+    let t = f .before .before .before .before in
+    let s = f .find .ensures in
+    let way = s .walked .some (there .if1 .left) in (
+      local-loose (t .pre .1 .0) (t .pre .1 .1) s (there .if1 .left) (some .if2 .left) (r .reseat .last .0) (r .reseat .result)
+          (r .reseat .ensures),
+      rw (r .reseat .ensures .same _ (way .rises) .size) (t .pre .0 .1),
+    )
+
+hop-in-requires : tie.Need-hop-in-requires
+hop-in-requires c κs = search needs
+
+same-length-3 : tie.Need-same-length-3
+same-length-3 c = search needs
+
+returns-3 : tie.Need-returns-3
+returns-3 c =
     let p = c .before .before .before in
     let r = p .before .before .before .before in
-    let some = r .before .before .before in
-    let f = some .before .before .find in
-    let h = c .hop-in in
-    withdraw-done (f .ensures) (some .if1 .left) (r .reseat .last .0) (r .reseat .result) (r .reseat .ensures) (p .prune .last .0) (h .result)
-    (p .prune .ensures) (h .ensures .0)
+    let some = r .before .before in
+    let there = some .before .before in
+    let f = there .before .before in
+    let t = f .before .before .before .before in
+    let s = f .find .ensures in
+    (local-withdrawn (t .pre .1 .0) (t .pre .1 .1) s (there .if1 .left) (some .if2 .left) (r .reseat .last .0) (r .reseat .result)
+    (r .reseat .ensures) (p .prune .last .0) (c .hop-in .result) (p .prune .ensures) (c .hop-in .ensures .0))
 
 pub withdraw-in-spec : {M : Type 1} → statement M
 withdraw-in-spec =
@@ -50,8 +79,10 @@ withdraw-in-spec =
     find-requires
     same-length
     returns
+    same-length-2
+    returns-2
     reseat-requires
     prune-requires
     hop-in-requires
-    same-length-2
-    returns-2)
+    same-length-3
+    returns-3)

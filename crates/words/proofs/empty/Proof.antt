@@ -9,15 +9,16 @@ page-requires : tie.Need-page-requires
 page-requires c κs = search needs
 
 empty-requires : tie.Need-empty-requires
-empty-requires c κs =
-    let s = c .before .before in
-    let g = c .page .ensures in
-    (g .1, rw (g .0) (page-slots (s .args .words .now) (s .args .a) (s .pre .2)))
+empty-requires c κs = c .page .ensures .1
 
 returns : tie.Need-returns
 returns c =
-    let s = c .before .before .before .args in
-    c .empty .ensures ∙ rw (c .before .page .ensures .0) (lent-empty (s .words .now) (s .a))
+    let s = c .before .before .before .args in (
+      rw (c .before .page .ensures .0) at (c .empty .ensures .0),
+      λ right.
+          c .empty .ensures .1 (rw (c .before .page .ensures .0) (page-slots (s .words .now) (s .a) right)) ∙ rw (c .before .page .ensures .0)
+          (lent-empty (s .words .now) (s .a)),
+    )
 
 pub empty-spec : {M : Type 1} → statement M
 empty-spec = tie.close (tie.spec page-requires empty-requires returns)

@@ -4,8 +4,8 @@ use Prim.Native.Nat.{_+_, _-_}
 use native.Mathlib.Omega.{arith}
 use Rattle.sizes.specs.Sizes.{arrayWords, arrayAt}
 use Rattle.array.specs.Frame.{page-length}
-use Rattle.words.specs.Lent.{lent-best, lent-link, page-settled}
-use Rattle.words.specs.Rehung.{rehangs}
+use Rattle.words.specs.Lent.{lent-best, lent-block}
+use Rattle.words.specs.Rehung.{gained-any}
 use borrow.Author.Needs.{needs}
 use Rattle.words.proofs.gain.Statement.{statement}
 use Rattle.words.proofs.gain.Tie as tie
@@ -67,8 +67,7 @@ set-link-requires c κs =
       g .ends .cells,
       omega (arith, g .ends .some),
       omega (arith, g .ends .within, g .ends .size),
-      page-settled ws p (g .ends .settled),
-      lent-link ws p (s .args .i) (g .ends .cells) ∙ g .off,
+      rw (lent-block ws p (s .args .i) (g .ends .cells)) (g .block),
       rw (lent-best ws p (s .args .i) (g .ends .cells)) (g .ends .small),
     )
 
@@ -78,11 +77,11 @@ add-tag-of c = search needs
 tag-of-requires : tie.Need-tag-of-requires
 tag-of-requires c κs = search needs
 
-add-retag : tie.Need-add-retag
-add-retag c = search needs
+wrapping-add-u32-requires : tie.Need-wrapping-add-u32-requires
+wrapping-add-u32-requires c κs = search needs
 
-add-retag-2 : tie.Need-add-retag-2
-add-retag-2 c = search needs
+wrapping-add-u32-requires-2 : tie.Need-wrapping-add-u32-requires-2
+wrapping-add-u32-requires-2 c κs = search needs
 
 retag-requires : tie.Need-retag-requires
 retag-requires c κs = search needs
@@ -93,13 +92,15 @@ same-length c = search needs
 returns : tie.Need-returns
 returns c =
     let tag = c .before .before .before in
-    let link = tag .before .before .before .before .set-link in
-    let level = tag .before .before .before .before .before .before .before .before .level-in in
-    let s = tag .before .before .before .before .before .before .before .before .before .before .before in
+    let group = tag .before .before in
+    let link = group .before .before .before .before in
+    let level = link .before .before .before .before in
+    let s = level .before .before .before in
     let p = s .args .p in
     let e : arrayAt p + arrayWords - arrayAt p ≡ arrayWords = omega arith in
-    rw (c .before .before .retag .ensures, tag .tag-of .ensures, level .ensures .0, e)
-    (rehangs (s .args .words .now) (link .last .0) p (s .args .i) (s .args .a) _ (s .args .a) _ _ (s .pre .ends) (rw e at (link .ensures)))
+    rw (c .before .before .retag .ensures, tag .tag-of .ensures, level .level-in .ensures .0, e)
+    (gained-any (s .args .words .now) (link .set-link .last .0) p (s .args .i) (s .args .a) _ _ (s .pre)
+    (rw e at (link .set-link .ensures)) (group .before .wrapping-add-u32 .ensures) (group .wrapping-add-u322 .ensures))
 
 pub gain-spec : {M : Type 1} → statement M
 gain-spec =
@@ -121,10 +122,10 @@ gain-spec =
     part-set-link-end
     cast-set-link
     set-link-requires
+    wrapping-add-u32-requires
+    wrapping-add-u32-requires-2
     add-tag-of
     tag-of-requires
-    add-retag
-    add-retag-2
     retag-requires
     same-length
     returns)

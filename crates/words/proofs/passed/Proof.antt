@@ -1,18 +1,19 @@
 -- `words::passed` leaves out groups that are full, a stride at a time: what is left to search stays the same. Assumes nothing.
-use mathlib.Core.Path.{_≡_, sym, _∙_}
+use mathlib.Core.Path.{_≡_, refl, sym, _∙_}
 use Prim.Native.Nat.{_+_, _-_, _*_, _≤_}
 use native.Mathlib.Omega.{arith}
+use borrow.Author.Needs.{needs}
+use borrow.Author.Tests.{not-false}
+use Rattle.logic.specs.Reflects.{all-to}
 use Rattle.sizes.specs.Sizes.{perGroup, groupStride}
-use Rattle.words.specs.Words.{arraysOf, arrayCount}
-use Rattle.tree.specs.Free.{firstFree}
-use Rattle.words.proofs.Laws.{from-full}
+use Rattle.words.specs.Words.{arrayCount}
+use Rattle.words.specs.Offers.{groups-shut}
+use Rattle.words.specs.Frees.{Passed}
 use Rattle.words.proofs.passed.Statement.{statement}
 use Rattle.words.proofs.passed.Tie as tie
 
 abbrev Inv-loop : tie.InvT-loop
-Inv-loop words n g₀ g =
-    let all = arrayCount words in
-    (perGroup * g ≤ all) × (firstFree (arraysOf words) (perGroup * g + 1) (all - perGroup * g) ≡ firstFree (arraysOf words) 1 all)
+Inv-loop words n g₀ g = Passed words g
 
 abbrev μ-loop : tie.MeasureT-loop
 μ-loop words n g₀ g = n - perGroup * g
@@ -21,10 +22,7 @@ arrays-in-requires : tie.Need-arrays-in-requires Inv-loop μ-loop
 arrays-in-requires c κs = omega arith
 
 loop-holds : tie.Need-loop-holds Inv-loop μ-loop
-loop-holds c =
-    let n = arrayCount (c .before .before .args .words .now) in
-    let e : n - 0 ≡ n = omega arith in
-    (omega arith, rw e)
+loop-holds c = record { fits = omega arith; none = refl }
 
 mul-loop : tie.Need-mul-loop Inv-loop μ-loop
 mul-loop c = omega arith
@@ -32,11 +30,10 @@ mul-loop c = omega arith
 add-loop : tie.Need-add-loop Inv-loop μ-loop
 add-loop c = omega arith
 
-used-from-requires : tie.Need-used-from-requires Inv-loop μ-loop
-used-from-requires c κs = (omega arith, omega arith, c .before .before .before .before .pre .2)
-
-cast-if1 : tie.Need-cast-if1 Inv-loop μ-loop
-cast-if1 c = omega arith
+full-from-requires : tie.Need-full-from-requires Inv-loop μ-loop
+full-from-requires c κs =
+    let f = c .before .loop .inv .fits in
+    (omega (arith, f), omega arith)
 
 returns : tie.Need-returns Inv-loop μ-loop
 returns c = c .before .before .before .loop .inv
@@ -51,8 +48,13 @@ loop-again : tie.Need-loop-again Inv-loop μ-loop
 loop-again c =
     let l = c .before .before .before .loop in
     let a = c .before .before .before .before .before .before .args in
-    let full = sym (c .before .used-from .ensures) ∙ c .if1 .left in
-    (omega arith, from-full (arraysOf (a .words .now)) (l .g) groupStride (arrayCount (a .words .now)) (omega arith) full ∙ l .inv .1)
+    let h : perGroup * (l .g + groupStride) ≤ arrayCount (a .words .now) = omega arith in
+    record {
+      fits = h;
+      none = groups-shut (a .words .now) (l .g) groupStride
+          (all-to _ groupStride (sym (c .before .full-from .ensures) ∙ not-false _ (c .if1 .left))) h
+          ∙ l .inv .none;
+    }
 
 returns-2 : tie.Need-returns-2 Inv-loop μ-loop
 returns-2 c = c .before .loop .inv
@@ -67,8 +69,7 @@ passed-spec =
     loop-holds
     mul-loop
     add-loop
-    used-from-requires
-    cast-if1
+    full-from-requires
     returns
     add-g
     loop-less

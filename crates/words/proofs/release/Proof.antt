@@ -1,13 +1,14 @@
 -- `words::release` lends the page of the parent for the link, and stores the tag and the two counts. Assumes nothing.
-use mathlib.Core.Path.{_≡_, sym, _∙_}
+use mathlib.Core.Path.{_≡_, refl}
 use Prim.Native.Nat.{_+_, _-_}
 use native.Mathlib.Omega.{arith}
 use lib.ListN.{getD}
 use Rattle.sizes.specs.Sizes.{arrayWords, arrayAt}
 use Rattle.array.specs.Tag.{parentIn, cellIn}
 use Rattle.array.specs.Frame.{page-length}
-use Rattle.words.specs.Lent.{lent-best, lent-link, page-settled}
-use Rattle.words.specs.Rehung.{rehangs}
+use Rattle.words.specs.Lent.{lent-best}
+use Rattle.words.specs.Gained.{groupAt}
+use Rattle.words.specs.Rehung.{released-any}
 use borrow.Author.Needs.{needs}
 use Rattle.words.proofs.release.Statement.{statement}
 use Rattle.words.proofs.release.Tie as tie
@@ -63,18 +64,16 @@ cut-link-requires c κs =
     let g = s .pre in
     let e : arrayAt (parentIn x) + arrayWords - arrayAt (parentIn x) ≡ arrayWords = omega arith in
     rw (cell .cell-in .ensures .0, cell .before .parent-in .ensures, cell .before .before .tag .ensures, e) (
-      page-length ws (parentIn x) (g .ends .inside),
-      g .ends .cells,
-      page-settled ws (parentIn x) (g .ends .settled),
-      λ z. g .on (sym (lent-link ws (parentIn x) (cellIn x) (g .ends .cells)) ∙ z),
-      rw (lent-best ws (parentIn x) (cellIn x) (g .ends .cells)) (g .ends .small),
+      page-length ws (parentIn x) (g .inside),
+      g .cells,
+      rw (lent-best ws (parentIn x) (cellIn x) (g .cells)) (g .small),
     )
 
-sub-retag : tie.Need-sub-retag
-sub-retag c = search needs
+wrapping-add-u32-requires : tie.Need-wrapping-add-u32-requires
+wrapping-add-u32-requires c κs = search needs
 
-sub-retag-2 : tie.Need-sub-retag-2
-sub-retag-2 c = search needs
+wrapping-add-u32-requires-2 : tie.Need-wrapping-add-u32-requires-2
+wrapping-add-u32-requires-2 c κs = search needs
 
 retag-requires : tie.Need-retag-requires
 retag-requires c κs = search needs
@@ -84,15 +83,19 @@ same-length c = search needs
 
 returns : tie.Need-returns
 returns c =
-    let link = c .before .before .before .before .before .before in
+    let group = c .before .before .before .before in
+    let link = group .before .before .before .before in
     let cell = link .before .before .before .before in
     let s = cell .before .before .before .before .before in
+    let known = cell .before .before .before .before .slice-known .given in
     let ws = s .args .words .now in
     let x = getD ws (arrayAt (s .args .a)) 0 in
     let e : arrayAt (parentIn x) + arrayWords - arrayAt (parentIn x) ≡ arrayWords = omega arith in
     rw (c .before .before .retag .ensures, cell .before .parent-in .ensures, cell .before .before .tag .ensures, e)
-    (rehangs ws (link .cut-link .last .0) (parentIn x) (cellIn x) (s .args .a) 0 0 _ _ (s .pre .ends)
-    (rw (cell .cell-in .ensures .0, cell .before .parent-in .ensures, cell .before .before .tag .ensures, e) at (link .cut-link .ensures)))
+    (released-any ws (link .cut-link .last .0) (s .args .a) (parentIn x) (cellIn x) _ _ refl refl
+    (omega (arith, known 0)) (omega (arith, known (groupAt (s .args .a)))) (s .pre)
+    (rw (cell .cell-in .ensures .0, cell .before .parent-in .ensures, cell .before .before .tag .ensures, e) at (link .cut-link .ensures))
+    (group .before .wrapping-add-u32 .ensures) (group .wrapping-add-u322 .ensures))
 
 pub release-spec : {M : Type 1} → statement M
 release-spec =
@@ -113,8 +116,8 @@ release-spec =
     part-cut-link-start
     part-cut-link-end
     cut-link-requires
-    sub-retag
-    sub-retag-2
+    wrapping-add-u32-requires
+    wrapping-add-u32-requires-2
     retag-requires
     same-length
     returns)

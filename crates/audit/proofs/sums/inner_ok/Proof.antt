@@ -1,6 +1,8 @@
 -- `audit::sums::inner_ok` makes the test of a slot above two others from the four numbers that it reads. Assumes nothing.
+use mathlib.Core.Path.{ap, _∙_}
 use Prim.Native.Nat.{_+_}
 use native.Mathlib.Omega.{arith}
+use Rattle.totals.specs.Sums.{some}
 use Rattle.words.specs.Words.{arraysOf, totalsOf}
 use Rattle.audit.proofs.Totals.{inner-is}
 use borrow.Author.Needs.{needs}
@@ -11,10 +13,7 @@ add-held : tie.Need-add-held
 add-held c = search needs
 
 held-requires : tie.Need-held-requires
-held-requires c κs =
-    let s = c .before in
-    let p = s .pre in
-    (p .0, p .1, omega arith, p .2 (s .args .s + 1) (omega arith) (omega arith))
+held-requires c κs = search needs
 
 add-total : tie.Need-add-total
 add-total c = search needs
@@ -56,7 +55,9 @@ returns c =
     let own = low .before in
     let a = own .before .before .args in
     inner-is (arraysOf (a .words .now)) (totalsOf (a .words .now)) (a .a) (a .s) (c .total3 .result) (own .held .result)
-    (low .total .result) (high .total2 .result) (own .held .ensures .0) (low .total .ensures .0) (high .total2 .ensures .0)
+    (low .total .result) (high .total2 .result)
+    (own .held .ensures .0 ∙ ap some (own .before .before .pre .2 (a .s + 1) (omega arith) (omega arith)))
+    (low .total .ensures .0) (high .total2 .ensures .0)
     (c .total3 .ensures .0)
 
 pub inner-ok-spec : {M : Type 1} → statement M

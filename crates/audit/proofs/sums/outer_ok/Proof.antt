@@ -1,7 +1,9 @@
 -- `audit::sums::outer_ok` makes the test of the slot above a cell from the numbers that it reads. Assumes nothing.
+use mathlib.Core.Path.{ap, _∙_}
 use native.Mathlib.Omega.{arith}
 use Rattle.sizes.specs.Sizes.{cellSlots}
 use Prim.Native.Nat.{_+_}
+use Rattle.totals.specs.Sums.{some}
 use Rattle.words.specs.Words.{arraysOf, totalsOf}
 use Rattle.audit.proofs.Totals.{outer-is}
 use borrow.Author.Needs.{needs}
@@ -12,10 +14,7 @@ add-held : tie.Need-add-held
 add-held c = search needs
 
 held-requires : tie.Need-held-requires
-held-requires c κs =
-    let s = c .before in
-    let p = s .pre in
-    (p .0, p .1, omega arith, p .2 (cellSlots + s .args .i) (omega arith) (omega arith))
+held-requires c κs = search needs
 
 below-requires : tie.Need-below-requires
 below-requires c κs = search needs
@@ -39,7 +38,9 @@ returns c =
     let own = link .before in
     let a = own .before .before .args in
     outer-is (arraysOf (a .words .now)) (totalsOf (a .words .now)) (a .a) (a .i) (c .total .result) (own .held .result)
-    (below .total-below .result) (link .below .result) (own .held .ensures .0) (link .below .ensures .0)
+    (below .total-below .result) (link .below .result)
+    (own .held .ensures .0 ∙ ap some (own .before .before .pre .2 (cellSlots + a .i) (omega arith) (omega arith)))
+    (link .below .ensures .0)
     (below .total-below .ensures .0) (c .total .ensures .0)
 
 pub outer-ok-spec : {M : Type 1} → statement M

@@ -3,6 +3,7 @@ use mathlib.Core.Path.{sym, _∙_}
 use Prim.Native.Nat.{_*_}
 use native.Mathlib.Omega.{arith}
 use Rattle.damping.specs.Refuse.{passed-all}
+use Rattle.damping.specs.Behind.{ticked-table}
 use Rattle.damping.specs.Held.{tick-refused, ticks}
 use borrow.Author.Needs.{needs}
 use Rattle.damping.proofs.tick.tick.Statement.{statement}
@@ -22,14 +23,14 @@ returns c =
     let a = c .before .before .before .before .before .before .args in
     tick-refused (a .front .now) (a .words .now) (c .before .refusal .result) (c .before .refusal .ensures) (c .if1 .taken)
 
-tick-on-requires : tie.Need-tick-on-requires
-tick-on-requires c κs =
+tick-with-requires : tie.Need-tick-with-requires
+tick-with-requires c κs =
     let e = c .before .before in
     let s = e .before .before .before .before .before in
     let a = s .before .args in
     let p = passed-all (a .front .now) (a .words .now) 0 (λ i. omega (arith, s .slice-known .given (4 * i)))
     (sym (e .before .refusal .ensures) ∙ e .if1 .left) in
-    (p .0, p .1)
+    (p .0, λ _. p .1)
 
 held-in-requires : tie.Need-held-in-requires
 held-in-requires c κs = search needs
@@ -48,8 +49,8 @@ returns-2 c =
     let a = s .before .args in
     let p = passed-all (a .front .now) (a .words .now) 0 (λ i. omega (arith, s .slice-known .given (4 * i)))
     (sym (e .before .refusal .ensures) ∙ e .if1 .left) in
-    ticks (a .front .now) (a .words .now) (t .tick-on .last .0) (t .tick-on .last .1 .0) (c .held-in .result) (p .0) (p .1)
-    (t .tick-on .ensures) (c .held-in .ensures)
+    ticks (a .front .now) (a .words .now) (t .tick-with .last .0) (t .tick-with .last .1 .0) (c .held-in .result) (p .0) (p .1)
+    (ticked-table _ _ _ _ (p .1) (t .tick-with .ensures)) (c .held-in .ensures)
 
 pub tick-spec : {M : Type 1} → statement M
 tick-spec =
@@ -59,7 +60,7 @@ tick-spec =
     same-length
     same-length-2
     returns
-    tick-on-requires
+    tick-with-requires
     held-in-requires
     same-length-3
     same-length-4

@@ -1,7 +1,7 @@
 -- Not due, refused by the table, or installed. Assumes nothing.
 use Rattle.damping.specs.Tick.{row-high, row-empty, row-out, row-in}
 use Rattle.numbers.specs.Four.{four-number}
-use mathlib.Core.Path.{refl, sym, _∙_}
+use mathlib.Core.Path.{sym, _∙_}
 use Prim.Native.Nat.{_*_, _/_, _%_}
 use Rattle.rows.specs.Row.{rowAt}
 use native.Mathlib.Omega.{arith}
@@ -56,13 +56,13 @@ slice-read-k c = search needs
 
 returns : tie.Need-returns
 returns c =
-    let c7 = c .before .before .before .before .before .before .before in
-    row-high (c7 .args .front .now) (c7 .args .words .now) (c7 .args .i) (c .if1 .taken)
+    let t = c .before .before .before .before .before .before .before in
+    row-high (t .args .front .now) (t .args .words .now) (t .args .i) (t .pre .size) (c .if1 .taken)
 
 returns-2 : tie.Need-returns-2
 returns-2 c =
-    let c8 = c .before .before .before .before .before .before .before .before in
-    row-empty (c8 .args .front .now) (c8 .args .words .now) (c8 .args .i) (c .before .if1 .left) (c .if2 .taken)
+    let t = c .before .before .before .before .before .before .before .before in
+    row-empty (t .args .front .now) (t .args .words .now) (t .args .i) (t .pre .size) (c .before .if1 .left) (c .if2 .taken)
 
 four-of-requires : tie.Need-four-of-requires
 four-of-requires c κs = search needs
@@ -70,12 +70,13 @@ four-of-requires c κs = search needs
 cast-preference : tie.Need-cast-preference
 cast-preference c = search needs
 
-slice-aggregate-announce-on : tie.Need-slice-aggregate-announce-on
-slice-aggregate-announce-on c = search needs
+slice-aggregate-announce-with : tie.Need-slice-aggregate-announce-with
+slice-aggregate-announce-with c = search needs
 
-announce-on-requires : tie.Need-announce-on-requires
-announce-on-requires c κs =
-    rw (c .before .before .four-of .ensures) (c .before .before .before .before .before .before .before .before .before .before .before .pre .isTable)
+announce-with-requires : tie.Need-announce-with-requires
+announce-with-requires c κs =
+    let b = c .before .before in
+    (search needs, λ k. rw (b .four-of .ensures) (b .before .before .before .before .before .before .before .before .before .pre .table k))
 
 is-done-requires : tie.Need-is-done-requires
 is-done-requires c κs = search needs
@@ -91,43 +92,32 @@ same-length-2 c = search needs
 
 returns-3 : tie.Need-returns-3
 returns-3 c =
-    let c2 = c .before .before in
-    let c4 = c2 .before .before in
-    let c5 = c4 .before in
-    let c8 = c5 .before .before .before in
-    let c11 = c8 .before .before .before in
-    let c12 = c11 .before in
-    let c13 = c12 .before in
-    let c19 = c13 .before .before .before .before .before .before in
-    let c20 = c19 .before in
-    let t = c20 in
-    let on = c8 .announce-on in
+    let w = c .before .before .before .before .before .before .before .before in
+    let b = w .before .before .before in
+    let k = b .before .before .before .before .before .before .before .before in
+    let t = k .before in
+    let on = w .announce-with in
     let i = t .args .i in
-    let k = c19 .slice-known in
-    row-in (t .args .front .now) (t .args .words .now) i (c13 .if1 .left) (c12 .if2 .left) (t .pre .isTable) (on .last .0)
-    (rowAt (t .args .front .now) i .a) (rowAt (t .args .front .now) i .k / 65536 % 256) (on .result) refl (omega (arith, t .pre .small))
-    (rw (c11 .four-of .ensures, four-number (rowAt (t .args .front .now) i .a) (omega (arith, k .given (4 * i)))) at (on .ensures))
-    (c2 .store .last .0)
-    (sym (c5 .is-done .ensures) ∙ c4 .if3 .taken) (c2 .store .ensures)
+    row-in (t .args .front .now) (t .args .words .now) i (t .pre .size) (b .before .before .if1 .left) (b .before .if2 .left) (on .last .0)
+    (rowAt (t .args .front .now) i .k / 65536 % 256) (on .result) (omega (arith, t .pre .small))
+    (rw (b .four-of .ensures, four-number (rowAt (t .args .front .now) i .a) (omega (arith, k .slice-known .given (4 * i)))) at (on .ensures))
+    (c .before .before .store .last .0) (t .pre .low)
+    (sym (c .before .before .before .before .before .is-done .ensures) ∙ c .before .before .before .before .if3 .taken) (c .before .before .store .ensures)
 
 same-length-3 : tie.Need-same-length-3
 same-length-3 c = search needs
 
 returns-4 : tie.Need-returns-4
 returns-4 c =
-    let c4 = c .before .before .before .before in
-    let c7 = c4 .before .before .before in
-    let c8 = c7 .before in
-    let c9 = c8 .before in
-    let c15 = c9 .before .before .before .before .before .before in
-    let c16 = c15 .before in
-    let t = c16 in
-    let on = c4 .announce-on in
+    let w = c .before .before .before .before in
+    let b = w .before .before .before in
+    let k = b .before .before .before .before .before .before .before .before in
+    let t = k .before in
+    let on = w .announce-with in
     let i = t .args .i in
-    let k = c15 .slice-known in
-    row-out (t .args .front .now) (t .args .words .now) i (c9 .if1 .left) (c8 .if2 .left) (t .pre .isTable) (on .last .0)
-    (rowAt (t .args .front .now) i .a) (rowAt (t .args .front .now) i .k / 65536 % 256) (on .result) refl (omega (arith, t .pre .small))
-    (rw (c7 .four-of .ensures, four-number (rowAt (t .args .front .now) i .a) (omega (arith, k .given (4 * i)))) at (on .ensures))
+    row-out (t .args .front .now) (t .args .words .now) i (t .pre .size) (b .before .before .if1 .left) (b .before .if2 .left) (on .last .0)
+    (rowAt (t .args .front .now) i .k / 65536 % 256) (on .result) (omega (arith, t .pre .small))
+    (rw (b .four-of .ensures, four-number (rowAt (t .args .front .now) i .a) (omega (arith, k .slice-known .given (4 * i)))) at (on .ensures))
     (sym (c .before .is-done .ensures) ∙ c .if3 .left)
 
 pub try-row-spec : {M : Type 1} → statement M
@@ -153,8 +143,8 @@ try-row-spec =
     returns-2
     four-of-requires
     cast-preference
-    slice-aggregate-announce-on
-    announce-on-requires
+    slice-aggregate-announce-with
+    announce-with-requires
     is-done-requires
     store-requires
     same-length

@@ -9,13 +9,13 @@ use Rattle.damping_run.proofs.Progress.answer_next.Statement.{statement
 use Rattle.damping_run.proofs.Progress.answer_next.Tie as tie
 
 shared-slice-read-kind : tie.Need-shared-slice-read-kind
-shared-slice-read-kind c = takes-answers _ _ _ _ _ (c .before .before .before .before .before .pre) .there
+shared-slice-read-kind c = takes-answers _ _ _ _ _ _ (c .before .before .before .before .before .pre) .there
 
 size-of-requires : tie.Need-size-of-requires
 size-of-requires c κs = search needs
 
 answer-requires : tie.Need-answer-requires
-answer-requires c κs = takes-answers _ _ _ _ _ (c .before .before .before .before .before .before .before .before .pre)
+answer-requires c κs = takes-answers _ _ _ _ _ _ (c .before .before .before .before .before .before .before .before .pre)
 
 put-requires : tie.Need-put-requires
 put-requires c κs = search needs
@@ -35,8 +35,8 @@ add-refused c =
     let s = a .before .before .before .before .before .before .before .before .before in
     omega (arith, c .before .refuses .ensures .1, s .pre .placed .refused, s .pre .placed .at)
 
-add-t22 : tie.Need-add-t22
-add-t22 c =
+add-t23 : tie.Need-add-t23
+add-t23 c =
     let a = c .before .before .before .before .before .before .before .before .before .before .before .before in
     let s = a .before .before .before .before .before .before .before .before .before in
     omega (arith, a .before .before .before .size-of .ensures .1, s .pre .placed .at)
@@ -57,7 +57,7 @@ returns c =
     let s = n .before .before .before .before .before .before in
     let e = size-told (s .args .feed .now) (length (s .args .reply .now)) (s .args .self .at) (s .args .self .out) _ (n .size-of .ensures .0)
     (s .pre .clear) in
-    took (s .args .self) _ _ _ _ (s .pre) _ _ _ (saidReply (a .answer .result)) _ _ _ _ e (a .answer .ensures)
+    took (s .args .self) _ _ _ _ (s .args .known) (s .pre) _ _ _ (saidReply (a .answer .result)) _ _ _ _ e (a .answer .ensures)
     (c .before .before .before .before .before .before .put .ensures) (c .before .before .before .accepts .ensures .0) (c .before .refuses .ensures .0)
 
 pub answer-next-spec : {M : Type 1} → statement M
@@ -72,7 +72,7 @@ answer-next-spec =
     add-accepted
     refuses-requires
     add-refused
-    add-t22
+    add-t23
     same-length
     same-length-2
     same-length-3

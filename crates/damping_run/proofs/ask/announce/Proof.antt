@@ -33,8 +33,8 @@ add-two-at c = search needs
 two-at-requires : tie.Need-two-at-requires
 two-at-requires c κs = search needs
 
-announce-on-requires : tie.Need-announce-on-requires
-announce-on-requires c κs = search needs
+announce-with-requires : tie.Need-announce-with-requires
+announce-with-requires c κs = search needs
 
 same-length : tie.Need-same-length
 same-length c = search needs
@@ -44,7 +44,7 @@ same-length-2 c = search needs
 
 returns : tie.Need-returns
 returns c =
-    let on = c .before .before .before .before .announce-on in
+    let on = c .before .before .before .before .announce-with in
     let s = c .before .before .before .before .before .before .before .before .before .before .before .before .before in
     asked-announce _ _ _ _ (on .result) (s .args .feed .now) (s .args .at) _ _ _ _ _ (omega (arith, s .pre .body))
     (c .before .before .before .before .before .before .before .before .before .four-at .ensures)
@@ -62,7 +62,7 @@ announce-spec =
     cast-length
     add-two-at
     two-at-requires
-    announce-on-requires
+    announce-with-requires
     same-length
     same-length-2
     returns)

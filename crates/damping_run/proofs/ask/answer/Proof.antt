@@ -7,8 +7,8 @@ use Rattle.damping_run.proofs.ask.answer.Tie as tie
 shared-slice-read-kind : tie.Need-shared-slice-read-kind
 shared-slice-read-kind c = search needs
 
-tick-on-requires : tie.Need-tick-on-requires
-tick-on-requires c κs = search needs
+tick-with-requires : tie.Need-tick-with-requires
+tick-with-requires c κs = search needs
 
 same-length : tie.Need-same-length
 same-length c = search needs
@@ -20,7 +20,7 @@ returns : tie.Need-returns
 returns c =
     let s = c .before .before .before .before .before .before .before .before .before .before .before .before in
     asked-tick _ _ _ _ (s .args .feed .now) (s .args .at) (c .before .before .before .before .before .before .before .if1 .taken)
-    (c .before .before .before .before .tick-on .ensures)
+    (c .before .before .before .before .tick-with .ensures)
 
 role-of-requires : tie.Need-role-of-requires
 role-of-requires c κs = search needs
@@ -28,7 +28,7 @@ role-of-requires c κs = search needs
 ask-requires : tie.Need-ask-requires
 ask-requires c κs =
     let s = c .before .before .before .before .before .before .before .before in
-    answers-asks _ _ (s .args .feed .now) (s .args .at) (s .pre) (c .before .before .before .if1 .left) _ (c .before .before .role-of .ensures)
+    answers-asks _ _ (s .args .feed .now) (s .args .at) (s .args .known) (s .pre) (c .before .before .before .if1 .left) _ (c .before .before .role-of .ensures)
 
 same-length-3 : tie.Need-same-length-3
 same-length-3 c = search needs
@@ -47,7 +47,7 @@ answer-spec =
     tie.close
     (tie.spec
     shared-slice-read-kind
-    tick-on-requires
+    tick-with-requires
     same-length
     same-length-2
     returns

@@ -20,7 +20,7 @@ enum-told c = search needs
 announce-requires : tie.Need-announce-requires
 announce-requires c κs =
     let t = c .before .before .enum-told .given .1 in
-    asks-whole _ _ _ _ _ (c .before .before .before .before .before .before .before .pre) announcing 4 (ap saidRole t) (omega arith)
+    asks-whole _ _ _ _ _ _ (c .before .before .before .before .before .before .before .pre) announcing 4 (ap saidRole t) (omega arith)
 
 enum-told-2 : tie.Need-enum-told-2
 enum-told-2 c = search needs
@@ -28,7 +28,7 @@ enum-told-2 c = search needs
 withdraw-requires : tie.Need-withdraw-requires
 withdraw-requires c κs =
     let t = c .before .before .enum-told2 .given .1 in
-    asks-whole _ _ _ _ _ (c .before .before .before .before .before .before .before .pre) withdrawing 2 (ap saidRole t) (omega arith)
+    asks-whole _ _ _ _ _ _ (c .before .before .before .before .before .before .before .pre) withdrawing 2 (ap saidRole t) (omega arith)
 
 enum-told-3 : tie.Need-enum-told-3
 enum-told-3 c = search needs
@@ -39,7 +39,7 @@ add-from c = search needs
 shared-slice-read-from : tie.Need-shared-slice-read-from
 shared-slice-read-from c =
     let t = c .before .enum-told3 .given .1 in
-    omega (arith, asks-body _ _ _ _ _ (c .before .before .before .before .before .before .pre) announcingFor (ap saidRole t))
+    omega (arith, asks-body _ _ _ _ _ _ (c .before .before .before .before .before .before .pre) announcingFor (ap saidRole t))
 
 add-preference : tie.Need-add-preference
 add-preference c = search needs
@@ -47,12 +47,12 @@ add-preference c = search needs
 shared-slice-read-preference : tie.Need-shared-slice-read-preference
 shared-slice-read-preference c =
     let t = c .before .before .enum-told3 .given .1 in
-    omega (arith, asks-body _ _ _ _ _ (c .before .before .before .before .before .before .before .pre) announcingFor (ap saidRole t))
+    omega (arith, asks-body _ _ _ _ _ _ (c .before .before .before .before .before .before .before .pre) announcingFor (ap saidRole t))
 
 announce-requires-2 : tie.Need-announce-requires-2
 announce-requires-2 c κs =
     let t = c .before .before .before .before .enum-told3 .given .1 in
-    asks-whole _ _ _ _ _ (c .before .before .before .before .before .before .before .before .before .pre) announcingFor 4 (ap saidRole t) (omega arith)
+    asks-whole _ _ _ _ _ _ (c .before .before .before .before .before .before .before .before .before .pre) announcingFor 4 (ap saidRole t) (omega arith)
 
 enum-told-4 : tie.Need-enum-told-4
 enum-told-4 c = search needs
@@ -63,12 +63,12 @@ add-from-2 c = search needs
 shared-slice-read-from-2 : tie.Need-shared-slice-read-from-2
 shared-slice-read-from-2 c =
     let t = c .before .enum-told4 .given .1 in
-    omega (arith, asks-body _ _ _ _ _ (c .before .before .before .before .before .before .pre) withdrawingFor (ap saidRole t))
+    omega (arith, asks-body _ _ _ _ _ _ (c .before .before .before .before .before .before .pre) withdrawingFor (ap saidRole t))
 
 withdraw-requires-2 : tie.Need-withdraw-requires-2
 withdraw-requires-2 c κs =
     let t = c .before .before .before .enum-told4 .given .1 in
-    asks-whole _ _ _ _ _ (c .before .before .before .before .before .before .before .before .pre) withdrawingFor 2 (ap saidRole t) (omega arith)
+    asks-whole _ _ _ _ _ _ (c .before .before .before .before .before .before .before .before .pre) withdrawingFor 2 (ap saidRole t) (omega arith)
 
 enum-told-5 : tie.Need-enum-told-5
 enum-told-5 c = search needs
@@ -79,7 +79,7 @@ add-four-at c = search needs
 four-at-requires : tie.Need-four-at-requires
 four-at-requires c κs =
     let t = c .before .enum-told5 .given .1 in
-    omega (arith, asks-body _ _ _ _ _ (c .before .before .before .before .before .before .pre) looking (ap saidRole t))
+    omega (arith, asks-body _ _ _ _ _ _ (c .before .before .before .before .before .before .pre) looking (ap saidRole t))
 
 lookup-requires : tie.Need-lookup-requires
 lookup-requires c κs = search needs
@@ -142,17 +142,17 @@ returns-5 c =
     let t = c .before .before .before .enum-told5 .given .1 in
     let s = c .before .before .before .before .before .before .before .before in
     rw t (asked-lookup _ (s .args .words .now) (c .lookup .result) (s .args .feed .now) (s .args .at) _
-    (omega (arith, asks-body _ _ _ _ _ (s .pre) looking (ap saidRole t))) (c .before .four-at .ensures) (c .lookup .ensures .0))
+    (omega (arith, asks-body _ _ _ _ _ _ (s .pre) looking (ap saidRole t))) (c .before .four-at .ensures) (c .lookup .ensures .0))
 
 returns-6 : tie.Need-returns-6
 returns-6 c =
     let s = c .before .before .before .before .before in
-    absurd (not-ending _ _ _ _ _ (s .pre) (ap saidRole (c .enum-told6 .given .1)))
+    absurd (not-ending _ _ _ _ _ _ (s .pre) (ap saidRole (c .enum-told6 .given .1)))
 
 returns-7 : tie.Need-returns-7
 returns-7 c =
     let s = c .before .before .before .before .before in
-    absurd (not-unknown _ _ _ _ _ (s .pre) (ap saidRole (c .enum-told7 .given .1)))
+    absurd (not-unknown _ _ _ _ _ _ (s .pre) (ap saidRole (c .enum-told7 .given .1)))
 
 pub ask-spec : {M : Type 1} → statement M
 ask-spec =

@@ -27,8 +27,8 @@ cast-length c =
     let a = c .before .before .before .before .before .args in
     omega (arith, c .shared-slice-known2 .given (a .at + 1 + 4))
 
-withdraw-on-requires : tie.Need-withdraw-on-requires
-withdraw-on-requires c κs = search needs
+withdraw-with-requires : tie.Need-withdraw-with-requires
+withdraw-with-requires c κs = search needs
 
 same-length : tie.Need-same-length
 same-length c = search needs
@@ -38,7 +38,7 @@ same-length-2 c = search needs
 
 returns : tie.Need-returns
 returns c =
-    let on = c .before .before .before .before .withdraw-on in
+    let on = c .before .before .before .before .withdraw-with in
     let s = c .before .before .before .before .before .before .before .before .before .before .before .before in
     asked-withdraw _ _ _ _ (on .result) (s .args .feed .now) (s .args .at) _ _ _ (omega (arith, s .pre .body))
     (c .before .before .before .before .before .before .before .before .four-at .ensures)
@@ -54,7 +54,7 @@ withdraw-spec =
     add-length-2
     shared-slice-read-length
     cast-length
-    withdraw-on-requires
+    withdraw-with-requires
     same-length
     same-length-2
     returns)

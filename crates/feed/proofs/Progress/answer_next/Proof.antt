@@ -7,7 +7,7 @@ use Rattle.encoded.specs.Turns.{size-pos}
 use Rattle.families.specs.Said.{saidFamily}
 use Rattle.replies.specs.Said.{saidReply}
 use Rattle.feed.proofs.Answers.{takes-asks}
-use Rattle.feed.proofs.Loop.{took}
+use Rattle.feed.proofs.Loop.{took-any}
 use Rattle.feed.proofs.Progress.answer_next.Statement.{statement}
 use Rattle.feed.proofs.Progress.answer_next.Tie as tie
 
@@ -15,7 +15,7 @@ shared-slice-read-role-of : tie.Need-shared-slice-read-role-of
 shared-slice-read-role-of c =
     let s = c .before .before .before .before in
     let F = saidFamily (s .args .family) in
-    omega (arith, s .pre .clear .body, size-pos F (roleAt F (s .args .feed .now) (s .args .self .at)))
+    omega (arith, s .pre .0 .clear .body, size-pos F (roleAt F (s .args .feed .now) (s .args .self .at)))
 
 role-of-requires : tie.Need-role-of-requires
 role-of-requires c κs = search needs
@@ -24,7 +24,9 @@ size-requires : tie.Need-size-requires
 size-requires c κs = search needs
 
 ask-requires : tie.Need-ask-requires
-ask-requires c κs = takes-asks _ _ _ _ _ (c .before .before .before .before .before .before .before .pre) _ (c .before .before .role-of .ensures)
+ask-requires c κs =
+    let s = c .before .before .before .before .before .before .before in
+    (takes-asks _ _ _ _ _ (s .pre .0) _ (c .before .before .role-of .ensures), s .pre .1)
 
 put-requires : tie.Need-put-requires
 put-requires c κs = search needs
@@ -41,8 +43,8 @@ refuses-requires c κs = search needs
 add-refused : tie.Need-add-refused
 add-refused c = search needs
 
-add-t20 : tie.Need-add-t20
-add-t20 c = search needs
+add-t21 : tie.Need-add-t21
+add-t21 c = search needs
 
 same-length : tie.Need-same-length
 same-length c = search needs
@@ -57,7 +59,7 @@ returns c =
     let e = n .before .role-of .ensures in
     let s = n .before .before .before .before .before .before in
     let F = saidFamily (s .args .family) in
-    took F _ _ _ _ (s .pre) _ _ (saidReply (a .ask .result)) _ _ _ _ (n .size .ensures .0 ∙ ap (size F) e)
+    took-any F _ _ _ _ (s .pre .0) _ _ (saidReply (a .ask .result)) _ _ _ _ (n .size .ensures .0 ∙ ap (size F) e)
     (rw e at (a .ask .ensures)) (c .before .before .before .before .before .before .put .ensures)
     (c .before .before .before .accepts .ensures .0) (c .before .refuses .ensures .0)
 
@@ -74,7 +76,7 @@ answer-next-spec =
     add-accepted
     refuses-requires
     add-refused
-    add-t20
+    add-t21
     same-length
     same-length-2
     returns)

@@ -17,7 +17,7 @@ slice-aggregate-flag-all : tie.Need-slice-aggregate-flag-all Inv-loop μ-loop
 slice-aggregate-flag-all c = omega arith
 
 flag-all-requires : tie.Need-flag-all-requires Inv-loop μ-loop
-flag-all-requires c κs = (c .before .before .before .before .pre .0, refl)
+flag-all-requires c κs = let p = c .before .before .before .before .pre in (p .0, refl, p .4)
 
 entries-requires : tie.Need-entries-requires Inv-loop μ-loop
 entries-requires c κs = c .before .before .before .before .before .before .pre .2

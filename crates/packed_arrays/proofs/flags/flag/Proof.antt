@@ -1,22 +1,23 @@
 -- `packed_arrays::flags::flag`: by its four cases. Assumes nothing.
-use mathlib.Core.Path.{sym, _∙_}
 use Rattle.packed_arrays.proofs.Laws.{flag-hop, flag-short, flag-link, flag-none}
 use borrow.Author.Needs.{needs}
 use Rattle.packed_arrays.proofs.flags.flag.Statement.{statement}
 use Rattle.packed_arrays.proofs.flags.flag.Tie as tie
 
-hop-of-requires : tie.Need-hop-of-requires
-hop-of-requires c κs = search needs
+routed-requires : tie.Need-routed-requires
+routed-requires c κs = c .before .pre
 
 returns : tie.Need-returns
 returns c =
     let s = c .before .before .before in
-    flag-hop (s .args .page .now) (s .args .s) (s .pre .1) (λ e. c .if1 .taken (c .before .hop-of .ensures .0 ∙ e))
+    let h = c .before .routed in
+    flag-hop (s .args .page .now) (s .args .s) (s .pre .1) (h .result) (h .ensures) (c .if1 .taken)
 
 returns-2 : tie.Need-returns-2
 returns-2 c =
     let s = c .before .before .before .before in
-    flag-short (s .args .page .now) (s .args .s) (s .pre .1) (sym (c .before .before .hop-of .ensures .0) ∙ c .before .if1 .left) (c .if2 .taken)
+    let h = c .before .before .routed in
+    flag-short (s .args .page .now) (s .args .s) (s .pre .1) (h .result) (h .ensures) (c .before .if1 .left) (c .if2 .taken)
 
 add-has-link : tie.Need-add-has-link
 add-has-link c = search needs
@@ -37,7 +38,7 @@ returns-3 c =
     let b5 = b4 .before in
     let b7 = b5 .before .before in
     let s = b7 in
-    flag-link (s .args .page .now) (s .args .s) (s .pre .1) (sym (b5 .hop-of .ensures .0) ∙ b4 .if1 .left) (b3 .if2 .left)
+    flag-link (s .args .page .now) (s .args .s) (s .pre .1) (b5 .routed .result) (b5 .routed .ensures) (b4 .if1 .left) (b3 .if2 .left)
     (c .before .has-link .result) (c .before .has-link .ensures) (c .if3 .taken)
 
 returns-4 : tie.Need-returns-4
@@ -47,14 +48,14 @@ returns-4 c =
     let b5 = b4 .before in
     let b7 = b5 .before .before in
     let s = b7 in
-    flag-none (s .args .page .now) (s .args .s) (s .pre .1) (sym (b5 .hop-of .ensures .0) ∙ b4 .if1 .left) (b3 .if2 .left)
+    flag-none (s .args .page .now) (s .args .s) (s .pre .1) (b5 .routed .result) (b5 .routed .ensures) (b4 .if1 .left) (b3 .if2 .left)
     (c .before .has-link .result) (c .before .has-link .ensures) (c .if3 .left)
 
 pub flag-spec : {M : Type 1} → statement M
 flag-spec =
     tie.close
     (tie.spec
-    hop-of-requires
+    routed-requires
     returns
     returns-2
     add-has-link

@@ -18,7 +18,7 @@ loop-holds c =
     (omega arith, omega arith, flagged-none (b2 .args .page .now) (b2 .args .held .now) (b2 .pre .1))
 
 flag-requires : tie.Need-flag-requires Inv-loop μ-loop
-flag-requires c κs = (c .before .before .before .before .pre .0, omega arith, omega arith)
+flag-requires c κs = let p = c .before .before .before .before .pre in (p .0, omega arith, omega arith, p .2)
 
 mul-held : tie.Need-mul-held Inv-loop μ-loop
 mul-held c = omega arith

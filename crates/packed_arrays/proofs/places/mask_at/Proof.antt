@@ -1,4 +1,5 @@
 -- `packed_arrays::places::mask_at` finds the mask of the flags of a page. Assumes nothing.
+use mathlib.Core.Path.{refl}
 use Rattle.packed_arrays.proofs.Laws.{mask-one, mask-later}
 use Rattle.words.specs.Words.{arraysOf}
 use borrow.Author.Needs.{needs}
@@ -15,7 +16,9 @@ slice-aggregate-flag-all : tie.Need-slice-aggregate-flag-all
 slice-aggregate-flag-all c = search needs
 
 flag-all-requires : tie.Need-flag-all-requires
-flag-all-requires c κs = search needs
+flag-all-requires c κs =
+    let p = c .before .page .ensures in
+    (p .1, refl, rw (p .0) (c .before .before .before .before .pre .2))
 
 slice-aggregate-mask : tie.Need-slice-aggregate-mask
 slice-aggregate-mask c = search needs

@@ -4,6 +4,7 @@ use mathlib.Core.Logic.{⊎-elim}
 use Prim.Native.Nat.{_+_, _-_, _≤_}
 use native.Mathlib.Omega.{arith}
 use Rattle.words.specs.Words.{arraysOf}
+use Rattle.packed_arrays.specs.Flags.{table-tells}
 use Rattle.packed_arrays.specs.Mapped.{Maps, maps-none, maps-free, maps-used}
 use Rattle.packed_arrays.proofs.Laws.{maps-all}
 use Rattle.packed_arrays.proofs.places.places.Statement.{statement}
@@ -33,7 +34,11 @@ mask-at-requires : tie.Need-mask-at-requires Inv-loop μ-loop
 mask-at-requires c κs =
     let b4 = c .before .before .before .before in
     let b7 = b4 .before .before .before in
-    let f = b7 .pre .0 in (omega arith, omega (arith, b4 .arrays-in .ensures, f .whole, f .low))
+    let f = b7 .pre .0 in (
+      omega arith,
+      omega (arith, b4 .arrays-in .ensures, f .whole, f .low),
+      table-tells (b7 .args .table .now) f (c .before .before .before .loop .a) (omega arith) (omega (arith, b4 .arrays-in .ensures)),
+    )
 
 cast-map : tie.Need-cast-map Inv-loop μ-loop
 cast-map c =

@@ -6,7 +6,7 @@ use native.Mathlib.Omega.{arith}
 use borrow.Author.Needs.{needs}
 use lib.ListN.{length-set}
 use Rattle.sizes.specs.Sizes.{cellsAt}
-use Rattle.settle.specs.Link.{link-cut}
+use Rattle.settle.specs.Any.{cut-any}
 use Rattle.settle.proofs.link.cut_link.Statement.{statement}
 use Rattle.settle.proofs.link.cut_link.Tie as tie
 
@@ -51,10 +51,9 @@ same-length c =
 returns : tie.Need-returns
 returns c =
     let a = c .before .before .before .before .before .before .before .before .before .before .args in
-    let p = c .before .before .before .before .before .before .before .before .before .before .pre in
     let b = c .before .before .before .before .before .before .before .best-in .ensures .0 in
     let w = c .before .before .before .before .before .before .plain .ensures in
-    link-cut (a .page .now) _ (a .i) _ _ _ (omega arith) (omega arith) (p .2) (p .3) b (omega (arith, b))
+    cut-any (a .page .now) _ (a .i) _ _ _ (omega arith) (omega arith) b (omega (arith, b))
     (rw w at (c .before .before .before .before .climb .ensures .0)) refl (rw w at (c .before .before .fill-below .ensures))
 
 pub cut-link-spec : {M : Type 1} → statement M

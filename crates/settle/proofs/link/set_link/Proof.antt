@@ -2,7 +2,7 @@
 -- nothing.
 use native.Mathlib.Omega.{arith}
 use borrow.Author.Needs.{needs}
-use Rattle.settle.specs.Link.{link-set}
+use Rattle.settle.specs.Any.{link-any}
 use Rattle.settle.proofs.link.set_link.Statement.{statement}
 use Rattle.settle.proofs.link.set_link.Tie as tie
 
@@ -27,8 +27,7 @@ cast-q c = search needs
 part-requires : tie.Need-part-requires
 part-requires c κs =
     let s = c .before .before .before .before .before in
-    let k = s .pre .4 (s .args .i) (omega arith) (s .pre .5) in
-    (omega arith, omega arith, omega arith, omega (arith, c .before .block-in .ensures .0, k .fits))
+    (omega arith, omega arith, omega arith, omega (arith, c .before .block-in .ensures .0, s .pre .4))
 
 linked-requires : tie.Need-linked-requires
 linked-requires c κs = search needs
@@ -48,9 +47,8 @@ same-length c = search needs
 returns : tie.Need-returns
 returns c =
     let a = c .before .before .before .before .before .before .before .before .before .args in
-    let p = c .before .before .before .before .before .before .before .before .before .pre in
     let b = c .before .before .before .before .before .before .best-in .ensures .0 in
-    rw (c .linked .ensures) (link-set (a .page .now) _ (a .i) (a .a) _ _ (omega arith) (omega arith) (omega arith) (omega arith) (p .4) (p .5)
+    rw (c .linked .ensures) (link-any (a .page .now) _ (a .i) (a .a) _ _ (omega arith) (omega arith) (omega arith) (omega arith)
     b (omega (arith, b)) (c .before .before .before .before .before .block-in .ensures .0) (c .before .before .before .part .ensures))
 
 pub set-link-spec : {M : Type 1} → statement M

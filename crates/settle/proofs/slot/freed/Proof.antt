@@ -4,6 +4,8 @@ use mathlib.Core.Path.{refl}
 use native.Mathlib.Omega.{arith}
 use borrow.Author.Needs.{needs}
 use Rattle.array.specs.Cell.{linked-by, unlinked-by}
+use Rattle.settle.specs.Recell.{freed-linked-is, freed-deep-is, freed-alone-is, freed-joins-is}
+use Rattle.settle.specs.Any.{cells-same, cells-again}
 use Rattle.settle.specs.Slot.{freed-linked, freed-deep, freed-alone, freed-joins}
 use Rattle.settle.proofs.slot.freed.Statement.{statement}
 use Rattle.settle.proofs.slot.freed.Tie as tie
@@ -24,7 +26,12 @@ returns : tie.Need-returns
 returns c =
     let s = c .before .before .before .before in
     let a = s .args in
-    freed-linked (a .page .now) (a .i) (a .d) (omega arith) (s .pre .3) (linked-by _ _ (c .before .has-link .ensures) (c .if1 .taken))
+    let n = linked-by _ _ (c .before .has-link .ensures) (c .if1 .taken) in
+    record {
+      is = freed-linked-is (a .page .now) (a .i) (a .d) n;
+      cells = cells-same _;
+      right = λ w. freed-linked (a .page .now) (a .i) (a .d) (omega arith) w n;
+    }
 
 block-in-requires : tie.Need-block-in-requires
 block-in-requires c κs = search needs
@@ -36,7 +43,11 @@ returns-2 : tie.Need-returns-2
 returns-2 c =
     let s = c .before .before .before .before .before .before in
     let a = s .args in
-    freed-deep (a .page .now) (a .i) (a .d) (omega arith) (s .pre .3) (omega (arith, c .before .block-in .ensures .0))
+    record {
+      is = freed-deep-is (a .page .now) (a .i) (a .d) (omega (arith, c .before .block-in .ensures .0));
+      cells = cells-same _;
+      right = λ w. freed-deep (a .page .now) (a .i) (a .d) (omega arith) w (omega (arith, c .before .block-in .ensures .0));
+    }
 
 climb-requires : tie.Need-climb-requires
 climb-requires c κs = search needs
@@ -50,8 +61,13 @@ returns-3 c =
     let s = b .before .before .before .before .before in
     let a = s .args in
     let o = unlinked-by _ _ (b .before .before .has-link .ensures) (b .before .if1 .left) in
-    freed-alone (a .page .now) (a .i) (a .d) (omega arith) (s .pre .3) o (omega (arith, b .block-in .ensures .0)) _
-    (c .before .climb .ensures .0) (omega arith)
+    record {
+      is = freed-alone-is (a .page .now) (a .i) (a .d) o _ (c .before .climb .ensures .0) (omega (arith, b .block-in .ensures .0))
+          (omega arith);
+      cells = cells-same _;
+      right = λ w. freed-alone (a .page .now) (a .i) (a .d) (omega arith) w o (omega (arith, b .block-in .ensures .0)) _
+          (c .before .climb .ensures .0) (omega arith);
+    }
 
 cast-fill-below : tie.Need-cast-fill-below
 cast-fill-below c = search needs
@@ -68,8 +84,13 @@ returns-4 c =
     let s = b .before .before .before .before .before in
     let a = s .args in
     let o = unlinked-by _ _ (b .before .before .has-link .ensures) (b .before .if1 .left) in
-    freed-joins (a .page .now) (a .i) (a .d) (omega arith) (s .pre .3) o (omega (arith, b .block-in .ensures .0)) _
-    (c .before .before .before .before .before .climb .ensures .0) _ _ refl (omega arith) (c .before .before .fill-below .ensures)
+    record {
+      is = freed-joins-is (a .page .now) (a .i) (a .d) o _ (c .before .before .before .before .before .climb .ensures .0)
+          (omega (arith, b .block-in .ensures .0)) _ _ (omega arith) (omega arith) refl (c .before .before .fill-below .ensures);
+      cells = cells-again (c .before .before .fill-below .ensures);
+      right = λ w. freed-joins (a .page .now) (a .i) (a .d) (omega arith) w o (omega (arith, b .block-in .ensures .0)) _
+          (c .before .before .before .before .before .climb .ensures .0) _ _ refl (omega arith) (c .before .before .fill-below .ensures);
+    }
 
 pub freed-spec : {M : Type 1} → statement M
 freed-spec =

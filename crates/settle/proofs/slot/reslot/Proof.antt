@@ -6,7 +6,7 @@ use native.Mathlib.Omega.{arith}
 use borrow.Author.Needs.{needs}
 use lib.Pow.{pow-pos}
 use Rattle.sizes.specs.Sizes.{cellCount}
-use Rattle.settle.proofs.Laws.{reslot-was, reslot-resets}
+use Rattle.settle.proofs.Laws.{resets-any}
 use Rattle.settle.proofs.slot.reslot.Statement.{statement}
 use Rattle.settle.proofs.slot.reslot.Tie as tie
 
@@ -22,11 +22,9 @@ resettle-requires c κs =
     let r = c .before .before .before .before .reslot .ensures in
     let i = c .first-cell in
     let b : i .result < cellCount = omega (arith, i .ensures .1, pow-pos (8 - s .args .d)) in (
-      r .slot .size ∙ s .pre .0 .page,
+      r .body .size ∙ s .pre .0 .page,
       b,
       s .pre .0 .depth,
-      reslot-was (s .args .page .now) _ (s .args .d) (s .args .x) (s .args .feed) (s .args .word) (i .result) _ (i .ensures .0) b
-          (s .pre .0 .depth) (s .pre .1) r,
     )
 
 same-length : tie.Need-same-length
@@ -38,8 +36,8 @@ returns c =
     let s = f .before .before .before .before .before .before .before in
     let i = f .first-cell in
     let b : i .result < cellCount = omega (arith, i .ensures .1, pow-pos (8 - s .args .d)) in
-    reslot-resets (s .args .page .now) _ (s .args .d) (s .args .x) (s .args .feed) (s .args .word) (i .result) _ (i .ensures .0) b
-    (s .pre .0 .depth) (s .pre .1) (f .before .before .before .before .reslot .ensures) (s .pre .2) _
+    resets-any (s .args .page .now) _ (s .args .d) (s .args .x) (s .args .feed) (s .args .word) (i .result) _ (i .ensures .0) b
+    (s .pre .0 .depth) (s .pre .1) (f .before .before .before .before .reslot .ensures) _
     (c .before .before .resettle .ensures)
 
 pub reslot-spec : {M : Type 1} → statement M

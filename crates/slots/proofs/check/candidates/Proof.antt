@@ -1,9 +1,10 @@
 -- `slots::check::candidates` meets its contract. The number so far is that of the words passed which are not 0. Assumes nothing.
 use mathlib.Core.Path.{_≡_}
 use mathlib.Core.Logic.{⊎-elim}
-use Prim.Native.Nat.{_-_, _*_, _≤_}
+use Prim.Native.Nat.{_+_, _-_, _*_, _≤_}
 use native.Mathlib.Omega.{arith}
-use Rattle.sizes.specs.Sizes.{slotWords, lastSlot}
+use borrow.Author.Needs.{needs}
+use Rattle.sizes.specs.Sizes.{slotWords}
 use Rattle.slots.specs.Taken.{taken}
 use Rattle.slots.specs.Count.{slotWord}
 use Rattle.slots.proofs.Laws.{count-none, count-more, count-same, count-done}
@@ -11,46 +12,59 @@ use Rattle.slots.proofs.check.candidates.Statement.{statement}
 use Rattle.slots.proofs.check.candidates.Tie as tie
 
 abbrev Inv-loop : tie.InvT-loop
-Inv-loop page n₀ k₀ n k = (k ≤ slotWords * lastSlot) × (n ≤ k) × (n ≡ taken (slotWord page) k)
+Inv-loop page from n at m₀ k₀ end m k =
+    (k ≤ slotWords * n) × (m ≤ k)
+    × (taken (slotWord page) (slotWords * from) + m ≡ taken (slotWord page) (slotWords * from + k))
 
 abbrev μ-loop : tie.MeasureT-loop
-μ-loop page n₀ k₀ n k = slotWords * lastSlot - k
+μ-loop page from n at m₀ k₀ end m k = slotWords * n - k
+
+add-at : tie.Need-add-at Inv-loop μ-loop
+add-at c = search needs
+
+mul-at : tie.Need-mul-at Inv-loop μ-loop
+mul-at c = search needs
+
+mul-k-end : tie.Need-mul-k-end Inv-loop μ-loop
+mul-k-end c = search needs
 
 loop-holds : tie.Need-loop-holds Inv-loop μ-loop
-loop-holds c = (omega arith, omega arith, count-none (c .args .page .now))
+loop-holds c =
+    let a = c .args in
+    (omega arith, omega arith, count-none (a .page .now) (a .from))
 
 add-if1 : tie.Need-add-if1 Inv-loop μ-loop
-add-if1 c = omega arith
+add-if1 c = search needs
 
 mul-if1 : tie.Need-mul-if1 Inv-loop μ-loop
-mul-if1 c = omega arith
+mul-if1 c = search needs
 
 shared-slice-read-if1 : tie.Need-shared-slice-read-if1 Inv-loop μ-loop
-shared-slice-read-if1 c = omega arith
+shared-slice-read-if1 c = search needs
 
-add-n : tie.Need-add-n Inv-loop μ-loop
-add-n c = omega arith
+add-m : tie.Need-add-m Inv-loop μ-loop
+add-m c = search needs
 
 add-k : tie.Need-add-k Inv-loop μ-loop
-add-k c = omega arith
+add-k c = search needs
 
 loop-less : tie.Need-loop-less Inv-loop μ-loop
-loop-less c = omega arith
+loop-less c = search needs
 
 loop-again : tie.Need-loop-again Inv-loop μ-loop
 loop-again c =
     let l = c .before .before .before .loop in
     let a = c .before .before .before .before .args in
     ⊎-elim
-    (λ w. rw (w .1) (omega arith, omega arith, omega (arith, count-more (a .page .now) (l .k) (w .0 .taken), l .inv .2)))
-    (λ w. rw (w .1) (omega arith, omega arith, omega (arith, count-same (a .page .now) (l .k) (w .0 .left), l .inv .2)))
+    (λ w. rw (w .1) (omega arith, omega arith, omega (arith, count-more (a .page .now) (a .from) (l .k) (w .0 .taken), l .inv .2)))
+    (λ w. rw (w .1) (omega arith, omega arith, omega (arith, count-same (a .page .now) (a .from) (l .k) (w .0 .left), l .inv .2)))
     (c .if1 .came)
 
 returns : tie.Need-returns Inv-loop μ-loop
 returns c =
     let l = c .before .loop in
     let a = c .before .before .args in
-    (count-done (a .page .now) (l .k) (l .n) (l .inv .2) (omega arith) (omega arith), omega arith)
+    (count-done (a .page .now) (a .from) (l .k) (a .n) (l .m) (l .inv .2) (omega arith), omega arith)
 
 pub candidates-spec : {M : Type 1} → statement M
 candidates-spec =
@@ -58,11 +72,14 @@ candidates-spec =
     (tie.spec
     Inv-loop
     μ-loop
+    add-at
+    mul-at
+    mul-k-end
     loop-holds
     add-if1
     mul-if1
     shared-slice-read-if1
-    add-n
+    add-m
     add-k
     loop-less
     loop-again

@@ -13,16 +13,16 @@ use Rattle.words.proofs.total.add_on.Statement.{statement}
 use Rattle.words.proofs.total.add_on.Tie as tie
 
 abbrev Inv-loop : tie.InvT-loop
-Inv-loop words₀ levels a slot by b₀ s₀ words b s = Rest levels words₀ a slot by words b s
+Inv-loop words₀ a slot by b₀ s₀ words b s = Rest words₀ a slot by words b s
 
 abbrev μ-loop : tie.MeasureT-loop
-μ-loop words₀ levels a slot by b₀ s₀ words b s = levelIn (getD words (arrayAt b) 0)
+μ-loop words₀ a slot by b₀ s₀ words b s = levelIn (getD words (arrayAt b) 0)
 
 loop-holds : tie.Need-loop-holds Inv-loop μ-loop
 loop-holds c =
     let a = c .before .args in
     let p = c .before .pre in
-    rest-all (a .levels) (a .words .now) (a .a) (a .slot) (a .by) (p .0) (p .2)
+    rest-all (a .words .now) (a .a) (a .slot) (a .by) (p .0) (p .2)
 
 tag-requires : tie.Need-tag-requires Inv-loop μ-loop
 tag-requires c κs = omega (arith, rest-fits (c .before .before .loop .inv))
@@ -47,7 +47,7 @@ loop-less c =
     let d = c .before .before .before .before in
     let l = d .before .before .before .before .before in
     let a = l .before .before .args in
-    rest-more (a .levels) (a .words .now) (a .a) (a .slot) (a .by) (l .loop .words) (l .loop .b) (l .loop .s) (λ z. omega arith)
+    rest-more (a .words .now) (a .a) (a .slot) (a .by) (l .loop .words) (l .loop .b) (l .loop .s) (λ z. omega arith)
     (d .add-in .last .0) (d .before .before .tag .result) (c .before .parent-in .result) (c .cell-in .result)
     (d .add-in .ensures) (d .before .before .tag .ensures) (c .before .parent-in .ensures) (c .cell-in .ensures .0) (l .loop .inv)
     .falls
@@ -57,7 +57,7 @@ loop-again c =
     let d = c .before .before .before .before in
     let l = d .before .before .before .before .before in
     let a = l .before .before .args in
-    rest-more (a .levels) (a .words .now) (a .a) (a .slot) (a .by) (l .loop .words) (l .loop .b) (l .loop .s) (λ z. omega arith)
+    rest-more (a .words .now) (a .a) (a .slot) (a .by) (l .loop .words) (l .loop .b) (l .loop .s) (λ z. omega arith)
     (d .add-in .last .0) (d .before .before .tag .result) (c .before .parent-in .result) (c .cell-in .result)
     (d .add-in .ensures) (d .before .before .tag .ensures) (c .before .parent-in .ensures) (c .cell-in .ensures .0) (l .loop .inv)
     .rest

@@ -1,0 +1,32 @@
+-- `audit::sums::plain_ok` makes its test from the two numbers that it reads. Assumes nothing.
+use mathlib.Core.Path.{ap, ap₂, _∙_}
+use Prim.Native.Nat.{_+_}
+use native.Mathlib.Omega.{arith}
+use lib.Dec.{eqb}
+use Rattle.sizes.specs.Sizes.{cellSlots}
+use Rattle.totals.specs.Sums.{some}
+use borrow.Author.Needs.{needs}
+use Rattle.audit.proofs.sums.plain_ok.Statement.{statement}
+use Rattle.audit.proofs.sums.plain_ok.Tie as tie
+
+add-held : tie.Need-add-held
+add-held c = search needs
+
+held-requires : tie.Need-held-requires
+held-requires c κs = search needs
+
+add-total : tie.Need-add-total
+add-total c = search needs
+
+total-requires : tie.Need-total-requires
+total-requires c κs = search needs
+
+returns : tie.Need-returns
+returns c =
+    let own = c .before in
+    let s = own .before .before in
+    let a = s .args in
+    ap₂ eqb (c .total .ensures .0) (own .held .ensures .0 ∙ ap some (s .pre .2 (cellSlots + a .i) (omega arith) (omega arith)))
+
+pub plain-ok-spec : {M : Type 1} → statement M
+plain-ok-spec = tie.close (tie.spec add-held held-requires add-total total-requires returns)

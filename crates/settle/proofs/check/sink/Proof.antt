@@ -1,0 +1,115 @@
+-- `settle::check::sink` meets its contract. Whatever slot the loop stands at, the blocks of all slots before its two are written.
+-- Assumes nothing.
+use mathlib.Core.Path.{_≡_}
+use Prim.Native.Nat.{_-_, _*_, _≤_}
+use native.Mathlib.Omega.{arith}
+use borrow.Author.Needs.{needs}
+use lib.ListN.{length, length-set}
+use Rattle.sizes.specs.Sizes.{slotEnd}
+use Rattle.settle.specs.Blocks.{Blocks, blocks-two}
+use Rattle.settle.proofs.check.sink.Statement.{statement}
+use Rattle.settle.proofs.check.sink.Tie as tie
+
+abbrev Inv-loop : tie.InvT-loop
+Inv-loop all blocks₀ m d s₀ s-end blocks s = (m ≤ s) × (s ≤ s-end) × (s-end ≡ 2 * m) × (length blocks ≡ slotEnd) × Blocks all blocks (2 * s)
+
+abbrev μ-loop : tie.MeasureT-loop
+μ-loop all blocks₀ m d s₀ s-end blocks s = s-end - s
+
+mul-s-end : tie.Need-mul-s-end Inv-loop μ-loop
+mul-s-end c = search needs
+
+loop-holds : tie.Need-loop-holds Inv-loop μ-loop
+loop-holds c = let p = c .pre in (omega arith, omega arith, omega arith, p .0, p .4)
+
+mul-deeper : tie.Need-mul-deeper Inv-loop μ-loop
+mul-deeper c = search needs
+
+element-copy-out-deeper : tie.Need-element-copy-out-deeper Inv-loop μ-loop
+element-copy-out-deeper c = search needs
+
+add-deeper : tie.Need-add-deeper Inv-loop μ-loop
+add-deeper c = search needs
+
+mul-deeper-2 : tie.Need-mul-deeper-2 Inv-loop μ-loop
+mul-deeper-2 c = search needs
+
+element-copy-out-deeper-2 : tie.Need-element-copy-out-deeper-2 Inv-loop μ-loop
+element-copy-out-deeper-2 c = search needs
+
+deeper-requires : tie.Need-deeper-requires Inv-loop μ-loop
+deeper-requires c κs = search needs
+
+mul-blocks : tie.Need-mul-blocks Inv-loop μ-loop
+mul-blocks c = search needs
+
+mul-blocks-2 : tie.Need-mul-blocks-2 Inv-loop μ-loop
+mul-blocks-2 c = search needs
+
+element-write-blocks : tie.Need-element-write-blocks Inv-loop μ-loop
+element-write-blocks c = search needs
+
+mul-blocks-3 : tie.Need-mul-blocks-3 Inv-loop μ-loop
+mul-blocks-3 c = search needs
+
+add-blocks : tie.Need-add-blocks Inv-loop μ-loop
+add-blocks c = search needs
+
+mul-blocks-4 : tie.Need-mul-blocks-4 Inv-loop μ-loop
+mul-blocks-4 c = search needs
+
+element-write-blocks-2 : tie.Need-element-write-blocks-2 Inv-loop μ-loop
+element-write-blocks-2 c = search needs
+
+add-s : tie.Need-add-s Inv-loop μ-loop
+add-s c = search needs
+
+loop-less : tie.Need-loop-less Inv-loop μ-loop
+loop-less c = search needs
+
+loop-again : tie.Need-loop-again Inv-loop μ-loop
+loop-again c =
+    let l = c .before .before .before .before .loop in
+    let s = c .before .before .before .before .before in
+    let a = s .args in
+    let p = s .pre in (
+      omega arith,
+      omega arith,
+      omega arith,
+      simp length-set (l .inv .3),
+      blocks-two (a .all .now) (l .blocks) (l .s) (a .d) (c .deeper .result) (omega arith)
+          (omega (arith, p .1)) (omega (arith, p .1)) (c .deeper .ensures) (l .inv .4),
+    )
+
+returns : tie.Need-returns Inv-loop μ-loop
+returns c =
+    let l = c .before .loop in
+    let a = c .before .before .args in
+    let e : l .s ≡ 2 * a .m = omega arith in
+    (l .inv .3, rw e at (l .inv .4))
+
+pub sink-spec : {M : Type 1} → statement M
+sink-spec =
+    tie.close
+    (tie.spec
+    Inv-loop
+    μ-loop
+    mul-s-end
+    loop-holds
+    mul-deeper
+    element-copy-out-deeper
+    add-deeper
+    mul-deeper-2
+    element-copy-out-deeper-2
+    deeper-requires
+    mul-blocks
+    mul-blocks-2
+    element-write-blocks
+    mul-blocks-3
+    add-blocks
+    mul-blocks-4
+    element-write-blocks-2
+    add-s
+    loop-less
+    loop-again
+    returns)
