@@ -1,20 +1,16 @@
 -- The tests of totals where what they read has settled them: a law for each way out of a function. Assumes nothing.
 use mathlib.Core.Path.{_≡_, sym, _∙_}
 use mathlib.Core.Logic.{_≢_}
-use mathlib.Core.Bool.{Bool, true, false}
 use mathlib.Core.List.{List}
 use Prim.Native.Nat.{ℕ, _+_, _-_, _*_, _<_}
 use native.Mathlib.Omega.{arith}
 use lib.Dec.{eqb}
 use lib.ListN.{List·getD-eq-default}
-use Rattle.logic.specs.Every.{allB}
-use Rattle.sizes.specs.Sizes.{slotAt, lastSlot, cellSlots, bodyWords, totalAt, arrayAt, wordAt}
-use Rattle.slots.specs.Zeros.{zeroAt}
+use Rattle.sizes.specs.Sizes.{cellSlots, totalAt, wordAt}
 use Rattle.tree.specs.Arrays.{Arrays}
 use Rattle.totals.specs.Sums.{some, sum, sum-none, sum-some}
 use Rattle.totals.specs.Check.{innerB, outerB}
 use Rattle.words.specs.Words.{totalsOf}
-use Rattle.words.specs.Table.{blankB}
 use Rattle.words.specs.Size.{Sized}
 
 -- ---- the array below a cell
@@ -42,12 +38,3 @@ module _ (t : Arrays) (T : ℕ → ℕ → ℕ) (a : ℕ) where
   pub outer-is : (i x own below link : ℕ) → own ≡ some (t .slot a (cellSlots + i)) → link ≡ t .link a i → below ≡ sum T link 1
       → x ≡ T a (cellSlots + i) → eqb x (own + below) ≡ outerB t T a i
   outer-is i x own below link o l p e = rw (← o, ← l, ← p, ← e)
-
--- ---- a free array
-
-module _ (ws : List ℕ) (a at : ℕ) (x y : Bool) (p : at ≡ arrayAt a) (e : x ≡ allB (zeroAt ws (at + slotAt 1)) bodyWords) where
-  pub blank-body : x ≡ false → false ≡ blankB ws a
-  blank-body t = rw (← p, ← e, t)
-
-  pub blank-both : x ≡ true → y ≡ allB (zeroAt ws (at + totalAt 1)) lastSlot → y ≡ blankB ws a
-  blank-both t f = rw (← p, ← e, t) f

@@ -2,14 +2,14 @@
 --
 --     words    ws ──▶ . ──▶ . ──▶ vs         whatever they are
 --     records     x₁    x₂    x₃             announce, withdraw or lookup
-use mathlib.Core.Path.{_≡_, refl, sym, ap, _∙_}
+use mathlib.Core.Path.{_≡_, refl, sym, ap}
 use mathlib.Core.Logic.{_≢_}
 use mathlib.Core.Bool.{cond}
 use mathlib.Core.List.{List, [], _++_}
 use Prim.Native.Nat.{ℕ, zero, suc, _+_, _*_, _≤_}
 use native.Mathlib.Omega.{arith}
 use lib.Dec.{eqb}
-use lib.ListN.{length, drop}
+use lib.ListN.{length}
 use borrow.Author.Tests.{ne-eqb}
 use Rattle.routes.specs.Family.{Family, levels}
 use Rattle.routes.specs.Answers.{Reply, isDone, isRefused}

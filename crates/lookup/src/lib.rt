@@ -1,5 +1,6 @@
 // Looking an address up in lent words: the layout's walk, from the root down. It reads one word a level and checks nothing else.
 use replies::Reply;
+use sizes::BEST_BOUND;
 use sizes::HOP_BOUND;
 ghost use mathlib.Core.Path.{_≡_};
 ghost use mathlib.Core.Bool.{cond};
@@ -18,8 +19,6 @@ ghost use Rattle.replies.specs.Said.{saidReply};
 ghost use Rattle.lookup.specs.Walk.{hopOf, deeper, walk, walked, lookedUp};
 ghost use Rattle.lookup.specs.Ended.{ended, endsIn, Walks};
 
-// One past the bests of a cell, whose in-array lengths are at most 8.
-const BEST_BOUND: u32 = 589824;
 // No address has more bits. A block past them stands for a refusal, with the number by which it is past them: ..
 pub const MOST_BITS: u32 = 128;
 // .. 1 for words of a wrong number, ..

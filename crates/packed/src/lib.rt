@@ -3,6 +3,7 @@ use masks::FULL_MASK;
 use masks::index::index;
 use masks::prefix::spare;
 use replies::Match;
+use sizes::BEST_BOUND;
 use sizes::HOP_BOUND;
 use sizes::LAST_SLOT;
 ghost use mathlib.Core.Path.{_≡_};
@@ -19,8 +20,6 @@ ghost use Rattle.packed.specs.Ended.{astray, ended};
 pub const HEADER_WORDS: usize = 1024;
 // The words of an entry.
 pub const ENTRY_WORDS: usize = 4;
-// One past the bests of an entry, whose in-array lengths are at most 8.
-const BEST_BOUND: u32 = 589824;
 // A walk that met a number out of its range: one past the bests of an address, whose lengths are at most 32.
 const ASTRAY: u32 = 2162688;
 

@@ -1,21 +1,20 @@
 -- The cases of the small functions: a flag, a slot's cover, what the map says. Assumes nothing.
-use mathlib.Core.Path.{_≡_, refl, sym, ap, _∙_}
+use mathlib.Core.Path.{_≡_, sym, ap, _∙_}
 use mathlib.Core.Logic.{_≢_}
-use mathlib.Core.Bool.{Bool, true, false, cond, not, _&&_, _||_}
+use mathlib.Core.Bool.{Bool, true, false, not}
 use mathlib.Core.List.{List}
-use Prim.Native.Nat.{ℕ, _+_, _-_, _*_, _/_, _%_, _^_, _≤_, _<_}
+use Prim.Native.Nat.{ℕ, _+_, _-_, _*_, _/_, _%_, _≤_, _<_}
 use native.Mathlib.Omega.{arith}
-use lib.Dec.{leb, ltb, eqb}
-use lib.ListN.{length, getD}
+use lib.Dec.{eqb}
+use lib.ListN.{getD}
 use borrow.Author.Tests.{eq-eqb, ne-eqb, le-leb, lt-leb, lt-ltb, le-ltb}
 use Rattle.sizes.specs.Sizes.{slotEnd, cellSlots, cellsAt, hopBound, mostArrays}
-use lib.Count.{ones}
 use Rattle.masks.specs.Prefix.{spare}
 use Rattle.masks.specs.Mask.{maskOf}
 use Rattle.masks.specs.Index.{scatter}
 use Rattle.masks.specs.Entry.{entry}
 use Rattle.masks.specs.Sieve.{heldIn}
-use Rattle.array.specs.Cell.{bestIn, linkIn}
+use Rattle.array.specs.Cell.{linkIn}
 use Rattle.array.specs.Page.{slots, bests, links}
 use Rattle.array.specs.Frame.{pageOf}
 use Rattle.tree.specs.Arrays.{Arrays}

@@ -4,21 +4,21 @@ use mathlib.Core.Path.{_≡_, refl, sym, ap, _∙_}
 use mathlib.Core.Logic.{_≢_, inl}
 use mathlib.Core.Bool.{true, false, cond, true≢false}
 use mathlib.Core.List.{List}
-use Prim.Native.Nat.{ℕ, suc, _+_, _-_, _*_, _/_, _≤_, _<_}
+use Prim.Native.Nat.{ℕ, suc, _+_, _-_, _≤_, _<_}
 use native.Mathlib.Omega.{arith}
 use lib.Dec.{eqb, leb, ltb}
 use lib.ListN.{length, getD}
 use borrow.Author.Tests.{eq-eqb, ne-eqb, le-leb, lt-leb, lt-ltb, leb-true, ltb-true}
 use Rattle.logic.specs.Bools.{and-to, and-from}
 use Rattle.logic.specs.Cases.{same, tri}
-use Rattle.sizes.specs.Sizes.{leastWords, mostWords, cellCount, cellsAt, totalsAt, arrayAt, wordAt, cellAt, bestBound, levelBound}
+use Rattle.sizes.specs.Sizes.{leastWords, mostWords, cellCount, cellsAt, wordAt, cellAt, bestBound, levelBound}
 use Rattle.array.specs.Tag.{tagOf, parentIn, cellIn, levelIn}
-use Rattle.array.specs.Cell.{bestIn, blockIn, best-blank}
-use Rattle.tree.specs.Arrays.{par, cell, lev}
+use Rattle.array.specs.Cell.{best-blank}
+use Rattle.tree.specs.Arrays.{cell, lev}
 use Rattle.tree.specs.Free.{Found}
 use Rattle.words.specs.Words.{arraysOf, arrayCount, slotsOf, blocksOf, bestsOf}
 use Rattle.array.specs.Right.{best-small}
-use Rattle.words.specs.TableBut.{TableBut, Table}
+use Rattle.words.specs.TableBut.{Table}
 use Rattle.words.specs.Gained.{gainedIn, Ends, Gains, GainedAny}
 use Rattle.words.specs.Rehung.{any-word, any-tags, any-cell}
 use Rattle.words.specs.Rises.{Rises, SameUp, Off, off-here, off-same}

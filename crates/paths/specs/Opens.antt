@@ -2,11 +2,10 @@
 -- functions of the words. Assumes nothing.
 --
 --     b of level j ──▶ taken 0 ──▶ taken 1 ──▶ .. ──▶ taken (k - j - 1) of level k        the free arrays that a search finds
-use mathlib.Core.Path.{_≡_, refl, sym, ap, ap₂, _∙_}
-use mathlib.Core.Logic.{_≢_}
+use mathlib.Core.Path.{_≡_, refl, ap, _∙_}
 use mathlib.Core.Bool.{Bool, false, cond, _&&_}
 use mathlib.Core.List.{List}
-use Prim.Native.Nat.{ℕ, zero, suc, _+_, _-_, _*_, _/_, _%_, _^_, _≤_, _<_}
+use Prim.Native.Nat.{ℕ, zero, suc, _+_, _-_, _/_, _%_, _≤_, _<_}
 use native.Mathlib.Omega.{arith}
 use lib.Dec.{eqb, leb, ltb}
 use lib.ListN.{getD}
@@ -14,12 +13,11 @@ use borrow.Author.Tests.{eq-eqb, ne-eqb, le-ltb, lt-ltb}
 use Rattle.logic.specs.Cases.{same}
 use Rattle.sizes.specs.Sizes.{cellAt, bestBound}
 use Rattle.array.specs.Cell.{bestIn, blockIn}
-use Rattle.tree.specs.Arrays.{Arrays, down, node}
-use Rattle.tree.specs.Need.{node-child}
+use Rattle.tree.specs.Arrays.{down, node}
 use Rattle.words.specs.Words.{arraysOf, arrayCount, bestsOf, blocksOf}
 use Rattle.words.specs.Offers.{taken, takesB}
 use Rattle.words.specs.Gained.{gainedIn}
-use Rattle.numbers.specs.Front.{front, byteOf, byte-lt, front-more, front-up}
+use Rattle.numbers.specs.Front.{front, byteOf, front-up}
 use Rattle.paths.specs.Stop.{On, Stops, next}
 
 -- ---- how far

@@ -9,13 +9,13 @@ use native.Mathlib.Omega.{arith}
 use lib.ListN.{length, getD}
 use borrow.Author.Tests.{not-true}
 use Rattle.sizes.specs.Sizes.{mostWords, arrayAt}
-use Rattle.array.specs.Tag.{parentIn, cellIn, levelIn}
+use Rattle.array.specs.Tag.{parentIn, levelIn}
 use Rattle.array.specs.Check.{bareB}
 use Rattle.array.specs.Frame.{pageOf}
-use Rattle.tree.specs.Arrays.{par, cell, lev}
+use Rattle.tree.specs.Arrays.{lev}
 use Rattle.words.specs.Words.{arraysOf}
 use Rattle.words.specs.TableBut.{RightSlotsOf}
-use Rattle.words.specs.Gained.{releasedIn, Ends, Releases, ReleasedAny}
+use Rattle.words.specs.Gained.{releasedIn, Releases, ReleasedAny}
 use Rattle.words.specs.Rehung.{any-word, any-tags, any-cell}
 use Rattle.words.specs.Rises.{Rises, SameUp, Above, Off, off-here, off-above, off-same}
 use Rattle.words.specs.Rises.{rises-some, rises-inside, rises-level, rises-above, rises-same, rises-top}

@@ -1,26 +1,25 @@
 -- The path test: what an update asks of the words on the way down to its prefix, whatever the other words are. The root's tag is
 -- 1, and each link followed leads to an array of the words whose tag names the cell and the level, from a cell whose best is in
 -- its range. Then the tags lead up again; a table passes. Assumes nothing.
-use mathlib.Core.Path.{_≡_, refl, sym, ap, _∙_}
+use mathlib.Core.Path.{_≡_, refl, sym, _∙_}
 use mathlib.Core.Logic.{_≢_}
 use mathlib.Core.Bool.{Bool, true, false, cond, _&&_}
 use mathlib.Core.List.{List}
 use Prim.Native.Nat.{ℕ, zero, suc, _+_, _-_, _*_, _/_, _≤_, _<_}
 use native.Mathlib.Omega.{arith}
-use native.Mathlib.Numerals.{add-one}
 use lib.Dec.{eqb, leb, ltb}
 use lib.ListN.{length, getD}
-use borrow.Author.Tests.{eq-eqb, ne-eqb, le-leb, lt-ltb, lt-leb, le-ltb, leb-true, eqb-true, ltb-true}
-use Rattle.logic.specs.Bools.{and-to, and-from}
+use borrow.Author.Tests.{eq-eqb, ne-eqb, le-leb, lt-ltb, lt-leb, leb-true, eqb-true, ltb-true}
+use Rattle.logic.specs.Bools.{and-to}
 use Rattle.logic.specs.Cases.{same}
-use Rattle.sizes.specs.Sizes.{arrayWords, leastWords, cellCount, arrayAt, cellAt, bestBound, levelBound}
+use Rattle.sizes.specs.Sizes.{leastWords, cellCount, arrayAt, cellAt, bestBound, levelBound}
 use Rattle.array.specs.Cell.{bestIn, linkIn}
 use Rattle.array.specs.Tag.{tagOf, parentIn, cellIn, levelIn}
 use Rattle.array.specs.Right.{best-small}
-use Rattle.tree.specs.Arrays.{node, par, cell, lev}
+use Rattle.tree.specs.Arrays.{node, cell, lev}
 use Rattle.tree.specs.Tree.{child, node-level}
 use Rattle.words.specs.Words.{arraysOf, arrayCount, slotsOf, bestsOf}
-use Rattle.words.specs.TableBut.{TableBut, Table}
+use Rattle.words.specs.TableBut.{Table}
 use Rattle.words.specs.Rises.{Rises, Off, rises-more}
 use Rattle.numbers.specs.Front.{front, byteOf, byte-lt}
 use Rattle.paths.specs.Stop.{On, Stops, on-root, next}

@@ -6,10 +6,11 @@ use array::cell::block_in;
 use array::cell::link_in;
 use array::tag::parent_in;
 use array::tag::tag_of;
+use sizes::BEST_BOUND;
 ghost use mathlib.Core.Path.{_≡_};
 ghost use mathlib.Core.Bool.{true};
 ghost use Prim.Native.Nat.{_+_, _-_, _*_, _^_, _<_, _≤_};
-ghost use lib.ListN.{length as size, getD};
+ghost use lib.ListN.{length as size};
 ghost use Rattle.sizes.specs.Sizes.{leastWords, mostWords, cellCount, levelBound, arrayAt};
 ghost use Rattle.slots.specs.Word.{IsFeed};
 ghost use Rattle.address.specs.Address.{IsAddress};
@@ -21,9 +22,6 @@ ghost use Rattle.words.specs.Climbing.{Climbing};
 ghost use Rattle.paths.specs.Opens.{fitB};
 ghost use Rattle.paths.specs.Shed.{PrunedAny};
 ghost use Rattle.paths.specs.Held.{wordFound, SoughtAny};
-
-// No best of a cell is so large.
-const BEST_BOUND: u32 = 589824;
 
 // No array has this number.
 pub const ASTRAY: usize = 4097;

@@ -42,6 +42,8 @@ pub const LINK_BOUND: u32 = 4096;
 pub const BLOCK_BOUND: u32 = 16;
 // A best is an in-array length times this, and a hop, which is below it.
 pub const HOP_BOUND: u32 = 65536;
+// One past the bests of a cell, whose in-array lengths are at most 8.
+pub const BEST_BOUND: u32 = 589824;
 
 // A tag is its parent times this, ..
 pub const PARENT_UNIT: u32 = 8192;

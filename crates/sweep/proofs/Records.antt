@@ -23,7 +23,7 @@ use Rattle.words.specs.Empty.{totalIn}
 use Rattle.writing.specs.Halves.{slot-small}
 use Rattle.shortest.specs.Chosen.{pick, under}
 use Rattle.sweep.specs.Walk.{lowOf, routesAt}
-use Rattle.sweep.specs.Asked.{Stands, bytesOf, bytesOwn, Puts, PutsRoutes}
+use Rattle.sweep.specs.Asked.{bytesOf, bytesOwn, Puts, PutsRoutes}
 use Rattle.sweep.proofs.Seats.{bits-some, seat-room, seat-low, seat-high}
 use Rattle.sweep.proofs.Kept.{else-low}
 

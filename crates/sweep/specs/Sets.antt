@@ -21,7 +21,7 @@ use Rattle.shortest.specs.Chosen.{setOf, under}
 use Rattle.shortest.specs.Inside.{cost, carried, In, in-one, in-left, in-right, in-head, in-half}
 use Rattle.shortest.specs.Leaf.{one-hop, bare-carried}
 use Rattle.shortest.specs.Proved.{upto-append, upto-own}
-use Rattle.sweep.specs.Walk.{wonAt, hopIn, setAt, costAt, smallAt}
+use Rattle.sweep.specs.Walk.{hopIn, setAt, costAt, smallAt}
 use Rattle.sweep.specs.Slot.{At, slot-hop, slot-lower, slot-upper, bare-lower, bare-upper, empty-all}
 
 module _ (ws : List ℕ) (tb : Table 4 ws) where

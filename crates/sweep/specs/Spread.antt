@@ -13,7 +13,7 @@ use Rattle.words.specs.TableBut.{Table}
 use Rattle.words.specs.Half.{halfOf}
 use Rattle.shortest.specs.HopSet.{only}
 use Rattle.shortest.specs.Leaf.{one-hop, bare-carried}
-use Rattle.sweep.specs.Walk.{wonAt, hopIn, setAt, costAt, storeAt, spreadAt}
+use Rattle.sweep.specs.Walk.{wonAt, setAt, costAt, storeAt, spreadAt}
 use Rattle.sweep.specs.Slot.{At, slot-hop, slot-lower, slot-upper, collect-own, collect-halves}
 use Rattle.sweep.specs.Sets.{set-is}
 

@@ -10,11 +10,11 @@
 --       not there
 --     a withdrawal whose candidate has no word at its place                     7
 --     arrays are to be gained, and the header tells of too few                  8
-use mathlib.Core.Path.{_≡_, refl, sym, ap, ap₂, _∙_}
+use mathlib.Core.Path.{_≡_, sym, ap₂, _∙_}
 use mathlib.Core.Bool.{true, false, cond}
 use mathlib.Core.Logic.{_≢_}
 use mathlib.Core.List.{List}
-use Prim.Native.Nat.{ℕ, _+_, _-_, _*_, _^_, _≤_, _<_}
+use Prim.Native.Nat.{ℕ, _+_, _-_, _*_, _^_, _≤_}
 use native.Mathlib.Omega.{arith}
 use lib.Dec.{eqb}
 use lib.ListN.{length}
@@ -26,7 +26,6 @@ use Rattle.candidates.specs.Seen.{misfits}
 use Rattle.slots.specs.Word.{hopIn, wordOf}
 use Rattle.array.specs.Frame.{pageOf, withPage}
 use Rattle.array.specs.Reslot.{changedIn}
-use Rattle.array.specs.declared.change.Changed.{Changed}
 use Rattle.settle.specs.Recell.{resetIn}
 use Rattle.tree.specs.Arrays.{node, lev, depthOf}
 use Rattle.words.specs.Words.{arraysOf}

@@ -2,16 +2,16 @@
 -- the list says. Assumes nothing.
 use mathlib.Core.Path.{_≡_, refl, sym, ap, _∙_}
 use mathlib.Core.Logic.{_≢_, inl, inr}
-use mathlib.Core.Bool.{true, false, cond, true≢false, false≢true}
+use mathlib.Core.Bool.{true, false, false≢true}
 use mathlib.Core.List.{List}
-use Prim.Native.Nat.{ℕ, _+_, _-_, _*_, _^_, _≤_, _<_}
+use Prim.Native.Nat.{ℕ, _+_, _-_, _^_, _≤_, _<_}
 use native.Mathlib.Omega.{arith}
 use lib.Dec.{eqb}
 use lib.ListN.{length, getD}
-use borrow.Author.Tests.{eq-eqb, ne-eqb}
+use borrow.Author.Tests.{ne-eqb}
 use Rattle.logic.specs.Cases.{bool, same, less}
 use Rattle.sizes.specs.Sizes.{hopBound, arrayWords, slotEnd, cellsAt, arrayAt, wordAt, cellAt}
-use Rattle.routes.specs.Answers.{isRefused, done, found, none, refused}
+use Rattle.routes.specs.Answers.{isRefused, done, none, refused}
 use Rattle.routes.specs.Answers as replies
 use Rattle.candidates.specs.Answers.{Update, announce, withdraw}
 use Rattle.slots.specs.Word.{IsFeed, hopIn, wordOf}
@@ -27,7 +27,6 @@ use Rattle.words.specs.Words.{arraysOf}
 use Rattle.words.specs.TableBut.{Table}
 use Rattle.words.specs.Rises.{Rises, SameUp, Off, off-here, off-same, rises-level, rises-inside, rises-same}
 use Rattle.words.specs.Climbing.{Climbing, TotalsOnly, totals-same, on-totals, on-spared}
-use Rattle.words.specs.Added.{addedOn}
 use Rattle.words.specs.Retotalled.{step, retotalled}
 use Rattle.numbers.specs.Front.{front}
 use Rattle.address.specs.Address.{IsPrefix, stands-level}

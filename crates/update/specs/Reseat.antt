@@ -1,18 +1,18 @@
 -- A feed's word in a seat of a table set, and then the totals on the path of its array: what is asked, and the words afterwards.
 -- Assumes nothing.
-use mathlib.Core.Path.{_≡_, refl, sym, ap, _∙_}
+use mathlib.Core.Path.{_≡_, sym, ap, _∙_}
 use mathlib.Core.Logic.{_≢_}
 use mathlib.Core.List.{List}
 use Prim.Native.Nat.{ℕ, _+_, _-_, _*_, _/_, _^_, _≤_, _<_}
 use native.Mathlib.Omega.{arith}
 use lib.ListN.{length, getD}
 use lib.Pow.{pow-pos, pow-mono}
-use Rattle.sizes.specs.Sizes.{mostWords, slotEnd, arrayAt, wordAt}
+use Rattle.sizes.specs.Sizes.{slotEnd, wordAt}
 use Rattle.array.specs.Tag.{levelIn}
 use Rattle.array.specs.declared.change.Changed.{Changed}
 use Rattle.tree.specs.Arrays.{node, lev}
 use Rattle.tree.specs.Tree.{path, reach}
-use Rattle.tree.specs.SlotSet.{Place, same-shape, same-node}
+use Rattle.tree.specs.SlotSet.{Place, same-node}
 use Rattle.tree.specs.Tree.{node-level}
 use Rattle.gather.specs.WordSet.{TreeWordSet}
 use Rattle.totals.specs.Sums.{some, Sums}

@@ -7,11 +7,11 @@ use Prim.Native.Nat.{ℕ, _+_, _-_, _%_, _≤_, _<_}
 use native.Mathlib.Omega.{arith}
 use lib.Dec.{eqb}
 use lib.ListN.{length, getD}
-use borrow.Author.Tests.{eqb-true, eq-eqb, ne-eqb}
+use borrow.Author.Tests.{ne-eqb}
 use Rattle.logic.specs.Cases.{same}
 use Rattle.logic.specs.Bools.{and-to, and-from}
 use Rattle.logic.specs.Every.{allB}
-use Rattle.logic.specs.Reflects.{Reflects, reflects-eq, reflects-and, reflects-all, reflects-as, all-from, all-to}
+use Rattle.logic.specs.Reflects.{Reflects, reflects-eq, reflects-and, reflects-all, reflects-as}
 use Rattle.sizes.specs.Sizes.{arrayWords, leastWords, mostWords, slotAt, lastSlot, slotEnd, cellCount, cellsAt, bodyWords}
 use Rattle.sizes.specs.Sizes.{totalsAt, totalAt, arrayAt, wordAt, cellAt, levelBound, groupCount, restAt, restWords}
 use Rattle.array.specs.Cell.{link-blank}

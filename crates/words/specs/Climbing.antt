@@ -1,6 +1,6 @@
 -- A number added to totals from an array up to the root, array by array, on any words whose tags lead there: what is left to add
 -- is the whole. Assumes nothing.
-use mathlib.Core.Path.{_≡_, refl, sym, ap, _∙_}
+use mathlib.Core.Path.{_≡_, refl, ap, _∙_}
 use mathlib.Core.Logic.{_≢_, inr, inl}
 use mathlib.Core.List.{List}
 use Prim.Native.Nat.{ℕ, zero, suc, _+_, _-_, _≤_, _<_}
@@ -11,7 +11,7 @@ use Rattle.array.specs.Tag.{parentIn, cellIn, levelIn}
 use Rattle.tree.specs.Arrays.{par, cell, lev}
 use Rattle.words.specs.Words.{arraysOf}
 use Rattle.words.specs.Added.{addedIn, addedOn, NoTotal, in-size, in-kept}
-use Rattle.words.specs.Rises.{Rises, SameUp, Above, Off, off-same}
+use Rattle.words.specs.Rises.{Rises, SameUp, Off, off-same}
 use Rattle.words.specs.Rises.{rises-inside, rises-level, rises-top, rises-above, rises-same}
 
 -- the tags lead from array a up to the root

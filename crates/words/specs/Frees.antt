@@ -6,14 +6,13 @@ use mathlib.Core.Bool.{Bool, true, false, true≢false}
 use mathlib.Core.List.{List}
 use Prim.Native.Nat.{ℕ, zero, suc, _+_, _-_, _*_, _/_, _≤_, _<_}
 use native.Mathlib.Omega.{arith}
-use native.Mathlib.Numerals.{add-one}
 use lib.ListN.{length, getD, set, replicate, length-set, length-replicate, getD-replicate}
 use lib.Seq.{getD-set-same, getD-set-other}
-use borrow.Author.Tests.{eq-eqb, ne-eqb}
+use borrow.Author.Tests.{ne-eqb}
 use Rattle.logic.specs.Bools.{and-to}
 use Rattle.logic.specs.Cases.{same}
 use Rattle.logic.specs.Reflects.{all-none, all-more, all-stop}
-use Rattle.sizes.specs.Sizes.{slotAt, bodyWords, totalsAt, totalAt, lastSlot, arrayAt, wordAt, perGroup}
+use Rattle.sizes.specs.Sizes.{slotAt, bodyWords, totalsAt, wordAt, perGroup}
 use Rattle.tree.specs.Arrays.{Arrays, usedIn}
 use Rattle.tree.specs.Free.{firstFree, Found, found}
 use Rattle.words.specs.Words.{arraysOf, arrayCount}

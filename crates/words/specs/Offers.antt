@@ -5,19 +5,18 @@
 --     header        8   │    5    │     8    │    ..         told full: the first and the third
 use mathlib.Core.Path.{_≡_, refl, sym, _∙_}
 use mathlib.Core.Logic.{_≢_}
-use mathlib.Core.Bool.{Bool, true, false, cond, _&&_, not, true≢false}
+use mathlib.Core.Bool.{Bool, true, false, cond, _&&_, not}
 use mathlib.Core.List.{List}
 use Prim.Native.Nat.{ℕ, zero, suc, _+_, _-_, _*_, _/_, _≤_, _<_}
 use native.Mathlib.Nat.{zero-add, add-zero}
 use native.Mathlib.Omega.{arith}
 use lib.Dec.{eqb, leb}
 use lib.ListN.{length, getD}
-use borrow.Author.Tests.{eqb-true, eq-eqb, ne-eqb, leb-true, le-leb, lt-leb}
+use borrow.Author.Tests.{eqb-true, eq-eqb, ne-eqb, leb-true, le-leb}
 use Rattle.logic.specs.Bools.{and-to, and-from}
 use Rattle.logic.specs.Cases.{bool, same}
 use Rattle.logic.specs.Every.{allB}
-use Rattle.logic.specs.Reflects.{all-to}
-use Rattle.sizes.specs.Sizes.{mostWords, perGroup, groupCount, groupStride}
+use Rattle.sizes.specs.Sizes.{mostWords, perGroup}
 use Rattle.tree.specs.Arrays.{Arrays, usedIn, usedOf}
 use Rattle.tree.specs.Free.{firstFree, used-full}
 use Rattle.words.specs.Words.{arraysOf, arrayCount}

@@ -7,7 +7,7 @@ use native.Mathlib.Omega.{arith}
 use lib.ListN.{getD}
 use Rattle.logic.specs.Cases.{same, less}
 use Rattle.sizes.specs.Sizes.{slotWords, slotAt, slotEnd, cellCount, cellsAt, totalsAt}
-use Rattle.sizes.specs.Sizes.{arrayAt, wordAt, cellAt, perGroup}
+use Rattle.sizes.specs.Sizes.{wordAt, cellAt, perGroup}
 use Rattle.calm.specs.Calm.{Settled}
 use Rattle.calm.specs.Same.{settled-none}
 use Rattle.slots.specs.Word.{IsFeed}

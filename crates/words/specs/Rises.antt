@@ -2,7 +2,7 @@
 -- do, from each used array. Assumes nothing.
 --
 --     root ◀── tag ── array of level 1 ◀── tag ── array of level 2         and each of these hangs where its tag says
-use mathlib.Core.Path.{_≡_, refl, sym, ap, _∙_}
+use mathlib.Core.Path.{_≡_, refl, ap, _∙_}
 use mathlib.Core.Logic.{_≢_}
 use mathlib.Core.List.{List}
 use Prim.Native.Nat.{ℕ, zero, suc, _+_, _≤_, _<_}

@@ -7,19 +7,16 @@ use array::tag::cell_in;
 use array::tag::level_in;
 use array::tag::parent_in;
 use array::tag::tag_of;
+use part::blank;
 use part::cell;
 use part::page;
 use part::tag;
 use size::arrays_in;
 use sizes::ARRAY_WORDS;
-use sizes::BODY_WORDS;
 use sizes::GROUP_STRIDE;
-use sizes::LAST_SLOT;
 use sizes::PER_GROUP;
-use sizes::SLOT_WORDS;
 use sizes::STRIDE_ARRAYS;
-use sizes::TOTALS_AT;
-use slots::blank::zeros;
+use total::LESS_ONE;
 ghost use mathlib.Core.Path.{_≡_};
 ghost use mathlib.Core.Logic.{_≢_};
 ghost use mathlib.Core.Bool.{true, false};
@@ -37,9 +34,6 @@ ghost use Rattle.words.specs.Table.{blankB};
 ghost use Rattle.words.specs.Offers.{toldFull, behind, nextFree};
 ghost use Rattle.words.specs.Frees.{Passed, Blanks, Frees};
 ghost use Rattle.words.specs.Gained.{retagged, Gains, Releases, GainedAny, ReleasedAny};
-
-// What takes 1 away, as words wrap.
-const LESS_ONE: u32 = 4294967295;
 
 // The first free array among from .. to - 1, 0 where there is none.
 fn first_free(words: &[u32], from: usize, to: usize) -> usize
@@ -133,14 +127,7 @@ fn clean(words: &[u32], f: usize, known: bool) -> bool
         × ((known ≡ true) → blankB (now words) f ≡ true) ⌝ }
     ensures { λ r. ⌜ r ≡ blankB (now (words .entry)) f ⌝ }
 {
-    if known {
-        return true;
-    }
-    let at = ARRAY_WORDS * f;
-    if !zeros(words, at + SLOT_WORDS, BODY_WORDS) {
-        return false;
-    }
-    zeros(words, at + (TOTALS_AT + 1), LAST_SLOT)
+    known || blank(words, f)
 }
 
 // The first m free arrays, one after the other; the last is 0 where so many were not found, or one of them is not clean. A caller

@@ -1,16 +1,21 @@
 // Where an array stands in the words, and what is read of it: its tag, a slot, a cell, or all of its words; where the halves of a
 // prefix stand.
 use sizes::ARRAY_WORDS;
+use sizes::BODY_WORDS;
 use sizes::CELL_SLOTS;
 use sizes::CELLS_AT;
+use sizes::LAST_SLOT;
 use sizes::SLOT_WORDS;
+use sizes::TOTALS_AT;
+use slots::blank::zeros;
 ghost use mathlib.Core.Path.{_≡_};
 ghost use Prim.Native.Nat.{_+_, _<_, _≤_};
 ghost use lib.ListN.{length, getD};
-ghost use Rattle.sizes.specs.Sizes.{arrayWords, slotEnd, cellCount, arrayAt, cellAt};
+ghost use Rattle.sizes.specs.Sizes.{arrayWords, mostWords, slotEnd, cellCount, arrayAt, cellAt};
 ghost use Rattle.array.specs.Frame.{pageOf};
 ghost use Rattle.slots.specs.Word.{IsFeed};
 ghost use Rattle.words.specs.Words.{arraysOf, wordsOf};
+ghost use Rattle.words.specs.Table.{blankB};
 ghost use Rattle.words.specs.Half.{Within, halfOf};
 
 // The place of array a's first word, one past the array before it.
@@ -53,6 +58,18 @@ pub fn page(words: &[u32], a: usize) -> &[u32]
     let from = ARRAY_WORDS * a;
     let to = from + ARRAY_WORDS;
     &words[from..to]
+}
+
+// The slots, cells and totals of array a are 0.
+pub fn blank(words: &[u32], a: usize) -> bool
+    requires { ⌜ (arrayAt (a + 1) ≤ length (now words)) × (length (now words) ≤ mostWords) ⌝ }
+    ensures { λ r. ⌜ r ≡ blankB (now (words .entry)) a ⌝ }
+{
+    let at = ARRAY_WORDS * a;
+    if !zeros(words, at + SLOT_WORDS, BODY_WORDS) {
+        return false;
+    }
+    zeros(words, at + (TOTALS_AT + 1), LAST_SLOT)
 }
 
 // The slot of the lower half of the prefix in `slot`, 0 where there is none; the upper half's is the next. Slots are named by the

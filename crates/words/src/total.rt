@@ -20,7 +20,7 @@ ghost use Rattle.words.specs.Empty.{totalIn};
 ghost use Rattle.words.specs.Retotalled.{step as stepOf, retotalled};
 
 // What takes 1 away, as words wrap.
-const LESS_ONE: u32 = 4294967295;
+pub const LESS_ONE: u32 = 4294967295;
 
 // The total of slot s of array a.
 pub fn total(words: &[u32], a: usize, s: usize) -> u32

@@ -1,5 +1,5 @@
 -- The number at the start says whether the words are a table, and with what the run refuses. Assumes nothing.
-use mathlib.Core.Path.{_≡_, ap, _∙_}
+use mathlib.Core.Path.{_≡_}
 use native.Mathlib.Omega.{arith}
 use borrow.Author.Needs.{needs}
 use Rattle.routes.specs.Family.{levels}

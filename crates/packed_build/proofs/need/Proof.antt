@@ -1,6 +1,5 @@
 -- `packed_build::need` refuses, or counts the entries. Assumes nothing.
-use mathlib.Core.Path.{_≡_, refl, sym, _∙_}
-use native.Mathlib.Omega.{arith}
+use mathlib.Core.Path.{refl, sym, _∙_}
 use borrow.Author.Tests.{not-true, not-false}
 use Rattle.packed_build.specs.Laying.{need-misfit, need-foreign, need-table, is-table}
 use borrow.Author.Needs.{needs}

@@ -1,6 +1,6 @@
 -- `paths::extend` meets its contract: nothing is missing, the cell is not fit, there is no room, free arrays are missing, or those
 -- found are hung. Assumes nothing.
-use mathlib.Core.Path.{_≡_, sym, _∙_}
+use mathlib.Core.Path.{sym, _∙_}
 use Prim.Native.Nat.{_-_}
 use native.Mathlib.Omega.{arith}
 use lib.ListN.{length}

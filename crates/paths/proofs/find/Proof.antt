@@ -1,7 +1,6 @@
 -- `paths::find` meets its contract: the walk tells where the path stops, and the read which word is there. Assumes nothing.
 use native.Mathlib.Omega.{arith}
 use lib.ListN.{length}
-use borrow.Author.Needs.{needs}
 use Rattle.numbers.specs.Front.{value-lt}
 use Rattle.numbers.specs.Number.{number, number-lt}
 use Rattle.paths.proofs.find.Statement.{statement}

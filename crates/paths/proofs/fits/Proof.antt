@@ -1,9 +1,7 @@
 -- `paths::fits` tells whether a cell may take a link: by its caller's word, or by two tests. Assumes nothing.
-use mathlib.Core.Path.{_≡_, refl, sym, ap₂, _∙_}
+use mathlib.Core.Path.{sym}
 use native.Mathlib.Omega.{arith}
 use borrow.Author.Needs.{needs}
-use borrow.Author.Tests.{le-ltb, lt-ltb}
-use lib.Dec.{leb}
 use Rattle.paths.specs.Opens.{fit-far, fit-near}
 use Rattle.paths.proofs.fits.Statement.{statement}
 use Rattle.paths.proofs.fits.Tie as tie

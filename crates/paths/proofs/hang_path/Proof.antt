@@ -1,8 +1,8 @@
 -- `paths::hang_path` meets its contract. A turn hangs the next of the free arrays below the last. Assumes nothing.
-use mathlib.Core.Path.{_≡_, refl}
+use mathlib.Core.Path.{refl}
 use Prim.Native.Nat.{_-_, _<_}
 use native.Mathlib.Omega.{arith}
-use lib.ListN.{length, getD}
+use lib.ListN.{length}
 use Rattle.numbers.specs.Number.{number}
 use Rattle.words.specs.Rises.{rises-inside}
 use Rattle.paths.specs.Hung.{Hanging, hanging-first, hanging-gains, hanging-more, hanging-done}

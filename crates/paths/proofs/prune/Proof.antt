@@ -1,7 +1,5 @@
 -- `paths::prune` meets its contract. What is left may have b empty; an empty b is released, and its parent, one level up, may then be empty.
 -- Assumes nothing.
-use mathlib.Core.Path.{sym, ap, _∙_}
-use mathlib.Core.Bool.{not}
 use native.Mathlib.Omega.{arith}
 use lib.ListN.{getD}
 use borrow.Author.Tests.{not-false}

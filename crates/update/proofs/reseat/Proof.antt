@@ -1,5 +1,4 @@
 -- `update::reseat` meets its contract: the slot is set in its page, then the totals on the path follow. Assumes nothing.
-use mathlib.Core.Path.{_≡_}
 use borrow.Author.Needs.{needs}
 use Rattle.update.specs.Local.{sits-spot, seated-climbs, reseated-any}
 use Rattle.update.proofs.reseat.Statement.{statement}

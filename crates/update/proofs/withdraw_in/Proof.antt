@@ -1,7 +1,6 @@
 -- `update::withdraw_in` meets its contract. `find` tells whether the path test passes and the candidate is held; its word cleared, its
 -- array may be empty, and pruning releases it then. Assumes nothing.
 use mathlib.Core.Path.{refl}
-use native.Mathlib.Omega.{arith}
 use borrow.Author.Needs.{needs}
 use Rattle.update.specs.Local.{local-two, local-none, local-sits, local-loose, local-withdrawn}
 use Rattle.update.proofs.withdraw_in.Statement.{statement}

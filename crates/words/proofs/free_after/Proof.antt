@@ -1,10 +1,8 @@
 -- `words::free_after` searches the rest of an array's group, then the groups past it. Assumes nothing.
-use mathlib.Core.Path.{_≡_, refl}
-use Prim.Native.Nat.{_+_, _-_, _*_, _/_}
+use mathlib.Core.Path.{refl}
+use Prim.Native.Nat.{_-_}
 use native.Mathlib.Omega.{arith}
 use borrow.Author.Needs.{needs}
-use Rattle.sizes.specs.Sizes.{perGroup}
-use Rattle.words.specs.Words.{arrayCount}
 use Rattle.words.specs.Offers.{after-all, after-near, after-far}
 use Rattle.words.specs.Frees.{passed-first}
 use Rattle.words.proofs.free_after.Statement.{statement}

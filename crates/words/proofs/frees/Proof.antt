@@ -1,5 +1,4 @@
 -- `words::frees` finds free arrays one after the other, each without slots and cells. Assumes nothing.
-use mathlib.Core.Path.{_≡_, _∙_}
 use Prim.Native.Nat.{_-_, _≤_}
 use native.Mathlib.Omega.{arith}
 use borrow.Author.Needs.{needs}

@@ -1,5 +1,5 @@
 -- `words::gain` lends the page of p for the link, and stores the tag and the two counts. Assumes nothing.
-use mathlib.Core.Path.{_≡_, _∙_}
+use mathlib.Core.Path.{_≡_}
 use Prim.Native.Nat.{_+_, _-_}
 use native.Mathlib.Omega.{arith}
 use Rattle.sizes.specs.Sizes.{arrayWords, arrayAt}

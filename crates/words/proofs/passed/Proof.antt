@@ -1,8 +1,7 @@
 -- `words::passed` leaves out groups that are full, a stride at a time: what is left to search stays the same. Assumes nothing.
-use mathlib.Core.Path.{_≡_, refl, sym, _∙_}
+use mathlib.Core.Path.{refl, sym, _∙_}
 use Prim.Native.Nat.{_+_, _-_, _*_, _≤_}
 use native.Mathlib.Omega.{arith}
-use borrow.Author.Needs.{needs}
 use borrow.Author.Tests.{not-false}
 use Rattle.logic.specs.Reflects.{all-to}
 use Rattle.sizes.specs.Sizes.{perGroup, groupStride}

@@ -1,10 +1,9 @@
 -- `writing::side`, `some`, `branch` and `halves`, which call each other, meet their contracts: a slot whose total is 0 has no records
 -- at it and below it, and a prefix without halves none below it. Else its own come first, then the lower half's, then the upper's.
 -- The measure is four times the number of bits left, and 3, 2 and 1 more for `side`, `some` and `branch`. Assumes nothing.
-use mathlib.Core.Path.{_≡_, refl, sym, _∙_}
+use mathlib.Core.Path.{refl, sym, _∙_}
 use Prim.Native.Nat.{ℕ, _+_, _*_, _<_}
 use native.Mathlib.Omega.{arith}
-use lib.ListN.{length}
 use Rattle.numbers.specs.Number.{AreBytes}
 use Rattle.writing.proofs.Laws.{side-within, side-none, ask-own, ask-below, side-kept, side-some}
 use Rattle.writing.proofs.Laws.{branch-within, branch-none, branch-bare, ask-halves}

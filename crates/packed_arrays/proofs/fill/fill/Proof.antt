@@ -1,6 +1,6 @@
 -- `packed_arrays::fill::fill` puts one entry after the other. Assumes nothing.
-use mathlib.Core.Path.{_≡_, refl, sym, ap, _∙_}
-use Prim.Native.Nat.{_+_, _-_, _*_, _≤_}
+use mathlib.Core.Path.{_≡_, refl}
+use Prim.Native.Nat.{_-_, _≤_}
 use native.Mathlib.Omega.{arith}
 use Rattle.packed_arrays.specs.Filled.{Filled, filled-none, filled-more}
 use Rattle.packed_arrays.proofs.Laws.{slot-is}

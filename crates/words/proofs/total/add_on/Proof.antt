@@ -1,11 +1,10 @@
 -- `words::total::add_on` meets its contract. The loop's invariant: what is left to add is the whole. The measure is the level of
 -- the array. Assumes nothing.
-use mathlib.Core.Path.{_≡_, sym, ap, _∙_}
-use Prim.Native.Nat.{_≤_}
+use mathlib.Core.Path.{_≡_, ap, _∙_}
 use native.Mathlib.Omega.{arith}
 use lib.ListN.{length, getD}
 use borrow.Author.Needs.{needs}
-use Rattle.sizes.specs.Sizes.{mostWords, arrayAt}
+use Rattle.sizes.specs.Sizes.{arrayAt}
 use Rattle.array.specs.Tag.{levelIn}
 use Rattle.words.specs.Added.{in-size}
 use Rattle.words.specs.Climbing.{Rest, rest-all, rest-fits, rest-more, rest-done}
