@@ -9,7 +9,7 @@ LAID_OUT(update, 12, cells, uint32_t);
 LAID_OUT(ran, 40, refused, uint64_t);
 
 /* The proved functions, under the names that ./build gives them in the module. */
-uint32_t proved_damp_version_5(void);
+uint32_t proved_damp_version_6(void);
 uint32_t proved_damp_clear(slice *front);
 void proved_damp_check(toggleash_front *r, slice *front);
 void proved_damp_announce(toggleash_update *r, slice *front, slice *words, uint32_t address, uint32_t length, uint32_t hop,
@@ -23,8 +23,8 @@ void proved_damp_withdraw_local(toggleash_update *r, slice *front, slice *words,
 void proved_damp_tick_local(toggleash_front *r, slice *front, slice *words);
 void proved_damp_run_local(toggleash_ran *r, slice *front, slice *words, slice *feed, slice *reply);
 
-uint32_t toggleash_damp_version_5(void) {
-    return proved_damp_version_5();
+uint32_t toggleash_damp_version_6(void) {
+    return proved_damp_version_6();
 }
 
 uint32_t toggleash_damp_clear(uint32_t *front, size_t m) {

@@ -9,13 +9,13 @@ LAID_OUT(packed, 16, words, uint64_t);
 LAID_OUT(match, 16, length, uint32_t);
 
 /* The proved functions, under the names that ./build gives them in the module. */
-uint32_t proved_packed_version_5(void);
+uint32_t proved_packed_version_6(void);
 void proved_packed_need(toggleash_needed *r, slice *words);
 void proved_packed_build(toggleash_packed *r, slice *words, slice *packed);
 void proved_packed_lookup(toggleash_match *r, slice *packed, uint32_t address);
 
-uint32_t toggleash_packed_version_5(void) {
-    return proved_packed_version_5();
+uint32_t toggleash_packed_version_6(void) {
+    return proved_packed_version_6();
 }
 
 toggleash_needed toggleash_packed_need(const uint32_t *words, size_t n) {

@@ -9,11 +9,11 @@ LAID_OUT(hop, 8, gateway, uint32_t);
 _Static_assert(_Alignof(toggleash_hop) == 4, "an entry is not aligned as in the module");
 
 /* The proved functions, under the names that ./build gives them in the module. */
-uint32_t proved_resolve_version_5(void);
+uint32_t proved_resolve_version_6(void);
 void proved_resolve(toggleash_route *r, slice *words, slice *entries, uint32_t address);
 
-uint32_t toggleash_resolve_version_5(void) {
-    return proved_resolve_version_5();
+uint32_t toggleash_resolve_version_6(void) {
+    return proved_resolve_version_6();
 }
 
 toggleash_route toggleash_resolve(const uint32_t *words, size_t n, const toggleash_hop *entries, size_t count,

@@ -7,11 +7,11 @@
 LAID_OUT(written, 16, bytes, uint64_t);
 
 /* The proved functions, under the names that ./build gives them in the module. */
-uint32_t proved_shortest_version_5(void);
+uint32_t proved_shortest_version_6(void);
 void proved_shortest(toggleash_written *r, slice *words, slice *scratch, slice *buffer);
 
-uint32_t toggleash_shortest_version_5(void) {
-    return proved_shortest_version_5();
+uint32_t toggleash_shortest_version_6(void) {
+    return proved_shortest_version_6();
 }
 
 toggleash_written toggleash_shortest(const uint32_t *words, size_t n, uint32_t *scratch, size_t s, uint8_t *buffer,

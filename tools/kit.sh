@@ -11,6 +11,16 @@ stop() {
     exit 1
 }
 
+# Says where the kit at hand is another one than the project is pinned to, and goes on.
+tell_kit() {
+    found=$(rt version) || stop "the Rattle kit is not whole"
+    pinned=$(cat "$root/kit-version")
+    [ "$found" = "$pinned" ] && return
+    echo "$(basename "$0"): the Rattle kit here is another one than the project is pinned to:"
+    echo "$(basename "$0"):   pinned: $pinned"
+    echo "$(basename "$0"):   here:   $found"
+}
+
 # Sets `processor`, `kit`, the folder of the Rattle kit, and `toolchain`, the part of it that compiles on this processor.
 find_kit() {
     processor=$(uname -m)

@@ -1,5 +1,6 @@
 //! A list in each way that looks it up: the library's three engines, and what they are measured against.
 
+use reference::RouteList;
 use toggleash::{ffi, packed};
 
 use crate::boxed::Boxed;
@@ -26,6 +27,11 @@ pub struct Engines<'a> {
     huge: Option<Huge>,
     copy: Vec<u32>,
     packed: Vec<u32>,
+    others: Others<'a>,
+}
+
+/// What holds a list of any number of arrays: the tries, and DPDK's tables.
+pub struct Others<'a> {
     trie: Trie,
     boxed: Boxed,
     dpdk: Option<&'a Dpdk>,
@@ -42,17 +48,13 @@ impl Times {
 }
 
 impl Engines<'_> {
-    /// In a table of so many arrays. DPDK's tables are there once and hold the list of the last call.
+    /// In a table of so many arrays.
     pub fn new<'a>(load: &'a Load, arrays: usize, dpdk: Option<&'a Dpdk>) -> Engines<'a> {
         let words = table(&load.candidates, arrays);
         let mut packed = vec![0; packed::need(&words).expect("a table")];
         packed::build(&words, &mut packed).expect("words enough");
-        if let Some(dpdk) = dpdk {
-            dpdk.fill(&load.list);
-        }
         let (huge, copy) = (Huge::of(&words), copies::words(&load.candidates));
-        let (trie, boxed) = (Trie::new(&load.list), Boxed::new(&load.list));
-        Engines { load, words, huge, copy, packed, trie, boxed, dpdk }
+        Engines { load, words, huge, copy, packed, others: Others::new(&load.list, dpdk) }
     }
 
     /// How much of the two tables is in huge pages: by themselves, and where they were asked for.
@@ -73,24 +75,16 @@ impl Engines<'_> {
         ways.extend([
             Way::new("C loop with the same refusals", || sum_of_table(plain_checking, &self.words, addresses)),
             Way::new("C loop that trusts the words", || sum_of_table(plain_trusting, &self.words, addresses)),
-            Way::new("Rust trie of one bit a step, one vector", || self.trie.sum(addresses)),
-            Way::new(BOXES, || self.boxed.sum(addresses)),
         ]);
-        if let Some(Dpdk { lpm, fib }) = self.dpdk {
-            ways.extend([
-                Way::new(LPM, || lpm.sum(addresses)),
-                Way::new("DPDK's rte_fib_lookup_bulk, one at a time", || fib.sum(addresses, 1)),
-                Way::new(FIB, || fib.sum(addresses, AT_ONCE)),
-            ]);
-        }
+        ways.extend(self.others.ways(addresses));
         self.measure(scale, name, addresses.len(), ways)
     }
 
     /// The three engines, the trie with boxes and rte_lpm.
     pub fn few_lookups(&self, scale: &Scale, name: &str, addresses: &[u32]) -> Times {
         let mut ways = self.library(addresses);
-        ways.push(Way::new(BOXES, || self.boxed.sum(addresses)));
-        if let Some(Dpdk { lpm, .. }) = self.dpdk {
+        ways.push(Way::new(BOXES, || self.others.boxed.sum(addresses)));
+        if let Some(Dpdk { lpm, .. }) = self.others.dpdk {
             ways.push(Way::new(LPM, || lpm.sum(addresses)));
         }
         self.measure(scale, name, addresses.len(), ways)
@@ -108,5 +102,30 @@ impl Engines<'_> {
         let names: Vec<&'static str> = ways.iter().map(Way::name).collect();
         let medians = measure(&title("lookup", self.load, name), scale.rounds, count, ways);
         Times(names.into_iter().zip(medians).collect())
+    }
+}
+
+impl Others<'_> {
+    /// DPDK's tables are there once and hold the list of the last call.
+    pub fn new<'a>(list: &RouteList, dpdk: Option<&'a Dpdk>) -> Others<'a> {
+        if let Some(dpdk) = dpdk {
+            dpdk.fill(list);
+        }
+        Others { trie: Trie::new(list), boxed: Boxed::new(list), dpdk }
+    }
+
+    pub fn ways<'a>(&'a self, addresses: &'a [u32]) -> Vec<Way<'a>> {
+        let mut ways = vec![
+            Way::new("Rust trie of one bit a step, one vector", || self.trie.sum(addresses)),
+            Way::new(BOXES, || self.boxed.sum(addresses)),
+        ];
+        if let Some(Dpdk { lpm, fib }) = self.dpdk {
+            ways.extend([
+                Way::new(LPM, || lpm.sum(addresses)),
+                Way::new("DPDK's rte_fib_lookup_bulk, one at a time", || fib.sum(addresses, 1)),
+                Way::new(FIB, || fib.sum(addresses, AT_ONCE)),
+            ]);
+        }
+        ways
     }
 }

@@ -1,8 +1,8 @@
 //! Measures the library beside other ways of doing the same, all in one run: `bench/run`, with `--lookups` for lookups of IPv4
-//! by all engines alone, with `--runs` for the updates inside an IPv4 run alone, with `--local` for local updates alone, with
-//! `--whole` for the calls that read a whole IPv4 table alone, with `--six` for IPv6 alone, with `--packed`, `--shortest` and
-//! `--fronts` for compressed tables, the shortest list and fronts alone, with `--quick` for a rough look. A line gives the median
-//! time of one call and how much of it the library takes.
+//! by all engines alone, with `--full` for a full internet list in a copy, with `--runs` for the updates inside an IPv4 run alone,
+//! with `--local` for local updates alone, with `--whole` for the calls that read a whole IPv4 table alone, with `--six` for IPv6
+//! alone, with `--packed`, `--shortest` and `--fronts` for compressed tables, the shortest list and fronts alone, with `--quick` for
+//! a rough look. A line gives the median time of one call and how much of it the library takes.
 
 mod axis;
 mod bars;
@@ -15,6 +15,7 @@ mod dump;
 mod engines;
 mod fib;
 mod fronts;
+mod full;
 mod growth;
 mod huge;
 mod insides;
@@ -48,7 +49,8 @@ use trie::Trie;
 const ARRAYS: usize = 4_096;
 const ROUTES: usize = 100_000;
 /// The parts that are measured alone where they are named.
-const PARTS: [&str; 8] = ["--lookups", "--runs", "--local", "--whole", "--six", "--packed", "--shortest", "--fronts"];
+const PARTS: [&str; 9] =
+    ["--lookups", "--full", "--runs", "--local", "--whole", "--six", "--packed", "--shortest", "--fronts"];
 /// About as many as the internet's routers hold.
 const MOST: usize = 1_000_000;
 
@@ -71,6 +73,9 @@ fn main() {
     println!("one call, median of {} rounds; last column: the library's time over this one's", scale.rounds);
     if named("--lookups") {
         lookups::measure_all(&mut random(), &scale, dpdk.as_ref());
+    }
+    if parts == ["--full"] {
+        full::measure_all(&mut random(), &scale, dpdk.as_ref());
     }
     if parts.is_empty() {
         calls(&mut random(), &scale, lpm);

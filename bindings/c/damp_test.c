@@ -157,7 +157,7 @@ int main(void) {
     same("clear", 0, toggleash_damper_clear(damper));
     memset(words, 255, sizeof words);
     refused(damper, table, TOGGLEASH_NOT_A_TABLE);
-    same("version", TOGGLEASH_VERSION, toggleash_damp_version_5());
+    same("version", TOGGLEASH_VERSION, toggleash_damp_version_6());
     same("text", 0, (uint64_t)(strstr(toggleash_damp_text(2), "front") == NULL));
     same("text of 1", 0, (uint64_t)strcmp(toggleash_damp_text(1), toggleash_refusal_text(1)));
     return told();

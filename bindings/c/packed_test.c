@@ -145,7 +145,7 @@ int main(void) {
     masks(table);
     carried(table);
     refused(table);
-    same("version", TOGGLEASH_VERSION, toggleash_packed_version_5());
+    same("version", TOGGLEASH_VERSION, toggleash_packed_version_6());
     same("text", 0, (uint64_t)abs(strcmp(toggleash_packed_text(9), "the words are fewer than the compressed table needs")));
     same("text of 1", 0, (uint64_t)abs(strcmp(toggleash_packed_text(1), toggleash_refusal_text(1))));
     return told();

@@ -21,7 +21,7 @@ static void hold(toggleash_table table, uint32_t address, uint32_t length, uint3
     same("announce", 0, toggleash_table_announce(table, address, length, hop, 1, 0).refusal);
 }
 
-/* The worked cases of docs/STATEMENTS.md: none to three gateways, a loop, no entry. */
+/* The worked cases of docs/EDITS.md: none to three gateways, a loop, no entry. */
 static void gateways(toggleash_table table) {
     static const toggleash_hop five[] = {
         {1, 0}, {0, IP(192, 0, 2, 9)}, {0, IP(10, 9, 9, 9)}, {64, IP(10, 1, 0, 1)}, {0, IP(10, 1, 0, 1)}};
@@ -72,7 +72,7 @@ int main(void) {
     memset(words, 255, sizeof words);
     route("no table", toggleash_table_resolve(table, many, 256, 0), TOGGLEASH_NOT_A_TABLE, 0, 0, 0);
     route("no table, 257", toggleash_table_resolve(table, many, 257, 0), TOGGLEASH_NO_ENTRY, 0, 0, 0);
-    same("version", TOGGLEASH_VERSION, toggleash_resolve_version_5());
+    same("version", TOGGLEASH_VERSION, toggleash_resolve_version_6());
     same("text", 0, (uint32_t)strcmp(toggleash_resolve_text(22), "no interface after four lookups"));
     same("text of 1", 0, (uint32_t)strcmp(toggleash_resolve_text(1), toggleash_refusal_text(1)));
     return told();

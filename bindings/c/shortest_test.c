@@ -133,7 +133,7 @@ int main(void) {
     same("clear", 0, toggleash_table_clear(table));
     refusals(table);
     same("bytes", 25, TOGGLEASH_SHORTEST_BYTES(3));
-    same("version", TOGGLEASH_VERSION, toggleash_shortest_version_5());
+    same("version", TOGGLEASH_VERSION, toggleash_shortest_version_6());
     same("text", 0, (uint64_t)abs(strcmp(toggleash_shortest_text(23), "the table has no default route")));
     same("text of 2", 0, (uint64_t)abs(strcmp(toggleash_shortest_text(2), toggleash_refusal_text(2))));
     return told();

@@ -548,7 +548,7 @@ static void sizes(void) {
 }
 
 static void texts(void) {
-    same("version", TOGGLEASH_VERSION, toggleash_version_5());
+    same("version", TOGGLEASH_VERSION, toggleash_version_6());
     for (uint32_t i = 0; i <= 11; i++) {
         int none = strcmp(toggleash_refusal_text(i), toggleash_refusal_text(6)) == 0;
         same("text of a refusal", i == 6 || i == 11, (uint64_t)none);

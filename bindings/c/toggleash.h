@@ -88,8 +88,8 @@ enum {
                                    words do not have, or a total over 511 for each array of the words.
                                    Nor do the local calls; they give 2 where the path to the prefix's array, or an array
                                    that they would gain, is not as in a table (docs/LAYOUT.md).
-                                   From toggleash_copy_need and making a copy: the bytes are not one whole list of a
-                                   table, of any room, in records of kind 4 or of kind 1 alone. From a lookup in a copy:
+                                   From toggleash_copy_need and making a copy: the bytes are not one whole written-out
+                                   list, of any room, in records of kind 4 or of kind 1 alone. From a lookup in a copy:
                                    the words are fewer than 1,024, its walk meets a hash table that does not lie inside
                                    them, or it ends with a best match that no copy has (docs/COPY.md) */
     TOGGLEASH_LENGTH_OVER_32 = 3,
@@ -158,8 +158,8 @@ enum {
  * It rises with any change that a caller would not notice else, and the archive has it as the name of a function. Each
  * file that includes this header keeps a pointer to that function, four or eight bytes: so a program whose header and
  * archive are of two versions does not link, `undefined reference to toggleash_version_..`. */
-#define TOGGLEASH_VERSION 5
-uint32_t toggleash_version_5(void); /* returns 5 */
+#define TOGGLEASH_VERSION 6
+uint32_t toggleash_version_6(void); /* returns 6 */
 
 #if defined(__GNUC__) && !defined(TOGGLEASH_ARCHIVE) /* which the archive's own files define */
 #if defined(__has_attribute)
@@ -172,7 +172,7 @@ uint32_t toggleash_version_5(void); /* returns 5 */
 #endif
 #pragma GCC diagnostic push
 #pragma GCC diagnostic ignored "-Wattributes" /* a compiler may know the word and not its assembler */
-static uint32_t (*const toggleash_version_linked_)(void) TOGGLEASH_KEPT_ = toggleash_version_5;
+static uint32_t (*const toggleash_version_linked_)(void) TOGGLEASH_KEPT_ = toggleash_version_6;
 #pragma GCC diagnostic pop
 #endif
 
@@ -247,7 +247,8 @@ typedef struct {
     uint64_t refused;  /* records refused */
 } toggleash_ran;
 
-/* What a copy needs. */
+/* What a copy needs. Of a long list that may be more than a machine of 32 bits can lend: see that words is at most
+ * SIZE_MAX / 4 before you ask for the memory. */
 typedef struct {
     uint32_t refusal; /* 0 or 2 */
     uint64_t words;   /* 8 * (routes + markers) + 1,024 */
@@ -314,9 +315,9 @@ TOGGLEASH_ANSWER toggleash_ran toggleash_run_local(uint32_t *words, size_t n, co
                                                    uint8_t *reply, size_t reply_len);
 
 /* Counts the words that a copy of a written-out list's winners needs. Refuses with 2 exactly where the bytes, all of them, are
- * not what toggleash_write_out writes for some table: records of candidates in order, the end, nothing after it. A list of
- * kind 1 records, one for each prefix, is taken too; one of both kinds is not. 0 bytes, which may be null, are no list; the
- * empty list is one byte 0. */
+ * not a list in the form that toggleash_write_out writes: records of candidates in order, the end, nothing after it. How many
+ * arrays a table would need for it is not asked: a full internet table has a copy. A list of kind 1 records, one for each
+ * prefix, is taken too; one of both kinds is not. 0 bytes, which may be null, are no list; the empty list is one byte 0. */
 TOGGLEASH_ANSWER toggleash_needed toggleash_copy_need(const uint8_t *bytes, size_t bytes_len);
 
 /* Makes the words a copy of the list's winners, whatever they hold; words past those needed stay. Refuses with 2 as

@@ -18,7 +18,7 @@
 
 #include "toggleash.h"
 
-#if TOGGLEASH_VERSION != 5
+#if TOGGLEASH_VERSION != 6
 #error "toggleash.h is of another version than toggleash_packed.h"
 #endif
 
@@ -40,12 +40,12 @@ typedef struct {
 } toggleash_packed;
 
 /* The archive's version, kept as that of toggleash.h is: it rises with it. */
-uint32_t toggleash_packed_version_5(void); /* returns 5 */
+uint32_t toggleash_packed_version_6(void); /* returns 6 */
 
 #if defined(__GNUC__) && !defined(TOGGLEASH_ARCHIVE)
 #pragma GCC diagnostic push
 #pragma GCC diagnostic ignored "-Wattributes"
-static uint32_t (*const toggleash_packed_version_linked_)(void) TOGGLEASH_KEPT_ = toggleash_packed_version_5;
+static uint32_t (*const toggleash_packed_version_linked_)(void) TOGGLEASH_KEPT_ = toggleash_packed_version_6;
 #pragma GCC diagnostic pop
 #endif
 

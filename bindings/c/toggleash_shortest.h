@@ -22,7 +22,7 @@
 
 #include "toggleash.h"
 
-#if TOGGLEASH_VERSION != 5
+#if TOGGLEASH_VERSION != 6
 #error "toggleash.h is of another version than toggleash_shortest.h"
 #endif
 
@@ -47,12 +47,12 @@ enum {
 #define TOGGLEASH_SHORTEST_BYTES(routes) ((size_t)8 * (size_t)(routes) + 1)
 
 /* The archive's version, kept as that of toggleash.h is: it rises with it. */
-uint32_t toggleash_shortest_version_5(void); /* returns 5 */
+uint32_t toggleash_shortest_version_6(void); /* returns 6 */
 
 #if defined(__GNUC__) && !defined(TOGGLEASH_ARCHIVE)
 #pragma GCC diagnostic push
 #pragma GCC diagnostic ignored "-Wattributes"
-static uint32_t (*const toggleash_shortest_version_linked_)(void) TOGGLEASH_KEPT_ = toggleash_shortest_version_5;
+static uint32_t (*const toggleash_shortest_version_linked_)(void) TOGGLEASH_KEPT_ = toggleash_shortest_version_6;
 #pragma GCC diagnostic pop
 #endif
 

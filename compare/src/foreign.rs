@@ -2,7 +2,7 @@
 
 use reference::copy::HEADER;
 
-use crate::copies::{addresses, look_up};
+use crate::copies::{addresses, look_up, BOXES};
 use crate::guard::{Lent, Side};
 use crate::lists::{any_encoding, any_list};
 use crate::pair::Same;
@@ -34,12 +34,11 @@ pub fn damaged(random: &mut Random, tally: &mut Tally) -> Same {
     for _ in 0..random.pick(&[1, 1, 1, 2, 3, 8]) {
         damage(random, &mut words);
     }
-    let addresses = addresses(random, list.winners());
+    let addresses = addresses(random, list.winners(), BOXES);
     looked_up(random, &words, &addresses, tally)
 }
 
-/// Tables anywhere, over one another and over the header, with places that are mostly taken, and by the bits of the
-/// addresses looked up.
+/// Tables anywhere, over one another, with places that are mostly taken, and by the bits of the addresses looked up.
 pub fn made_up(random: &mut Random, tally: &mut Tally) -> Same {
     let any = random.within(HEADER..=4 * HEADER);
     let count = if random.chance(20) { random.pick(&SIZES) } else { any };
@@ -48,7 +47,6 @@ pub fn made_up(random: &mut Random, tally: &mut Tally) -> Same {
     let mut words: Vec<u32> = (0..count).map(|_| random.word()).collect();
     if count >= USED && odd < 100 {
         let begins: Vec<u32> = (1..=32).flat_map(|m| put_table(random, &mut words, m, &addresses, odd)).collect();
-        // The tables may lie over the header, which is written last, so that its numbers are not lost.
         words[0] = if random.chance(20) { random.pick(&BESTS) } else { 7 * 256 };
         words[2..USED].copy_from_slice(&begins);
     }
@@ -72,8 +70,9 @@ fn looked_up(random: &mut Random, words: &[u32], addresses: &[u32], tally: &mut 
 /// Begin and number of entries of a table of length m that lies somewhere, mostly inside, with its places written; so
 /// many words of them in a hundred are any.
 fn put_table(random: &mut Random, words: &mut [u32], m: u32, addresses: &[u32], odd: usize) -> [u32; 2] {
-    let begin = random.below(words.len());
-    let most = (words.len() - begin) / ENTRY;
+    let room = words.len().saturating_sub(HEADER) / ENTRY;
+    let before = random.within(0..=room);
+    let (begin, most) = ((HEADER + ENTRY * before).min(words.len()), room - before);
     // Few reach to the end, as those take the words of others.
     let large = random.pick(&[5, 8, most]);
     let entries = random.pick(&[0, 1, 1, 2, 2, 3, 3, large]).min(most);
@@ -83,7 +82,7 @@ fn put_table(random: &mut Random, words: &mut [u32], m: u32, addresses: &[u32], 
     for word in keys.iter_mut().chain(bests) {
         *word = if random.chance(odd) { random.word() } else { *word };
     }
-    [begin as u32, (entries + usize::from(random.chance(1))) as u32]
+    [before as u32, (entries + usize::from(random.chance(1))) as u32]
 }
 
 /// The key of a place of length m: free, mostly of an address's first bits, or of its first bits of any number.
@@ -127,7 +126,7 @@ type Lying = (usize, usize, usize);
 
 /// A table with entries that lies inside, if one is met.
 fn some_table(random: &mut Random, words: &[u32]) -> Option<Lying> {
-    let table = |m: usize| (m, words[2 * m] as usize, words[2 * m + 1] as usize);
+    let table = |m: usize| (m, HEADER + ENTRY * words[2 * m] as usize, words[2 * m + 1] as usize);
     let lies = |&(_, begin, entries): &Lying| entries > 0 && begin + ENTRY * entries <= words.len();
     (0..40).map(|_| table(random.within(1..=32))).find(lies)
 }
@@ -195,14 +194,18 @@ fn one_place(random: &mut Random, Places { length, keys, bests }: &mut Places) {
 /// The table of length m begins elsewhere or has another number of entries: at the borders of what lies inside, far
 /// over them, and where the end of the table is inside modulo 2^32.
 fn begin_or_entries(random: &mut Random, words: &mut [u32], m: usize) {
-    let (count, any, each) = (words.len() as u32, random.below(words.len()) as u32, ENTRY as u32);
-    let (begin, entries) = (words[2 * m], words[2 * m + 1]);
-    let last = count.saturating_sub(entries.saturating_mul(each));
-    let most = count.saturating_sub(begin) / each;
-    let round = 0u32.wrapping_sub(entries.wrapping_mul(each));
+    let count = (words.len() - HEADER) as u32 / ENTRY as u32;
+    let any = random.within(0..=count as usize) as u32;
+    let (before, entries) = (words[2 * m], words[2 * m + 1]);
+    let last = count.saturating_sub(entries);
+    let most = count.saturating_sub(before);
+    let round = 0u32.wrapping_sub(entries);
     let far = random.pick(&ENTRIES);
     match random.chance(50) {
-        true => words[2 * m] = random.pick(&[0, last, last + 1, count, count + 1, any, begin ^ 4, round, u32::MAX]),
+        true => {
+            words[2 * m] =
+                random.pick(&[0, last, last + 1, count, count + 1, any, before ^ 4, round, 1 << 29, u32::MAX])
+        }
         false => {
             let more = entries.wrapping_add(1);
             words[2 * m + 1] = random.pick(&[0, more, entries / 2, most, most + 1, far, entries.wrapping_add(far)]);

@@ -88,6 +88,16 @@ pub fn any_list(random: &mut Random, prefixes: usize) -> CandidateList {
     rivalled(random, &routes)
 }
 
+/// A list of all lengths that needs just so many arrays, however many a table has.
+pub fn wide(random: &mut Random, arrays: usize) -> CandidateList {
+    let mut growing = Growing::default();
+    while growing.need() < arrays {
+        let length = random.below(33) as u32;
+        growing.grow(Prefix::around(random.word(), length), hop(random), arrays);
+    }
+    rivalled(random, &growing.list())
+}
+
 /// Bytes that a copy of the list's winners can be made from: as it is written out, or as plain routes.
 pub fn any_encoding(random: &mut Random, list: &CandidateList) -> Vec<u8> {
     match random.chance(70) {

@@ -59,6 +59,8 @@ const FLAPS: Share =
 
 /// Copies that a plain run builds from lists, and lists and copies that it damages.
 const COPIES: u64 = 600;
+/// The arrays that lists need, beside those: as many as a table has, more, those of a full internet table, and still more.
+const ROOMS: [usize; 5] = [4_096, 4_097, 4_098, 26_065, 44_096];
 const DAMAGED_COPIES: u64 = 24_000;
 /// Memories that a plain run resolves addresses in.
 const RESOLVED: u64 = 2_000;
@@ -113,6 +115,7 @@ fn compare_library(options: &Options) -> u64 {
     others::<u32, u128>(options, "IPv6 tables for IPv4", &mut tally);
     others::<u128, u32>(options, "IPv4 tables for IPv6", &mut tally);
     all_copies(options, &mut tally);
+    copies_of_any_room(options, &mut tally);
     damaged_copies(options, &mut tally);
     compare::shorts::compare(|part, case| begin(options, part, case), options.times, &mut tally);
     compare::packs::compare(|part, case| begin(options, part, case), options.times, &mut tally);
@@ -234,13 +237,18 @@ fn all_copies(options: &Options, tally: &mut Tally) {
     });
 }
 
-/// Bytes that are hardly a list, and words that are hardly a copy. The first lists need 4,096 arrays, one more and two;
-/// then comes one of about 50,000 routes, too sparse for any table, and some of IPv6.
+/// Lists that no table has room for, but for the first.
+fn copies_of_any_room(options: &Options, tally: &mut Tally) {
+    cases(options, tally, ("copies of any room", ROOMS.len() as u64), |random, case, tally| {
+        let arrays = ROOMS[case as usize];
+        copies::of_any_room(random, arrays, tally).map_err(|text| format!("{text} (for {arrays} arrays)"))
+    });
+}
+
+/// Bytes that are hardly a list, and words that are hardly a copy. The first lists are of IPv6.
 fn damaged_copies(options: &Options, tally: &mut Tally) {
     cases(options, tally, ("damaged copies", DAMAGED_COPIES), |random, case, tally| match case {
-        0..=2 => unlisted::widest(random, case as usize, tally),
-        3 => unlisted::widest(random, 40_000, tally),
-        4..=50 => unlisted::of_ipv6(random, tally),
+        0..=50 => unlisted::of_ipv6(random, tally),
         _ if case % 3 == 0 => unlisted::torn(random, tally),
         _ if case % 3 == 1 => foreign::damaged(random, tally),
         _ => foreign::made_up(random, tally),

@@ -1,12 +1,11 @@
 //! Bytes that are no written-out list, or hardly one: need and build are called on them under guard.
 
-use reference::memory::MOST_ARRAYS;
-use reference::{CandidateList, Prefix};
+use reference::CandidateList;
 
 use crate::copies::{build, need};
-use crate::feeds::{hop, Terrain};
+use crate::feeds::Terrain;
 use crate::guard::{Lent, Side};
-use crate::lists::{any_list, filling, rivalled, Growing};
+use crate::lists::{any_list, filling};
 use crate::pair::Same;
 use crate::random::Random;
 use crate::tally::Tally;
@@ -52,18 +51,6 @@ pub fn of_ipv6(random: &mut Random, tally: &mut Tally) -> Same {
     let terrain = Terrain::<u128>::new(random, arrays);
     let list = filling(random, &terrain, arrays);
     every_call(random, &list.encoding(), tally)
-}
-
-/// A list of all lengths that needs just as many arrays as a table can have, or so many more.
-pub fn widest(random: &mut Random, more: usize, tally: &mut Tally) -> Same {
-    let mut growing = Growing::default();
-    while growing.need() < MOST_ARRAYS + more {
-        let length = random.below(33) as u32;
-        growing.grow(Prefix::around(random.word(), length), hop(random), MOST_ARRAYS + more);
-    }
-    let list = rivalled(random, &growing.list());
-    every_call(random, &list.encoding(), tally)?;
-    every_call(random, &list.winners().encoding(), tally)
 }
 
 /// Need, and builds into no word, too few, just enough and more.

@@ -1,7 +1,7 @@
 //! The reading of docs/COPY.md, on cases worked by hand: ways, markers and need, bytes that are a list or just not, a
 //! copy laid out word by word, and each number that the walk refuses.
 
-use reference::copy::{build, kept, listed, markers, need, stands, turns, walk, Built};
+use reference::copy::{build, header, kept, listed, markers, need, stands, turns, walk, Built};
 use reference::{Prefix, Refusal, RouteList};
 
 const NO: Refusal = Refusal::NotATable;
@@ -173,13 +173,13 @@ fn lists_of_candidates_that_are_none() {
     assert_eq!(listed(&ended(&[&one, &[0]])), Err(NO));
 }
 
-/// The heads of arrays count once however many candidates their prefixes have.
+/// Prefixes and markers count once however many candidates they have.
 #[test]
-fn room_of_a_list_of_candidates() {
+fn need_of_a_list_of_candidates() {
     let heads = |count: u32| (0..count).flat_map(|head| (1..3).map(move |feed| by_feed(head << 16, 17, 1, feed, 0)));
     let list_of = |count: u32| heads(count).chain([vec![0]]).collect::<Vec<_>>().concat();
     assert_eq!(need(&list_of(4_079)), Ok(8 * 2 * 4_079 + 1_024));
-    assert_eq!(need(&list_of(4_080)), Err(NO));
+    assert_eq!(need(&list_of(4_080)), Ok(8 * 2 * 4_080 + 1_024));
 }
 
 /// A route of length 17 for each of so many first 16 bits, from 0.0 on.
@@ -192,11 +192,12 @@ fn halves(count: u32) -> Vec<u8> {
 }
 
 #[test]
-fn no_table_has_more_arrays() {
-    // 1, 16 for the first bytes 0 to 15, and 4,079 for the first 16 bits: 4,096
+fn lists_of_any_room() {
+    // 1, 16 for the first bytes 0 to 15, and 4,079 for the first 16 bits: 4,096, which is as many as a table has
     let most = 4_079;
-    assert_eq!(need(&halves(most)), Ok(8 * 2 * 4_079 + 1_024));
-    assert_eq!(need(&halves(most + 1)), Err(NO));
+    for count in [most, most + 1, 65_536] {
+        assert_eq!(need(&halves(count)), Ok(8 * 2 * count as usize + 1_024));
+    }
 }
 
 /// 10.0.0.0/8 via 1, 10.1.0.0/20 via 3 and 10.1.4.0/22 via 2. The marker 10.1.0.0/16 has the /8 as its best match.
@@ -214,7 +215,7 @@ fn key(bits: u32) -> u32 {
 
 /// Puts a table of length m at the end of the words, four places for each entry.
 fn push_table(words: &mut Vec<u32>, m: usize, places: Places) {
-    words[2 * m] = words.len() as u32;
+    words[2 * m] = (words.len() as u32 - 1_024) / 8;
     words[2 * m + 1] = places.len() as u32 / 4;
     words.extend(places.iter().map(|place| place.0));
     words.extend(places.iter().map(|place| place.1));
@@ -224,7 +225,6 @@ fn push_table(words: &mut Vec<u32>, m: usize, places: Places) {
 /// other length has entries.
 fn laid(tables: &[(usize, usize, u32, u32)]) -> Vec<u32> {
     let mut words = vec![0; 1_024];
-    (1..=32).for_each(|m| words[2 * m] = 1_024);
     for &(m, place, bits, best) in tables {
         let mut places = [(0, 0); 4];
         places[place] = (key(bits), best);
@@ -270,12 +270,12 @@ fn words_that_are_a_copy() {
     let past: Vec<u32> = words().into_iter().chain([7, 7, 7]).collect();
     assert!(stands(&sample(), &past));
     // words without a use, the best match of a free place, and an empty table anywhere past the header
-    assert!(of(&[(1, 9), (66, 9), (1_023, 9), (1_029, 9), (2, 1_056)]));
-    for change in [(0, 256), (2, 1_023), (2, 1_057), (2, u32::MAX), (2 * 32 + 1, 5), (2 * 32 + 1, 1 << 29)] {
+    assert!(of(&[(1, 9), (66, 9), (1_023, 9), (1_029, 9), (2, 4)]));
+    for change in [(0, 256), (2, 5), (2, 1 << 29), (2, u32::MAX), (2 * 32 + 1, 5), (2 * 32 + 1, 1 << 29)] {
         assert!(!of(&[change]), "{change:?}");
     }
     // a table that lies inside the words, but not inside those needed
-    let (mut past, needed) = (with(&[(2, 1_056)]), 1_056);
+    let (mut past, needed) = (with(&[(2, 4)]), 4);
     past.extend([0; 8]);
     assert!(stands(&sample(), &past));
     past[2] = needed + 1;
@@ -359,6 +359,17 @@ fn words_that_a_build_leaves() {
     assert_eq!(kept(&default, 1_032), [1].into_iter().chain(66..1_032).collect::<Vec<_>>());
 }
 
+/// The entries of all shorter lengths, and the length's own: one each of 8, 16, 20 and 22 here.
+#[test]
+fn the_header_of_a_build() {
+    let lengths = [8, 16, 20, 22];
+    let number = |m: u32| lengths.iter().filter(|&&length| length < m).count() as u32;
+    let two = |m: u32| [(2 * m as usize, number(m)), (2 * m as usize + 1, number(m + 1) - number(m))];
+    assert_eq!(header(&sample()), (1..=32).flat_map(two).collect::<Vec<_>>());
+    // the default route has no table
+    assert!(header(&list(&[(0, 0, 1)])).iter().all(|word| word.1 == 0));
+}
+
 const TEN: u32 = 0x0A01_0509;
 /// An address that the sample has no route for.
 const ELEVEN: u32 = 0x0B00_0000;
@@ -372,31 +383,33 @@ fn the_walks_refusals() {
     assert_eq!(at(&[]), Ok(Some((2, 22))));
     assert_eq!(walk(&words()[..1_023], TEN), Err(NO));
     assert_eq!(walk(&[], TEN), Err(NO));
-    // tables without entries lie inside any words, at word 0
+    // tables without entries lie inside any words, after the header
     assert_eq!([1_023, 1_024].map(|count| walk(&vec![0; count], TEN)), [Err(NO), Ok(None)]);
     // the tables of 16, 24, 20, 22 and 23 are looked into, that of 18 is not
     for m in [16, 24, 20, 22, 23] {
-        for begin in [1_057, u32::MAX - 7, u32::MAX] {
-            assert_eq!(at(&[(2 * m, begin)]), Err(NO), "{m} {begin}");
+        // eight times the middle ones is 0 or 8 modulo 2^32
+        for before in [5, 1 << 29, (1 << 29) + 1, 1 << 30, 1 << 31, u32::MAX - 7, u32::MAX] {
+            assert_eq!(at(&[(2 * m, before)]), Err(NO), "{m} {before}");
         }
         // eight times the last four is 0 or 8 modulo 2^32
         for entries in [5, u32::MAX, 1 << 28, 1 << 29, (1 << 29) + 1, 1 << 30, 1 << 31] {
             assert_eq!(at(&[(2 * m + 1, entries)]), Err(NO), "{m} {entries}");
         }
-        // begin and size are 2^32 together
-        assert_eq!(at(&[(2 * m, u32::MAX - 7), (2 * m + 1, 1)]), Err(NO), "{m}");
+        // both together are 2^32, or 2^32 words
+        assert_eq!(at(&[(2 * m, u32::MAX), (2 * m + 1, 1)]), Err(NO), "{m}");
+        assert_eq!(at(&[(2 * m, (1 << 29) - 1), (2 * m + 1, 1)]), Err(NO), "{m}");
     }
     assert_eq!(at(&[(2 * 18, u32::MAX), (2 * 18 + 1, u32::MAX)]), Ok(Some((2, 22))));
 }
 
 #[test]
 fn a_table_ends_by_the_end_of_the_words() {
-    let at = |begin, entries| walk(&with(&[(2 * 24, begin), (2 * 24 + 1, entries)]), TEN);
-    for (begin, entries) in [(1_056, 0), (1_048, 1), (1_024, 4), (0, 0), (0, 132)] {
-        assert_eq!(at(begin, entries), Ok(Some((2, 22))), "{begin} {entries}");
+    let at = |before, entries| walk(&with(&[(2 * 24, before), (2 * 24 + 1, entries)]), TEN);
+    for (before, entries) in [(4, 0), (3, 1), (0, 4), (0, 0), (2, 2)] {
+        assert_eq!(at(before, entries), Ok(Some((2, 22))), "{before} {entries}");
     }
-    for (begin, entries) in [(1_057, 0), (1_049, 1), (1_025, 4), (u32::MAX, 0), (0, 133), (1, 132)] {
-        assert_eq!(at(begin, entries), Err(NO), "{begin} {entries}");
+    for (before, entries) in [(5, 0), (4, 1), (1, 4), (0, 5), (u32::MAX, 0)] {
+        assert_eq!(at(before, entries), Err(NO), "{before} {entries}");
     }
 }
 

@@ -1,4 +1,4 @@
-//! The worked cases of docs/STATEMENTS.md, Item 11.
+//! The worked cases of docs/EDITS.md, Item 11.
 
 use reference::resolve::{resolve, Entry, Reached};
 use reference::{Memory, Refusal};

@@ -37,7 +37,8 @@ pub struct Built {
     pub markers: usize,
 }
 
-/// The number of words that a copy of a written-out list needs: 8 × (routes + markers) + 1,024.
+/// The number of words that a copy of a written-out list needs: 8 × (routes + markers) + 1,024. Where a `usize` cannot tell it,
+/// [`usize::MAX`], which no slice of words has.
 ///
 /// ```
 /// use toggleash::{copy, Refusal};
@@ -51,12 +52,13 @@ pub struct Built {
 /// ```
 ///
 /// # Errors
-/// [`Refusal::NotATable`] exactly where the bytes, all of them, are not what [`write_out`](crate::write_out) writes for
-/// some table. A list of kind 1 records, one for each prefix, is taken too; one of both kinds is not.
+/// [`Refusal::NotATable`] exactly where the bytes, all of them, are not a list in the form that
+/// [`write_out`](crate::write_out) writes, whatever arrays a table would need for it. A list of kind 1 records, one for each
+/// prefix, is taken too; one of both kinds is not.
 pub fn need(bytes: &[u8]) -> Result<usize, Refusal> {
     let needed = unsafe { ffi::toggleash_copy_need(bytes.as_ptr(), bytes.len()) };
     accepted(needed.refusal)?;
-    Ok(count(needed.words))
+    Ok(usize::try_from(needed.words).unwrap_or(usize::MAX))
 }
 
 /// Makes the words a copy of a written-out list's winners, whatever they hold. Words past those needed stay.

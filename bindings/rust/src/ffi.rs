@@ -113,18 +113,18 @@ pub struct Front {
 
 /// Kept in each program, so that an archive of another version does not link.
 #[used]
-static VERSION: unsafe extern "C" fn() -> u32 = toggleash_version_5;
+static VERSION: unsafe extern "C" fn() -> u32 = toggleash_version_6;
 #[used]
-static RESOLVE_VERSION: unsafe extern "C" fn() -> u32 = toggleash_resolve_version_5;
+static RESOLVE_VERSION: unsafe extern "C" fn() -> u32 = toggleash_resolve_version_6;
 #[used]
-static PACKED_VERSION: unsafe extern "C" fn() -> u32 = toggleash_packed_version_5;
+static PACKED_VERSION: unsafe extern "C" fn() -> u32 = toggleash_packed_version_6;
 #[used]
-static SHORTEST_VERSION: unsafe extern "C" fn() -> u32 = toggleash_shortest_version_5;
+static SHORTEST_VERSION: unsafe extern "C" fn() -> u32 = toggleash_shortest_version_6;
 #[used]
-static DAMP_VERSION: unsafe extern "C" fn() -> u32 = toggleash_damp_version_5;
+static DAMP_VERSION: unsafe extern "C" fn() -> u32 = toggleash_damp_version_6;
 
 extern "C" {
-    pub fn toggleash_version_5() -> u32;
+    pub fn toggleash_version_6() -> u32;
     pub fn toggleash_clear(words: *mut u32, n: usize) -> u32;
     pub fn toggleash_check(words: *const u32, n: usize) -> Counts;
     pub fn toggleash_lookup(words: *const u32, n: usize, address: u32) -> Answer;
@@ -214,13 +214,13 @@ extern "C" {
 
 // of libtoggleash_resolve.a; bindings/c/toggleash_resolve.h says what it takes and gives
 extern "C" {
-    pub fn toggleash_resolve_version_5() -> u32;
+    pub fn toggleash_resolve_version_6() -> u32;
     pub fn toggleash_resolve(words: *const u32, n: usize, entries: *const Hop, count: usize, address: u32) -> Route;
 }
 
 // of libtoggleash_packed.a; bindings/c/toggleash_packed.h says what they take and give
 extern "C" {
-    pub fn toggleash_packed_version_5() -> u32;
+    pub fn toggleash_packed_version_6() -> u32;
     pub fn toggleash_packed_need(words: *const u32, n: usize) -> Needed;
     pub fn toggleash_packed_build(words: *const u32, n: usize, packed: *mut u32, m: usize) -> Packed;
     pub fn toggleash_packed_lookup(packed: *const u32, m: usize, address: u32) -> Match;
@@ -228,7 +228,7 @@ extern "C" {
 
 // of libtoggleash_shortest.a; bindings/c/toggleash_shortest.h says what it takes and gives
 extern "C" {
-    pub fn toggleash_shortest_version_5() -> u32;
+    pub fn toggleash_shortest_version_6() -> u32;
     pub fn toggleash_shortest(
         words: *const u32,
         n: usize,
@@ -241,7 +241,7 @@ extern "C" {
 
 // of libtoggleash_damp.a; bindings/c/toggleash_damp.h says what they take and give
 extern "C" {
-    pub fn toggleash_damp_version_5() -> u32;
+    pub fn toggleash_damp_version_6() -> u32;
     pub fn toggleash_damp_clear(front: *mut u32, m: usize) -> u32;
     pub fn toggleash_damp_check(front: *const u32, m: usize) -> Front;
     pub fn toggleash_damp_announce(

@@ -347,8 +347,7 @@ fn ran(ran: ffi::Ran) -> Result<Ran, Refusal> {
     })
 }
 
-/// Counts are at most the length of a slice; what a copy or a compressed table needs is below 2^32, as its list needs at most
-/// 4,096 arrays.
+/// Counts are at most the length of a slice; what a compressed table needs is below 2^32, as a table has at most 4,096 arrays.
 fn count(number: u64) -> usize {
     usize::try_from(number).expect("a count is at most a slice's length, or below 2^32")
 }

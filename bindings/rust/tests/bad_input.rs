@@ -179,12 +179,14 @@ fn words_that_are_no_copy() {
     assert_eq!(copy::lookup(&[u32::MAX; 1_024], ZERO), Err(Refusal::NotATable));
     let mut words = [0; 1_024];
     assert_eq!(copy::lookup(&words, ZERO), Ok(None));
-    // no table of length 16, then one that lies outside
+    // no table of length 16, then one that begins after an entry's words, and one where eight times the entries are 2^32
     words[0] = 65_535 * 256;
     assert_eq!(copy::lookup(&words, ZERO), Ok(Some(Match { hop: 65_535, length: 0 })));
-    words[2 * 16] = 1_025;
-    assert_eq!(copy::lookup(&words, ZERO), Err(Refusal::NotATable));
-    words[2 * 16] = 1_024;
+    for before in [1, 1 << 29, u32::MAX] {
+        words[2 * 16] = before;
+        assert_eq!(copy::lookup(&words, ZERO), Err(Refusal::NotATable), "{before}");
+    }
+    words[2 * 16] = 0;
     assert_eq!(copy::lookup(&words, ZERO), Ok(Some(Match { hop: 65_535, length: 0 })));
     for default in [1, 255, 256 + 33, 1 << 24, u32::MAX] {
         words[0] = default;

@@ -7,12 +7,26 @@ use Prim.Native.Nat.{ℕ, _+_, _-_, _*_, _/_, _%_, _^_, _≤_, _<_}
 use native.Mathlib.Nat.{mod-one, zero-mul, mul-le-mul-right}
 use native.Mathlib.Omega.{arith}
 use lib.Dec.{eqb}
-use lib.ListN.{length, getD, drop}
+use lib.ListN.{length, getD, set, drop}
+use lib.Seq.{getD-set-same, getD-set-other}
 use lib.Pow.{pow-pos, mod-pow-add, mod-mod-pow}
 use borrow.Author.Tests.{eq-eqb, ne-eqb, eqb-true, eqb-false}
+use Rattle.logic.specs.Cases.{same}
 use Rattle.logic.specs.Bools.{not-true, not-false}
 use Rattle.routes.specs.Route.{stray}
 use Rattle.numbers.specs.Number.{number, AreBytes, number-byte, number-rest, number-some, number-end}
+
+-- ---- sixteen_of
+
+-- the first k bytes of an address are those lent
+abbrev pub Copied : List ℕ → List ℕ → ℕ → Type 0
+Copied bs a k = (i : ℕ) → i < k → getD a i 0 ≡ getD bs i 0
+
+pub copied-turn : (bs a : List ℕ) (k : ℕ) → k < length a → Copied bs a k → Copied bs (set a k (getD bs k 0)) (k + 1)
+copied-turn bs a k h ok i l =
+    same i k
+    (λ e _. rw e (getD-set-same a k (getD bs k 0) 0 h))
+    (λ n _. getD-set-other a k i (getD bs k 0) 0 n ∙ ok i (omega arith))
 
 -- ---- set_from
 

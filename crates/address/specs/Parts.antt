@@ -1,6 +1,6 @@
 -- The number of an address by parts: one byte more, zeros behind the first bytes. And four bytes written down again. Assumes
 -- nothing.
-use mathlib.Core.Path.{_≡_, refl, sym, ap, _∙_}
+use mathlib.Core.Path.{_≡_, refl, ap, _∙_}
 use mathlib.Core.List.{List, [], _∷_, _++_}
 use Prim.Native.Nat.{ℕ, zero, suc, _+_, _-_, _*_, _^_, _≤_, _<_}
 use native.Mathlib.Nat.{zero-mul}
@@ -8,9 +8,7 @@ use native.Mathlib.Omega.{arith}
 use lib.ListN.{length, getD, take, replicate, length-append, length-replicate, List·getD-append}
 use lib.Seq.{take-suc, length-take-le, getD-take, getD-append-add}
 use Rattle.logic.specs.Cases.{less}
-use Rattle.numbers.specs.Digits.{four}
-use Rattle.numbers.specs.Number.{number, AreBytes, number-append, number-lt, number-same}
-use Rattle.numbers.specs.Four.{four-number}
+use Rattle.numbers.specs.Number.{number, AreBytes, number-append}
 
 pub number-more : (bs : List ℕ) (k : ℕ) → k < length bs → number (take (suc k) bs) ≡ number (take k bs) * 256 + getD bs k 0
 unfolding number
@@ -65,16 +63,3 @@ module _ (bs : List ℕ) (m : ℕ) (h : m ≤ length bs) where
   filled-bytes ok i = less i m (λ s _. rw (filled-own i s) (ok i)) (λ s _. omega (arith, filled-zero i s))
 
 -- ---- four bytes
-
-four-bytes : (a : ℕ) → AreBytes (four a)
-four-bytes a zero = omega arith
-four-bytes a (suc zero) = omega arith
-four-bytes a (suc (suc zero)) = omega arith
-four-bytes a (suc (suc (suc zero))) = omega arith
-four-bytes a (suc (suc (suc (suc i)))) = omega arith
-
--- read as a number and written down again
-pub four-back : (bs : List ℕ) → length bs ≡ 4 → AreBytes bs → four (number bs) ≡ bs
-four-back bs e ok =
-    let w : number bs < 4294967296 = rw e at (number-lt bs ok) in
-    number-same (four (number bs)) bs (four-bytes (number bs)) ok (sym e) (four-number (number bs) w)

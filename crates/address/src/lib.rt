@@ -26,6 +26,20 @@ pub fn four_of(address: u32) -> [u8; 4]
     ]
 }
 
+// An IPv6 address by value: sixteen lent bytes.
+pub fn sixteen_of(bytes: &[u8]) -> [u8; 16]
+    requires { ⌜ size (now bytes) ≡ 16 ⌝ }
+    ensures { λ r. ⌜ r ≡ now (bytes .entry) ⌝ }
+{
+    let mut address = [0u8; 16];
+    let mut k = 0;
+    while k < 16 {
+        address[k] = bytes[k];
+        k += 1;
+    }
+    address
+}
+
 // The byte of level k.
 pub fn byte_at(address: &[u8], k: usize) -> usize
     requires { ⌜ k < size (now address) ⌝ }

@@ -64,9 +64,6 @@ module _ (w q : ℕ) (l : q < blockBound) where
   pub block-set : blockIn (withBlock w q) ≡ q
   block-set = omega arith
 
-  pub block-twice : (p : ℕ) → p < blockBound → withBlock (withBlock w q) p ≡ withBlock w p
-  block-twice p h = omega arith
-
   pub block-link : linkIn w ≡ 0 → linkIn (withBlock w q) ≡ 0
   block-link e = link-none (withBlock w q) (omega (arith, block-mark, unmarked w e))
 

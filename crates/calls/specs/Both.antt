@@ -58,7 +58,7 @@ pub record Holds (F : Family) (A : ℕ) (cs : List Candidate) (ws : List ℕ) : 
   pub fronts : (b front : List ℕ) → bytesFor F (length cs) ≤ length b → front ≡ frontOn F (seen (levels F) ws) (length b)
       → front ≡ written F cs
 
-holds : (F : Family) (A : ℕ) (cs : List Candidate) (ws : List ℕ) → seen (levels F) ws ≡ table A cs → Holds F A cs ws
+pub holds : (F : Family) (A : ℕ) (cs : List Candidate) (ws : List ℕ) → seen (levels F) ws ≡ table A cs → Holds F A cs ws
 holds F A cs ws e =
     record {
       list = e;

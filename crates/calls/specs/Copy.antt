@@ -13,23 +13,23 @@ use lib.Seq.{take-append-seam}
 use borrow.Author.Tests.{le-ltb}
 use Rattle.routes.specs.Family.{v4}
 use Rattle.routes.specs.Route.{Route}
+use Rattle.routes.specs.Route as routes
 use Rattle.routes.specs.Match.{Match, none, found, longest}
 use Rattle.routes.specs.Answers as answers
 use Rattle.routes.specs.Seen.{gives, refuses}
-use Rattle.candidates.specs.Candidate.{Candidate}
+use Rattle.candidates.specs.Candidate.{Candidate, IsList}
 use Rattle.candidates.specs.Winners.{winners}
-use Rattle.candidates.specs.Bytes.{written}
+use Rattle.candidates.specs.Bytes.{written, writtenPlainly}
 use Rattle.candidates.specs.Seen.{Seen, misfit, foreign, table, lookupOn}
 use Rattle.logic.specs.Cases.{less}
 use Rattle.rivals.specs.Won.{winners-list}
 use Rattle.encoded.specs.Round.{written-long}
 use Rattle.words.specs.Table.{seen}
-use Rattle.words.specs.View.{no-misfit-fits}
 use Rattle.lookup.specs.Walk.{walk}
 use Rattle.lengths.specs.Marks.{markers, wordsFor}
 use Rattle.listing.specs.Listed.{listed, listedIn}
 use Rattle.lengths_build.specs.Answer.{needOn}
-use Rattle.listing.specs.Written.{written-listed}
+use Rattle.listing.specs.Written.{written-listed, written-plain}
 use Rattle.lengths.specs.Layout as layout
 use Rattle.lengths.specs.Laid.{Laid, laid-walk, laid-front}
 use Rattle.lengths_build.specs.Build.{Leaves}
@@ -80,6 +80,17 @@ pub record AsTable (t : Carried) : Type 0 where
   pub lookups : (a : ℕ) → a < 4294967296 → (f : Found) (g : Matched)
       → f ≡ looked (lookupOn 32 (seen 4 (t .words)) (walk 4 (t .words) a) a) → g ≡ matched (layout.walk (t .card) a)
       → g ≡ matchOf f
+
+-- ---- room is never a reason to refuse: a list written out has a need, whatever arrays it would take
+
+pub any-room : (cs : List Candidate) → IsList 32 cs → (r : Needed) → r ≡ needed (needOn (listedIn (written v4 cs)))
+    → r ≡ record { refusal = 0; words = wordsFor (winners cs) }
+any-room cs l r e = e ∙ rw (written-listed cs l)
+
+-- in records of kind 1 too
+pub any-room-plain : (rs : List Route) → routes.IsList 32 rs → (r : Needed) → r ≡ needed (needOn (listedIn (writtenPlainly rs)))
+    → r ≡ record { refusal = 0; words = wordsFor rs }
+any-room-plain rs l r e = e ∙ rw (written-plain rs l)
 
 -- ---- what was written out is the list of a table
 
@@ -132,8 +143,7 @@ module _ (t : Carried) where
   is-listed : listedIn (t .bytes) ≡ listed rs
   is-listed =
       let h = held v4 (o .arrays) cs (t .words) (o .table) in
-      let f = no-misfit-fits (length (t .words)) (h .size) in
-      ap listedIn (t .front ∙ o .bytes) ∙ written-listed cs (h .list) (omega (arith, h .room, h .arrays, f .high))
+      ap listedIn (t .front ∙ o .bytes) ∙ written-listed cs (h .list)
 
   is-needed : t .need ≡ record { refusal = 0; words = wordsFor rs }
   is-needed = t .needs ∙ rw is-listed

@@ -58,7 +58,7 @@ pub record Holds (F : Family) (A : ℕ) (cs : List Candidate) (ws : List ℕ) : 
   pub writes : (b c : List ℕ) (r : Written) → bytesFor F (length cs) ≤ length b → HasWritten F ws b c r
       → r ≡ record { refusal = 0; bytes = bytesFor F (length cs) }
 
-holds : {F : Family} {A : ℕ} {cs : List Candidate} {ws : List ℕ} → rattle.Holds F A cs ws → Holds F A cs ws
+pub holds : {F : Family} {A : ℕ} {cs : List Candidate} {ws : List ℕ} → rattle.Holds F A cs ws → Holds F A cs ws
 holds {F} {A} {cs} {ws} h =
     record {
       list = h .list;

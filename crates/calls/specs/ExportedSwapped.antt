@@ -50,7 +50,7 @@ pub record InTurn (F : Family) (A : ℕ) (cs : List Candidate) (u v : Update) : 
   pub calls-second : Asked F between (update v) second words′
 
 -- the calls below
-abbrev under : {F : Family} {A : ℕ} {cs : List Candidate} {u v : Update} → InTurn F A cs u v → rattle.InTurn F A cs u v
+abbrev pub under : {F : Family} {A : ℕ} {cs : List Candidate} {u v : Update} → InTurn F A cs u v → rattle.InTurn F A cs u v
 under p =
     record {
       words = p .words;

@@ -13,8 +13,7 @@ use Rattle.routes.specs.Answers.{Reply}
 use Rattle.candidates.specs.Candidate.{Candidate}
 use Rattle.candidates.specs.Answers.{Update, Record}
 use Rattle.candidates.specs.Seen.{table, lookupOn, checkOn, countOn, frontOn}
-use Rattle.words.specs.Table.{listOf, seen}
-use Rattle.words.specs.View.{seen-table}
+use Rattle.words.specs.Table.{seen}
 use Rattle.audit.specs.Answer.{checkAnswer, HasCleared}
 use Rattle.audit.specs.Sharp as audit
 use Rattle.audit.specs.declared.Cleared.{Cleared}
@@ -26,7 +25,7 @@ use Rattle.inside.specs.Seen.{withinOn}
 use Rattle.within.specs.Walk as total
 use Rattle.within.specs.Answer.{withinAnswer, within-one}
 use Rattle.within.specs.declared.Inside.{Inside}
-use Rattle.update.specs.Update.{HasUpdated, HasApplied}
+use Rattle.update.specs.Update.{HasUpdated}
 use Rattle.update.specs.Sharp as update
 use Rattle.writing.specs.Answer as writing
 use Rattle.writing.specs.declared.Counted.{Counted}
@@ -67,21 +66,6 @@ pub update-agrees : (F : Family) (ws : List ℕ) (u : Update) (vs vs′ : List �
     → HasUpdated (levels F) ws vs′ u r′
     → update.Agree (levels F) vs vs′ r r′
 update-agrees F ws u vs vs′ r r′ p q = update.sharp (levels F) ws vs vs′ u r r′ p q
-
--- the work after the check, on a table
-pub work-agrees : (F : Family) (ws : List ℕ) (u : Update) (vs vs′ : List ℕ) (r r′ : code.Reply)
-    → HasApplied (levels F) ws vs u r
-    → HasApplied (levels F) ws vs′ u r′
-    → update.Agree (levels F) vs vs′ r r′
-work-agrees F ws u vs vs′ r r′ p q =
-    let e : r ≡ r′ = reply-one r r′ (p .answer ∙ sym (q .answer)) in
-    let n : length vs ≡ length vs′ = p .size ∙ sym (q .size) in
-    let l : listOf (levels F) vs ≡ listOf (levels F) vs′ = p .list ∙ rw e (sym (q .list)) in
-    record {
-      answer = e;
-      seen = seen-table (levels F) vs (p .table) ∙ rw (n, l) (sym (seen-table (levels F) vs′ (q .table)));
-      words = λ z. p .kept z ∙ sym (q .kept (rw e at z));
-    }
 
 -- ---- count, fill, write_out
 

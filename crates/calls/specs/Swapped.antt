@@ -56,16 +56,16 @@ pub record CallsSwapped {F : Family} {A : ℕ} {cs : List Candidate} {u v : Upda
   pub later : LaterAlike F (p .words′) (q .words′)
 
 module _ {F : Family} {A : ℕ} {cs : List Candidate} {u v : Update} (p : InTurn F A cs u v) where
-  first-is : p .first ≡ answer (width F) A cs u
+  pub first-is : p .first ≡ answer (width F) A cs u
   first-is = answered (levels F) A cs (p .is) (p .calls-first) .answer
 
   between-is : seen (levels F) (p .between) ≡ table A (after (width F) A cs u)
   between-is = answered (levels F) A cs (p .is) (p .calls-first) .list
 
-  second-is : p .second ≡ answer (width F) A (after (width F) A cs u) v
+  pub second-is : p .second ≡ answer (width F) A (after (width F) A cs u) v
   second-is = answered (levels F) A (after (width F) A cs u) between-is (p .calls-second) .answer
 
-  end-is : seen (levels F) (p .words′) ≡ table A (after (width F) A (after (width F) A cs u) v)
+  pub end-is : seen (levels F) (p .words′) ≡ table A (after (width F) A (after (width F) A cs u) v)
   end-is = answered (levels F) A (after (width F) A cs u) between-is (p .calls-second) .list
 
 pub calls-swapped : {F : Family} {A : ℕ} {cs : List Candidate} {u v : Update} → Move (width F) A cs u v

@@ -29,13 +29,13 @@ means-append [] ys = refl
 means-append (x ∷ xs) ys = ap (λ (zs : List Record). means x ∷ zs) (means-append xs ys)
 
 module _ (W A : ℕ) where
-  replies-append : (cs : List Candidate) (xs ys : List Record)
+  pub replies-append : (cs : List Candidate) (xs ys : List Record)
       → replies W A cs (xs ++ ys) ≡ replies W A cs xs ++ replies W A (leaves W A cs xs) ys
   replies-append cs [] ys = refl
   replies-append cs (x ∷ xs) ys =
       ap (λ (rs : List Reply). reply W A cs x ∷ rs) (replies-append (next W A cs x) xs ys)
 
-  leaves-append : (cs : List Candidate) (xs ys : List Record)
+  pub leaves-append : (cs : List Candidate) (xs ys : List Record)
       → leaves W A cs (xs ++ ys) ≡ leaves W A (leaves W A cs xs) ys
   leaves-append cs [] ys = refl
   leaves-append cs (x ∷ xs) ys = leaves-append (next W A cs x) xs ys

@@ -8,7 +8,7 @@ use lib.Dec.{leb, eqb}
 use lib.Bits.{bitXor, xor-add-and, xor-shr, xor-lt}
 use lib.Pow.{shr-shr, pow-pos, pow-lt}
 use borrow.Author.Tests.{eqb-true, leb-true, eq-eqb, le-leb}
-use Rattle.logic.specs.Cases.{bool, same, most}
+use Rattle.logic.specs.Cases.{bool, same}
 use Rattle.logic.specs.Bools.{and-to, and-from}
 use Rattle.calm.specs.Calm.{Calm, Block, Settled, calm-less}
 use Rattle.calm.specs.Taken.{Taken, calm-move, block-most, freed-none}
@@ -120,11 +120,6 @@ module _ (f g b : ℕ → ℕ) (i : ℕ) (ib : i < 256) (sides : Sides f g b i) 
         calm = z;
         least = λ c l y. true≢false (sym (down-one m h (calm-less f g i (8 - c) (8 - m) (omega arith) y)) ∙ t);
       }))
-
-  pub climb-le : (m : ℕ) → climbOf f g b i m ≤ m
-  unfolding climbOf
-  climb-le zero = omega arith
-  climb-le (suc m) = bool (joins f g b i (suc m)) (λ t. rw t (omega (arith, climb-le m))) (λ t. rw t (omega arith))
 
 -- ---- once something over cell i was freed: f₀, g₀ now, f, g before
 

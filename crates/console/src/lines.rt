@@ -52,7 +52,7 @@ impl Place {
 }
 
 // n bytes on, and no further than the end.
-pub(crate) fn past(at: usize, n: usize, end: usize) -> usize
+fn past(at: usize, n: usize, end: usize) -> usize
     requires { ⌜ (at < end) × (0 < n) ⌝ }
     ensures { λ r. ⌜ (at < r) × (r ≤ end) ⌝ }
 {

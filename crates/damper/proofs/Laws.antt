@@ -14,7 +14,7 @@ use Rattle.feed.specs.Runs.{runAnswer}
 use Rattle.damping.specs.declared.held.Checked.{Checked}
 use Rattle.damping.specs.declared.held.Checked.the-variants as checked
 use Rattle.damping.specs.Update.{HasDamped}
-use Rattle.damping.specs.Frame.{still, frame}
+use Rattle.damping.specs.Frame.{still, frame, words, tick-still}
 use Rattle.damping.specs.Locally.{HasDampedLocally}
 use Rattle.damping.specs.Held.{checkAnswer, HasTicked as Ticked}
 use Rattle.damping.specs.Ticks.{HasTickedLocally as TickedLocally}
@@ -34,8 +34,10 @@ made fs ws gs vs u y r p e =
       list = p .list;
       places = p .places;
       kept = λ n z. p .kept (ap isRefused (p .answer ∙ z));
+      front = p .front;
       still = still p;
       frame = frame p;
+      words = words p;
     }
 
 pub made-locally : (fs ws gs vs : List ℕ) (u : Update) (y : Reply) (r : Updated) → HasDampedLocally fs ws gs vs u y
@@ -55,6 +57,8 @@ ticked fs ws gs vs y r p e =
       list = p .list;
       places = p .places;
       kept = λ n z. p .kept n (check-refused y n (p .answer ∙ z));
+      front = p .front;
+      still = tick-still p;
       behind = p .behind;
     }
 
@@ -76,6 +80,7 @@ ran-so fs ws feed b gs vs c y r p e =
       places = p .places;
       replies = p .replies;
       kept = λ n z. p .kept n (run-refused y n (p .answer ∙ ap reported z));
+      front = p .front;
       series = p .series;
     }
 

@@ -7,23 +7,22 @@ use Prim.Native.Nat.{ℕ, _≤_}
 use Rattle.routes.specs.Answers.{Reply, done, found, none, refused}
 use Rattle.routes.specs.Seen.{Answer, gives, refuses}
 use Rattle.candidates.specs.Answers.{Update}
-use Rattle.words.specs.Words.{arrayCount}
-use Rattle.words.specs.Table.{listOf, seen}
+use Rattle.words.specs.Table.{seen}
 use Rattle.words.specs.TableBut.{Table}
 use Rattle.paths.specs.Alike.{Alike}
 use Rattle.replies.specs.Said.{saidReply}
 use Rattle.replies.specs.declared.Reply as code
+use Rattle.update.specs.Anywhere.{localWords}
 use Rattle.update.specs.Update.{Touches}
 use Rattle.feed.specs.Runs.{runAnswer}
 use Rattle.feed.specs.declared.Report.{Report}
 use Rattle.feed.specs.declared.Ran.{Ran as Outcome}
-use Rattle.front.specs.Front.{halve, each}
 use Rattle.front.specs.Seen.{Held, dampedOn, behindOn, placesOn, tickOn, behindTick, placesTick}
 use Rattle.front.specs.Seen.{runOn, ranBehind, ranPlaces, repliedOn, eventsOn, answersOn}
-use Rattle.rows.specs.Row.{placesOf}
+use Rattle.rows.specs.Row.{IsWords}
 use Rattle.damping.specs.View.{seenFront}
 use Rattle.damping.specs.Locally.{HasDampedLocally}
-use Rattle.damping.specs.Behind.{news, Installs}
+use Rattle.damping.specs.Behind.{newsOn, Installs}
 use Rattle.damping.specs.Held.{checkAnswer}
 use Rattle.damping.specs.Ticks as front
 use Rattle.damping.specs.declared.held.Checked.{Checked}
@@ -64,17 +63,23 @@ pub record HasUpdated (fs ws gs vs : List ℕ) (u : Update) (r : Updated) : Type
   pub list : seen 4 vs ≡ behindOn 32 (seenFront fs) (seen 4 ws) u
   pub places : seenFront gs ≡ placesOn 32 (seenFront fs) (seen 4 ws) u
   pub kept : (n : ℕ) → dampedOn 32 (seenFront fs) (seen 4 ws) u ≡ refused n → (gs ≡ fs) × (vs ≡ ws)
+  pub front : IsWords fs → IsWords gs
   -- where the table is seen as before no word of it is changed, and an array off the prefix's path never is
   pub still : seen 4 vs ≡ seen 4 ws → vs ≡ ws
   pub frame : (c : ℕ) → 1 ≤ c → ¬ Touches 4 u ws vs c → Alike ws vs c
+  -- no word of the table is changed, or they are those that its own local call of the update leaves
+  pub words : (vs ≡ ws) ⊎ (vs ≡ localWords 4 ws u)
 
 pub record HasTicked (fs ws gs vs : List ℕ) (r : Front) : Type 0 where
   pub answer : r ≡ held (tickOn 32 (seenFront fs) (seen 4 ws))
   pub list : seen 4 vs ≡ behindTick 32 (seenFront fs) (seen 4 ws)
   pub places : seenFront gs ≡ placesTick 32 (seenFront fs) (seen 4 ws)
   pub kept : (n : ℕ) → tickOn 32 (seenFront fs) (seen 4 ws) ≡ refuses n → (gs ≡ fs) × (vs ≡ ws)
-  -- no word of the table is changed, or it is by the table's own calls alone, one for each that is installed
-  pub behind : (vs ≡ ws) ⊎ Installs ws (news (arrayCount ws) (listOf 4 ws) (each halve (placesOf fs))) vs
+  pub front : IsWords fs → IsWords gs
+  -- where the table is seen as before no word of it is changed
+  pub still : IsWords fs → seen 4 vs ≡ seen 4 ws → vs ≡ ws
+  -- its words are changed by its own calls alone, one for each that is installed
+  pub behind : Installs ws (newsOn (seenFront fs) (seen 4 ws)) vs
 
 pub record HasRun (fs ws feed b gs vs c : List ℕ) (r : Fields) : Type 0 where
   pub answer : r ≡ ran (reported (runOn (standing fs ws) feed b))
@@ -82,6 +87,7 @@ pub record HasRun (fs ws feed b gs vs c : List ℕ) (r : Fields) : Type 0 where
   pub places : seenFront gs ≡ ranPlaces (standing fs ws) (seenFront fs) feed b
   pub replies : c ≡ repliedOn (standing fs ws) feed b
   pub kept : (n : ℕ) → runOn (standing fs ws) feed b ≡ refuses n → (gs ≡ fs) × (vs ≡ ws)
+  pub front : IsWords fs → IsWords gs
   -- a call for each record and tick taken: a lookup, and a record that is refused, leave every word
   pub series : Series fs ws (eventsOn (standing fs ws) feed b) (answersOn (standing fs ws) feed b) gs vs
 

@@ -1,2 +1,3 @@
 pub mod Face
 pub mod Sharp
+pub mod Behind

@@ -1,6 +1,6 @@
 -- A tick on the words of a table: what is tried is answered as the table's list answers it, and its words change by the table's
 -- own calls alone, one for each that is installed. Assumes nothing.
-use mathlib.Core.Path.{_≡_, refl, sym, ap₂, _∙_}
+use mathlib.Core.Path.{_≡_, refl, sym, ap, ap₂, _∙_}
 use mathlib.Core.Bool.{true, false, cond, true≢false}
 use mathlib.Core.List.{List, [], _∷_}
 use Prim.Native.Nat.{ℕ}
@@ -9,17 +9,19 @@ use Rattle.logic.specs.Cases.{bool}
 use Rattle.routes.specs.Answers.{isDone}
 use Rattle.candidates.specs.Candidate.{Candidate}
 use Rattle.candidates.specs.Answers.{Update, answer, after}
-use Rattle.candidates.specs.Seen.{table}
+use Rattle.candidates.specs.Seen.{Seen, misfit, foreign, table}
 use Rattle.words.specs.Words.{arrayCount}
 use Rattle.words.specs.Table.{listOf, seen}
 use Rattle.words.specs.TableBut.{Table}
 use Rattle.words.specs.View.{table-of, seen-table}
 use Rattle.front.specs.Place.{Place}
 use Rattle.front.specs.Front.{halve, again, installs, tried, triedList, each, tries, triesList, tickList, tickPlaces}
+use Rattle.front.specs.Seen.{FrontSeen, alien, front}
 use Rattle.rows.specs.Row.{placesOf}
 use Rattle.charge.specs.Calls.{Became}
 use Rattle.replies.specs.Said.{saidReply}
 use Rattle.replies.specs.declared.Reply as code
+use Rattle.update.specs.Anywhere.{localWords}
 use Rattle.update.specs.Update.{HasUpdated}
 use Rattle.damping.specs.Tick.{TriedOn, calm, announced, TriesOn, nothing, more, TickedLocally}
 
@@ -31,6 +33,13 @@ news A cs [] = []
 news A cs (p ∷ ps) =
     cond (installs 32 A cs p) (again p ∷ news A (triedList 32 A cs p) ps) (news A (triedList 32 A cs p) ps)
 
+-- by what both memories are seen to be; nothing where one is not what it should be
+abbrev pub newsOn : FrontSeen → Seen → List Update
+newsOn f misfit = []
+newsOn f foreign = []
+newsOn alien (table A cs) = []
+newsOn (front ps) (table A cs) = news A cs (each halve ps)
+
 -- the table's call of the update was done, as its contract allows
 pub record Installed (ws vs : List ℕ) (u : Update) : Type 0 where
   pub reply : code.Reply
@@ -41,6 +50,22 @@ pub record Installed (ws vs : List ℕ) (u : Update) : Type 0 where
 pub data Installs : List ℕ → List Update → List ℕ → Type 0 where
   none : {ws : List ℕ} → Installs ws [] ws
   next : {ws us vs : List ℕ} {u : Update} {xs : List Update} → Installed ws us u → Installs us xs vs → Installs ws (u ∷ xs) vs
+
+-- the words that they leave of a table, by its local calls
+abbrev pub installedWords : List ℕ → List Update → List ℕ
+installedWords ws [] = ws
+installedWords ws (u ∷ xs) = installedWords (localWords 4 ws u) xs
+
+pub installs-words : {ws vs : List ℕ} {xs : List Update} → Table 4 ws → Installs ws xs vs → vs ≡ installedWords ws xs
+installs-words t none = refl
+installs-words {ws} t (next {us = us} {u = u} {xs = xs} i s) =
+    let l : seen 4 us ≡ table (arrayCount ws) (after 32 (arrayCount ws) (listOf 4 ws) u) =
+    rw (seen-table 4 ws t) at (i .call .list) in
+    let y = table-of 4 us (omega arith) (omega arith) (arrayCount ws) (after 32 (arrayCount ws) (listOf 4 ws) u) l in
+    installs-words (y .table) s ∙ ap (λ (x : List ℕ). installedWords x xs) (i .call .words t)
+
+pub installs-none : {ws vs : List ℕ} → Installs ws [] vs → vs ≡ ws
+installs-none none = refl
 
 -- ---- the tries
 

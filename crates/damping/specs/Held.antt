@@ -1,7 +1,7 @@
 -- What the check, the clearing and a tick of any words promise: by what they are seen to be as a front and as a table. And the
 -- count of the candidates held back, a row after the other. Assumes nothing.
 use mathlib.Core.Path.{_≡_, refl, sym, ap, _∙_}
-use mathlib.Core.Logic.{_≢_, _⊎_, inl, inr}
+use mathlib.Core.Logic.{_≢_}
 use mathlib.Core.Bool.{false, cond}
 use mathlib.Core.List.{List, []}
 use Prim.Native.Nat.{ℕ, suc, _+_, _-_, _%_, _<_, _≤_}
@@ -12,20 +12,18 @@ use lib.Dec.{eqb}
 use borrow.Author.Tests.{eq-eqb, ne-eqb}
 use Rattle.logic.specs.Cases.{bool, same}
 use Rattle.routes.specs.Seen.{Answer, gives, refuses}
-use Rattle.words.specs.Words.{arrayCount}
-use Rattle.words.specs.Table.{listOf, seen}
+use Rattle.words.specs.Table.{seen}
 use Rattle.words.specs.TableBut.{Table}
 use Rattle.words.specs.View.{seen-table, seen-cases}
 use Rattle.update.specs.Refuse.{refusal-size, refusal-foreign, refusal-none}
 use Rattle.front.specs.Place.{backs, mostPlaces}
-use Rattle.front.specs.Front.{halve, each}
 use Rattle.front.specs.Seen.{FrontSeen, alien, front, Held, heldIn, checkFront, tickOn, behindTick, placesTick}
 use Rattle.rows.specs.Row.{frontWords, Row, rowAt, placesOf, frontB, IsWords}
 use Rattle.charge.specs.Calls.{Became}
 use Rattle.release.specs.Settle.{firsts, collect-firsts}
 use Rattle.damping.specs.View.{seenFront, seen-front, seen-became, seen-alien}
 use Rattle.damping.specs.Refuse.{refusalThrough, refusal-first, refusal-alien, refusal-passed}
-use Rattle.damping.specs.Behind.{news, Installs, Ticked}
+use Rattle.damping.specs.Behind.{newsOn, Installs, none, Ticked}
 use Rattle.damping.specs.declared.held.Checked as code
 use Rattle.damping.specs.declared.held.Checked.the-variants as checked
 
@@ -48,6 +46,7 @@ pub record HasCleared (fs gs : List ℕ) (r : ℕ) : Type 0 where
   pub answer : r ≡ clearNumber (length fs)
   pub places : seenFront gs ≡ clearedFront (length fs)
   pub kept : r ≢ 0 → gs ≡ fs
+  pub front : r ≡ 0 → IsWords gs
 
 size-false : (fs : List ℕ) → length fs ≢ frontWords → frontB fs ≡ false
 unfolding frontB
@@ -59,6 +58,7 @@ cleared-not fs n =
       answer = rw (ne-eqb (length fs) frontWords n);
       places = rw (ne-eqb (length fs) frontWords n) (seen-alien fs (size-false fs n));
       kept = λ _. refl;
+      front = λ z. absurd (omega arith);
     }
 
 pub cleared-done : (fs gs : List ℕ) → length fs ≡ frontWords → Became gs [] → HasCleared fs gs 0
@@ -67,6 +67,7 @@ cleared-done fs gs e b =
       answer = rw (eq-eqb (length fs) frontWords e);
       places = rw (eq-eqb (length fs) frontWords e) (seen-became gs [] b);
       kept = λ z. absurd (z refl);
+      front = λ _. b .words;
     }
 
 -- ---- the count
@@ -128,8 +129,8 @@ pub record HasTicked (fs ws gs vs : List ℕ) (r : code.Checked) : Type 0 where
   pub places : seenFront gs ≡ placesTick 32 (seenFront fs) (seen 4 ws)
   pub kept : (n : ℕ) → r ≡ checked.Refused n → (gs ≡ fs) × (vs ≡ ws)
   pub front : IsWords fs → IsWords gs
-  -- no word of the table is changed, or it is by the table's own calls alone, one for each that is installed
-  pub behind : (vs ≡ ws) ⊎ Installs ws (news (arrayCount ws) (listOf 4 ws) (each halve (placesOf fs))) vs
+  -- the table's words are changed by its own calls alone, one for each that is installed
+  pub behind : Installs ws (newsOn (seenFront fs) (seen 4 ws)) vs
 
 -- an answer is no refusal
 pub given-not : (h : Held) (n : ℕ) → _≡_ {A = Answer Held} (gives h) (refuses n) → ⊥
@@ -144,7 +145,7 @@ ticks fs ws gs vs r w t k e =
       places = rw (seen-front fs w, seen-table 4 ws t) (seen-became gs _ (k .places));
       kept = λ n z. absurd (given-not _ n (sym e ∙ ap checkAnswer z));
       front = λ _. k .places .words;
-      behind = inr (k .behind);
+      behind = rw (seen-front fs w, seen-table 4 ws t) (k .behind);
     }
 
 -- 1, then 2
@@ -153,10 +154,24 @@ tick-refused fs ws n e z =
     seen-cases 4 ws (omega arith) (omega arith)
     (λ m s. (let k = refusal-size 4 ws 0 m in
     let q : n ≡ 1 = e ∙ sym (refusal-first fs ws 0 1 k (omega arith)) in
-    record { answer = rw (s, q); list = rw s; places = rw s; kept = λ _ _. (refl, refl); front = λ w. w; behind = inl refl }))
+    record {
+      answer = rw (s, q);
+      list = rw s;
+      places = rw s;
+      kept = λ _ _. (refl, refl);
+      front = λ w. w;
+      behind = rw s none;
+    }))
     (λ m b s. (let k = refusal-foreign 4 ws 0 m refl b in
     let q : n ≡ 2 = e ∙ sym (refusal-first fs ws 0 2 k (omega arith)) in
-    record { answer = rw (s, q); list = rw s; places = rw s; kept = λ _ _. (refl, refl); front = λ w. w; behind = inl refl }))
+    record {
+      answer = rw (s, q);
+      list = rw s;
+      places = rw s;
+      kept = λ _ _. (refl, refl);
+      front = λ w. w;
+      behind = rw s none;
+    }))
     (λ m b t s. (let k = refusal-none 4 ws 0 m refl b in
     bool (frontB fs)
     (λ f. absurd (z (e ∙ sym (refusal-passed fs ws 0 0 k refl f))))
@@ -167,5 +182,5 @@ tick-refused fs ws n e z =
       places = rw (seen-alien fs f, s);
       kept = λ _ _. (refl, refl);
       front = λ w. w;
-      behind = inl refl;
+      behind = rw (seen-alien fs f, s) none;
     }))))

@@ -8,5 +8,6 @@ pub mod Tick
 pub mod Behind
 pub mod Held
 pub mod Ticks
-pub mod Sharp
 pub mod Frame
+pub mod Sharp
+pub mod Agrees

@@ -12,7 +12,6 @@ use native.Mathlib.Nat.{add-zero}
 use native.Mathlib.Omega.{arith}
 use lib.ListN.{length, take, drop, take-append-drop}
 use lib.Seq.{length-sets, length-take-le, drop-drop}
-use lib.Dec.{eqb}
 use Rattle.logic.specs.Cases.{bool}
 use Rattle.numbers.specs.Wrote.{Wrote}
 use Rattle.routes.specs.Answers.{Reply, isDone, isRefused}
@@ -20,8 +19,7 @@ use Rattle.routes.specs.Bytes.{replyBytes}
 use Rattle.laws.specs.Encoded.{reply-short}
 use Rattle.candidates.specs.Runs.{tally}
 use Rattle.candidates.specs.Seen.{misfits}
-use Rattle.words.specs.TableBut.{Table}
-use Rattle.words.specs.View.{seen-cases, fits-no-misfit, table-fits}
+use Rattle.words.specs.View.{seen-cases}
 use Rattle.update.specs.Refuse.{refusal-size, refusal-foreign, refusal-none}
 use Rattle.feed.specs.Turns.{one}
 use Rattle.feed.specs.Replies.{wrote-before, wrote-after}
@@ -29,7 +27,7 @@ use Rattle.feed.specs.declared.Report.{Report}
 use Rattle.feed.specs.declared.Ran.the-variants.{Stopped, Refused}
 use Rattle.front.specs.Front.{accepts}
 use Rattle.front.specs.Runs.{ticksAt, eventAt, sizeAt, halts}
-use Rattle.restraint.specs.Turns.{size-pos, halts-clear}
+use Rattle.restraint.specs.Turns.{size-pos}
 use Rattle.rows.specs.Row.{frontB, IsWords}
 use Rattle.rows.specs.Told.{words-from}
 use Rattle.damping.specs.View.{seen-alien}
@@ -39,9 +37,9 @@ use Rattle.damping_run.specs.Series.{nothing}
 use Rattle.damping_run.specs.Runs.{HasRun}
 use Rattle.damping_run.specs.Locally.{AskedLocally, Note, haltsAt, Gone, nowhere, further, reportAt, RanLocally}
 use Rattle.damping_run.specs.Locally.{HasRunLocally}
-use Rattle.damping_run.specs.Answered.{asked-words}
-use Rattle.damping_run.specs.Tables.{gone-words, gone-on, ran-table}
-use Rattle.damping_run.specs.Turns.{noteOf, Placed, Takes, Took}
+use Rattle.damping_run.specs.Tables.{gone-words, ran-table}
+use Rattle.damping_run.specs.Turns.{first, noteOf, Takes, Took, toldAt}
+use Rattle.damping_run.specs.Steps.{Comes, comes-first, comes-on}
 use Rattle.damping_run.specs.declared.Progress.{Progress}
 use Rattle.damping_run.proofs.Answers.{accepts-at}
 
@@ -100,63 +98,42 @@ module _ (p : Progress) (fs ws feed b : List ℕ) (k : Bool) (t : Takes p fs ws 
 
 -- a run from fs₀, ws₀ and b₀ has come to p, with the words fs and ws and the reply bytes b, and `stop` is what the next tests
 -- find
-pub record Going (fs₀ ws₀ feed b₀ fs ws b : List ℕ) (p : Progress) (stop : ℕ) : Type 0 where
-  pub placed : Placed p feed b
+pub record Going (fs₀ ws₀ feed b₀ fs ws b : List ℕ) (p : Progress) (known : Bool) (stop : ℕ) : Type 0 where
+  pub comes : Comes p fs ws feed b (length b₀) known stop
   pub gone : Gone feed (length b₀) fs₀ ws₀ (noteOf p b) fs ws
-  pub front : IsWords fs
   pub rest : drop (p .out) b ≡ drop (p .out) b₀
-  pub long : length b ≡ length b₀
   pub wide : length ws ≡ length ws₀
   pub broad : length fs ≡ length fs₀
-  pub halted : stop ≡ halts feed (length b₀) (p .at) (p .out)
 
-pub start : (fs ws feed b : List ℕ) (stop : ℕ) → IsWords fs → stop ≡ halts feed (length b) 0 0
-    → Going fs ws feed b fs ws b (record { at = 0; out = 0; accepted = 0; refused = 0 }) stop
-start fs ws feed b stop w e =
-    record {
-      placed = record { at = omega arith; out = omega arith; accepted = omega arith; refused = omega arith };
-      gone = nowhere;
-      front = w;
-      rest = refl;
-      long = refl;
-      wide = refl;
-      broad = refl;
-      halted = e;
-    }
+pub start : (fs ws feed b : List ℕ) (p : Progress) (k : Bool) (stop : ℕ) → Ready fs ws k → p ≡ first
+    → stop ≡ halts feed (length b) (p .at) (p .out) → Going fs ws feed b fs ws b p k stop
+start fs ws feed b p k stop y z e = record {
+  comes = comes-first p fs ws feed b k stop y z e;
+  gone = rw z nowhere;
+  rest = refl;
+  wide = refl;
+  broad = refl;
+}
 
-module _ (fs₀ ws₀ feed b₀ fs ws b : List ℕ) (p : Progress) (stop : ℕ) (g : Going fs₀ ws₀ feed b₀ fs ws b p stop) where
+module _ (fs₀ ws₀ feed b₀ fs ws b : List ℕ) (p : Progress) (k : Bool) (stop : ℕ)
+    (g : Going fs₀ ws₀ feed b₀ fs ws b p k stop) where
   out-length : length (take (p .out) b) ≡ p .out
-  out-length = length-take-le (p .out) b (g .placed .out)
+  out-length = length-take-le (p .out) b (g .comes .placed .out)
 
   halted-at : haltsAt feed (length b₀) (noteOf p b) ≡ stop
-  halted-at = ap (halts feed (length b₀) (p .at)) out-length ∙ sym (g .halted)
-
-  -- a table that is known to be one is one still
-  pub going-takes : (k : Bool) → Ready fs₀ ws₀ k → stop ≡ 5 → Takes p fs ws feed b k
-  going-takes k y e = record {
-    ready = record {
-      front = g .front;
-      fits = ap misfits (g .wide) ∙ y .fits;
-      table = λ z. gone-on feed (length b₀) fs₀ ws₀ (record { front = y .front; table = y .table z }) (g .gone) .stands .table;
-    };
-    placed = g .placed;
-    clear = rw (g .long) (halts-clear feed (length b₀) (p .at) (p .out) (sym (g .halted) ∙ e));
-  }
+  halted-at = ap (halts feed (length b₀) (p .at)) out-length ∙ sym (g .comes .halted)
 
   pub again : (q : Progress) (gs vs c : List ℕ) (next : ℕ) → stop ≡ 5 → Took p fs ws feed b q gs vs c
       → length c ≡ length b → length vs ≡ length ws → length gs ≡ length fs
-      → next ≡ halts feed (length b₀) (q .at) (q .out) → Going fs₀ ws₀ feed b₀ gs vs c q next
+      → next ≡ halts feed (length b₀) (q .at) (q .out) → Going fs₀ ws₀ feed b₀ gs vs c q k next
   again q gs vs c next e t lc lv lg h =
       record {
-        placed = t .placed;
+        comes = comes-on p fs ws feed b (length b₀) k stop (g .comes) q gs vs c next t lc lv h;
         gone = subst (λ (n : Note). Gone feed (length b₀) fs₀ ws₀ n gs vs) (sym (t .note))
             (further (g .gone) (halted-at ∙ e) (t .asked));
-        front = asked-words (g .front) (t .asked);
         rest = t .rest ∙ dropped;
-        long = lc ∙ g .long;
         wide = lv ∙ g .wide;
         broad = lg ∙ g .broad;
-        halted = h;
       }
     where
       dropped : drop (q .out) b ≡ drop (q .out) b₀
@@ -167,27 +144,20 @@ module _ (fs₀ ws₀ feed b₀ fs ws b : List ℕ) (p : Progress) (stop : ℕ) 
 
   -- ---- the end
 
-  pub stopped : (n : ℕ) → stop ≢ 5 → n ≡ one (eqb stop 0) → RanLocally fs₀ ws₀ feed b₀ fs ws b
-      (Stopped (record { stop = stop; consumed = p .at + n; written = p .out; accepted = p .accepted; refused = p .refused }))
-  stopped n h e =
+  pub stopped : (r : Report) → stop ≢ 5 → r ≡ toldAt p stop → RanLocally fs₀ ws₀ feed b₀ fs ws b (Stopped r)
+  stopped r h e =
       record {
         note = noteOf p b;
         gone = g .gone;
         stopped = λ z. h (sym halted-at ∙ z);
-        answer = ap Stopped (told ∙ ap (λ (s : ℕ). reportAt s (noteOf p b)) (sym halted-at));
+        answer = ap Stopped (e ∙ told ∙ ap (λ (s : ℕ). reportAt s (noteOf p b)) (sym halted-at));
         replies = rw (out-length, ← (g .rest)) (sym (take-append-drop (p .out) b));
       }
     where
-      told : _≡_ {A = Report} (record {
-        stop = stop;
-        consumed = p .at + n;
-        written = p .out;
-        accepted = p .accepted;
-        refused = p .refused;
-      }) (reportAt stop (noteOf p b))
+      told : toldAt p stop ≡ reportAt stop (noteOf p b)
       told = λ i. record {
         stop = stop;
-        consumed = p .at + e i;
+        consumed = toldAt p stop .consumed;
         written = sym out-length i;
         accepted = p .accepted;
         refused = p .refused;
@@ -231,10 +201,6 @@ run-refused fs ws feed b n e z =
       front = λ w. w;
       series = rw (a, s) nothing;
     })))
-
--- passed, the words are all that the loop asks for
-pub table-ready : (fs ws : List ℕ) → IsWords fs → Table 4 ws → Ready fs ws true
-table-ready fs ws w t = record { front = w; fits = fits-no-misfit (length ws) (table-fits 4 ws t); table = λ _. t }
 
 -- ---- the local run
 

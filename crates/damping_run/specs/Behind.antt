@@ -8,28 +8,36 @@ use lib.ListN.{length}
 use Rattle.numbers.specs.Number.{AreBytes}
 use Rattle.routes.specs.Family.{v4}
 use Rattle.candidates.specs.Candidate.{Candidate}
+use Rattle.candidates.specs.Answers.{Record}
 use Rattle.candidates.specs.Seen.{table, ranOn}
 use Rattle.words.specs.Table.{seen}
 use Rattle.feed.specs.Runs as plain
 use Rattle.feed.specs.declared.Ran.{Ran}
 use Rattle.front.specs.Front.{both}
+use Rattle.front.specs.Seen.{ranBehind}
 use Rattle.restraint.specs.Fed.{fed, behind, as-without}
 use Rattle.rows.specs.Row.{placesOf, IsWords}
 use Rattle.damping.specs.View.{seen-front}
-use Rattle.damping_run.specs.Runs.{HasRun}
+use Rattle.damping_run.specs.Runs.{standing, HasRun}
 
-module _ (fs ws feed b gs vs c : List ℕ) (r : Ran) (p : HasRun fs ws feed b gs vs c r) (ok : AreBytes feed) (w : IsWords fs)
-    (A : ℕ) (cs : List Candidate) (t : seen 4 ws ≡ table A cs) where
+-- of a table of A arrays with the candidates cs
+module _ (fs feed b : List ℕ) (A : ℕ) (cs : List Candidate) where
+  abbrev pub recordsBehind : List Record
+  recordsBehind = behind A (both cs (placesOf fs)) feed (length b)
+
   -- that feed
   abbrev pub fedBehind : List ℕ
-  fedBehind = fed (behind A (both cs (placesOf fs)) feed (length b))
+  fedBehind = fed recordsBehind
 
-  module _ (d : List ℕ) (h : 5 * length (behind A (both cs (placesOf fs)) feed (length b)) ≤ length d) where
-    pub seen-without : seen 4 vs ≡ ranOn v4 (seen 4 ws) fedBehind d
-    seen-without =
-        let l = rw (seen-front fs w, t) at (p .list) in
-        rw t (l ∙ ap (table A) (as-without A (both cs (placesOf fs)) feed (length b) (length d) ok (w .front) h))
+-- with reply bytes d enough for it: five for each record
+module _ (fs ws feed b : List ℕ) (ok : AreBytes feed) (w : IsWords fs) (A : ℕ) (cs : List Candidate) (t : seen 4 ws ≡ table A cs)
+    (d : List ℕ) (h : 5 * length (recordsBehind fs feed b A cs) ≤ length d) where
+  pub behind-without : ranBehind (standing fs ws) (seen 4 ws) feed b ≡ ranOn v4 (seen 4 ws) (fedBehind fs feed b A cs) d
+  behind-without =
+      rw (seen-front fs w, t)
+      (ap (table A) (as-without A (both cs (placesOf fs)) feed (length b) (length d) ok (w .front) h))
 
-    -- as any run of it without the front leaves them, with reply bytes enough
-    pub left-without : (us e : List ℕ) (s : Ran) → plain.HasRun v4 ws fedBehind d us e s → seen 4 vs ≡ seen 4 us
-    left-without us e s q = seen-without ∙ sym (q .list)
+  -- the words are left as any run of it without the front leaves them
+  pub left-without : (gs vs c : List ℕ) (r : Ran) → HasRun fs ws feed b gs vs c r
+      → (us e : List ℕ) (s : Ran) → plain.HasRun v4 ws (fedBehind fs feed b A cs) d us e s → seen 4 vs ≡ seen 4 us
+  left-without gs vs c r p us e s q = p .list ∙ behind-without ∙ sym (q .list)

@@ -4,6 +4,8 @@ pub mod Locally
 pub mod Answered
 pub mod Tables
 pub mod Turns
+pub mod Steps
 pub mod Sharp
+pub mod Agrees
 pub mod Behind
 pub mod Kept

@@ -10,6 +10,8 @@ use lib.Dec.{eqb}
 use Rattle.routes.specs.Family.{v4, Role, ending, roleOf, isUnknown}
 use Rattle.routes.specs.Answers.{Reply}
 use Rattle.candidates.specs.Runs.{size, roleAt}
+use Rattle.feed.specs.Turns.{one}
+use Rattle.feed.specs.declared.Report.{Report}
 use Rattle.front.specs.Runs.{tickKind, ticksAt, eventAt}
 use Rattle.restraint.specs.Turns.{Clear}
 use Rattle.damping.specs.Locally.{Ready}
@@ -42,6 +44,9 @@ pub record Answers (fs ws feed : List ℕ) (i : ℕ) (known : Bool) : Type 0 whe
 
 -- ---- how far a run has come
 
+abbrev pub first : Progress
+first = record { at = 0; out = 0; accepted = 0; refused = 0 }
+
 -- as its counters and the reply bytes stand for it
 abbrev pub noteOf : Progress → List ℕ → Note
 noteOf p b = record { consumed = p .at; replies = take (p .out) b; accepted = p .accepted; refused = p .refused }
@@ -67,3 +72,14 @@ pub record Took (p : Progress) (fs ws feed b : List ℕ) (q : Progress) (gs vs c
   pub placed : Placed q feed c
   pub on : p .at < q .at
   pub past : p .out ≤ q .out
+
+-- what is told of a run that has come to p and is stopped there: an end is consumed, another record that stops it is not
+abbrev pub toldAt : Progress → ℕ → Report
+toldAt p stop =
+    record {
+      stop = stop;
+      consumed = p .at + one (eqb stop 0);
+      written = p .out;
+      accepted = p .accepted;
+      refused = p .refused;
+    }

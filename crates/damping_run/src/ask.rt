@@ -20,7 +20,7 @@ pub const TICK: u8 = 9;
 pub const ADDRESS_BYTES: usize = 4;
 
 // The bytes of a record or tick of a kind, the kind's own included; 0 for a kind that is none of theirs.
-pub fn size_of(kind: u8) -> usize
+pub(crate) fn size_of(kind: u8) -> usize
     ensures { λ r. ⌜ (r ≡ bytesOf kind) × (r ≤ 22) ⌝ }
 {
     if kind == TICK {

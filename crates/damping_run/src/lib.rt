@@ -5,21 +5,21 @@ mod told; // what counts as an update
 use feed::Ran;
 use feed::Report;
 ghost use mathlib.Core.Path.{_≡_};
-ghost use Prim.Native.Nat.{_≤_};
+ghost use Prim.Native.Nat.{_^_, _≤_, _<_};
 ghost use lib.ListN.{length};
 ghost use Rattle.feed.specs.declared.Ran.the-variants.{Stopped};
 ghost use Rattle.front.specs.Runs.{halts};
 ghost use Rattle.damping.specs.Locally.{Ready};
 ghost use Rattle.damping_run.specs.Runs.{HasRun};
 ghost use Rattle.damping_run.specs.Locally.{RanLocally, HasRunLocally};
-ghost use Rattle.damping_run.specs.Turns.{Takes, Took};
+ghost use Rattle.damping_run.specs.Turns.{first, Takes, Took, toldAt};
 
 // How far a run has come: feed bytes consumed, reply bytes written, accepted updates, refused records.
-struct Progress {
-    at: usize,
-    out: usize,
-    accepted: usize,
-    refused: usize,
+pub struct Progress {
+    pub at: usize,
+    pub out: usize,
+    pub accepted: usize,
+    pub refused: usize,
 }
 
 // Runs a feed on the lent words of a front and of a table, and writes the replies to the front of lent bytes. Only here the words
@@ -60,29 +60,31 @@ fn run_with(
         (now (front .exit)) (now (words .exit)) (now (reply .exit)) (Stopped r) ⌝ }
 {
     let room = reply.len();
-    let mut p = Progress {
-        at: 0,
-        out: 0,
-        accepted: 0,
-        refused: 0,
-    };
+    let mut p = Progress::start();
     let mut stop = p.halt(feed, room);
     while stop == 5 {
         p = p.answer_next(front, words, feed, reply, known);
         stop = p.halt(feed, room);
     }
-    Report {
-        stop: stop,
-        consumed: p.at + feed::last(stop),
-        written: p.out,
-        accepted: p.accepted,
-        refused: p.refused,
-    }
+    p.report(stop)
 }
 
+// The steps of a run, for a caller who looks on between them.
 impl Progress {
+    // Before the first record.
+    pub fn start() -> Progress
+        ensures { λ r. ⌜ r ≡ first ⌝ }
+    {
+        Progress {
+            at: 0,
+            out: 0,
+            accepted: 0,
+            refused: 0,
+        }
+    }
+
     // The stop that the tests before a record find, or 5.
-    fn halt(self, feed: &[u8], room: usize) -> u32
+    pub fn halt(self, feed: &[u8], room: usize) -> u32
         requires { ⌜ (self .at ≤ length (now feed)) × (self .out ≤ room) ⌝ }
         ensures { λ r. ⌜ r ≡ halts (now (feed .entry)) room (self .at) (self .out) ⌝ }
     {
@@ -109,7 +111,7 @@ impl Progress {
     }
 
     // Answers the record or tick that is next, and hands back how far the run has come then.
-    fn answer_next(
+    pub fn answer_next(
         self,
         front: &mut [u32],
         words: &mut [u32],
@@ -134,6 +136,20 @@ impl Progress {
             out: next,
             accepted: accepted,
             refused: refused,
+        }
+    }
+
+    // What is told of a run that has stopped there.
+    pub fn report(self, stop: u32) -> Report
+        requires { ⌜ self .at < 2 ^ 63 ⌝ }
+        ensures { λ r. ⌜ r ≡ toldAt self stop ⌝ }
+    {
+        Report {
+            stop: stop,
+            consumed: self.at + feed::last(stop),
+            written: self.out,
+            accepted: self.accepted,
+            refused: self.refused,
         }
     }
 }

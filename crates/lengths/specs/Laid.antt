@@ -19,9 +19,8 @@ use Rattle.lengths.specs.Hash.{start-lt, place-lt}
 use Rattle.lengths.specs.Layout.{headerWords, beginOf, sizeOf, Places, placesOf, start, probe, findIn, look, walk}
 use Rattle.lengths.specs.Layout.{answered}
 
--- the table of length m lies between the header and `to`, and tells the list's entries of that length, each with its best match
+-- the table of length m ends by `to`, and tells the list's entries of that length, each with its best match
 pub record Table (rs : List Route) (ws : List ℕ) (to m : ℕ) : Type 0 where
-  pub begins : headerWords ≤ beginOf ws m
   pub ends : beginOf ws m + 8 * sizeOf ws m ≤ to
   pub finds : (v : ℕ) → findIn ws m (beginOf ws m) (sizeOf ws m) v ≡ cond (mem v (entries m rs)) (hit (bestAt rs m v)) miss
 
@@ -116,20 +115,19 @@ module _ (rs : List Route) (ws us : List ℕ) (to m : ℕ) (h : (i : ℕ) → 2 
   p = 4 * sizeOf ws m
 
   begin-same : beginOf us m ≡ o
-  begin-same = h (2 * m) (omega arith) (omega arith)
+  begin-same = ap (λ (x : ℕ). headerWords + 8 * x) (h (2 * m) (omega arith) (omega arith))
 
   size-same : sizeOf us m ≡ sizeOf ws m
   size-same = h (2 * m + 1) (omega arith) (omega arith)
 
   keys-same : (i : ℕ) → i < p → getD us (o + i) 0 ≡ getD ws (o + i) 0
-  keys-same i l = w _ (omega (arith, t .begins)) (omega (arith, t .ends))
+  keys-same i l = w _ (omega arith) (omega (arith, t .ends))
 
   bests-same : (i : ℕ) → i < p → getD us (o + i + p) 0 ≡ getD ws (o + i + p) 0
-  bests-same i l = w _ (omega (arith, t .begins)) (omega (arith, t .ends))
+  bests-same i l = w _ (omega arith) (omega (arith, t .ends))
 
   pub table-same : Table rs us to m
   table-same = record {
-    begins = rw begin-same (t .begins);
     ends = rw (begin-same, size-same) (t .ends);
     finds = λ v. rw (begin-same, size-same) (probe-same (placesOf ws m o p) (placesOf us m o p) p v
         (λ i l. rw (keys-same i l, bests-same i l)) (λ i l. rw (keys-same i l)) bests-same p 0 (omega arith) ∙ t .finds v);

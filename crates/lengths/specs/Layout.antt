@@ -2,7 +2,7 @@
 -- Assumes nothing.
 --
 --     word 0                  the best match of length 0: the default route's, or 0
---     words 2m, 2m + 1        of length m, 1 to 32: where its hash table begins, and how many entries it has
+--     words 2m, 2m + 1        of length m, 1 to 32: how many entries stand before its hash table, and how many it has
 --     from word 1024 on       the hash tables: four places an entry, a key and a best match each
 --
 --     begin                   begin + 4e                begin + 8e
@@ -22,9 +22,9 @@ use Rattle.lengths.specs.Way.{Look, miss, hit, outside, search}
 abbrev pub headerWords : ℕ
 headerWords = 1024
 
--- where the table of length m begins, and how many entries it has
+-- where the table of length m begins: after the header and the entries before it, eight words each; and how many entries it has
 abbrev pub beginOf : List ℕ → ℕ → ℕ
-beginOf ws m = getD ws (2 * m) 0
+beginOf ws m = headerWords + 8 * getD ws (2 * m) 0
 
 abbrev pub sizeOf : List ℕ → ℕ → ℕ
 sizeOf ws m = getD ws (2 * m + 1) 0

@@ -118,7 +118,7 @@ fn look_in(words: &[u32], m: u32, v: u32) -> Look
     requires { ⌜ (headerWords ≤ length (now words)) × (m ≤ 32) ⌝ }
     ensures { λ r. ⌜ Looked (now (words .entry)) r (look (now (words .entry)) m v) ⌝ }
 {
-    let o = words[2 * m as usize] as usize;
+    let o = HEADER_WORDS + ENTRY_WORDS * words[2 * m as usize] as usize;
     let size = words[2 * m as usize + 1] as usize;
     if o + ENTRY_WORDS * size > words.len() {
         return Look::Outside;

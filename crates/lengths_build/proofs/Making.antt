@@ -1,5 +1,5 @@
 -- One table made: its numbers in the header, the clearing and the two passes together. Assumes nothing.
-use mathlib.Core.Path.{_≡_, _∙_}
+use mathlib.Core.Path.{_≡_, ap, _∙_}
 use mathlib.Core.Logic.{_≢_}
 use mathlib.Core.Bool.{Bool, true, false}
 use mathlib.Core.List.{List}
@@ -9,11 +9,11 @@ use lib.ListN.{length, getD, set, length-set}
 use lib.Seq.{getD-set-same, getD-set-other}
 use Rattle.logic.specs.Cases.{same}
 use Rattle.listing.specs.Listed.{recordsIn, candidateAt, listOf}
-use Rattle.lengths.specs.Layout.{headerWords, beginOf, sizeOf}
+use Rattle.lengths.specs.Layout.{headerWords}
 use Rattle.lengths.specs.Laid.{table-same}
-use Rattle.lengths_build.specs.Filling.{Kept, Standing, chosen, Filling, Filled}
+use Rattle.lengths_build.specs.Filling.{Kept, Standing, chosen, sizeFor, Filling, Filled}
 use Rattle.lengths_build.specs.Fill.{kept-none, kept-join, standing-kept, standing-more, filling-skip, filling-start}
-use Rattle.lengths_build.specs.Fill.{filling-turn, filling-end}
+use Rattle.lengths_build.specs.Fill.{filling-turn, filling-end, standing-on}
 use Rattle.listing.specs.Records.{candidate-of}
 use Rattle.lengths_build.specs.Build.{Cleared, Headed, Makes, Made}
 
@@ -39,13 +39,14 @@ module _ (ws : List ℕ) (at a b : ℕ) (h : at + 1 < length ws) where
     above = λ i l. two-out i (λ e. omega arith) (λ e. omega arith);
   }
 
-pub headed : (ws : List ℕ) (m o size : ℕ) → m ≤ 32 → headerWords ≤ length ws → Headed ws (two ws (2 * m) o size) m o size
-headed ws m o size h k =
+pub headed : (ws : List ℕ) (m before size : ℕ) → m ≤ 32 → headerWords ≤ length ws
+    → Headed ws (two ws (2 * m) before size) m before size
+headed ws m before size h k =
     let l : 2 * m + 1 < length ws = omega arith in
     record {
-      begins = two-a ws (2 * m) o size l;
-      sizes = two-b ws (2 * m) o size l;
-      kept = two-kept ws (2 * m) o size l;
+      begins = two-a ws (2 * m) before size l;
+      sizes = two-b ws (2 * m) before size l;
+      kept = two-kept ws (2 * m) before size l;
     }
 
 -- ---- words cleared
@@ -98,7 +99,11 @@ module _ (k : Bool) (bs : List ℕ) (m o n : ℕ) where
 
 -- ---- one table
 
-module _ (bs ws : List ℕ) (m o size : ℕ) (f : Makes bs ws m o size) (us : List ℕ) (h : Headed ws us m o size) where
+module _ (bs ws : List ℕ) (m before count : ℕ) (f : Makes bs ws m before count) (size : ℕ) (e : size ≡ sizeFor count)
+    (us : List ℕ) (h : Headed ws us m before size) where
+  abbrev o : ℕ
+  o = headerWords + 8 * before
+
   below-kept : Standing (listOf bs) us o m
   below-kept = record {
     default = h .kept .below 0 (omega (arith, f .few)) ∙ f .built .default;
@@ -110,29 +115,34 @@ module _ (bs ws : List ℕ) (m o size : ℕ) (f : Makes bs ws m o size) (us : Li
   module _ (vs : List ℕ) (to : ℕ) (r : o + 8 * size ≤ to) (c : Cleared us vs o to) where
     pub make-first : Filling false bs vs (recordsIn bs) m o size
     make-first =
-        filling-start bs vs m o size (f .list) (f .few) (f .most) (f .low)
-        (omega (arith, f .fits, h .kept .long, c .kept .long)) (f .small) (f .counts)
-        (standing-kept (listOf bs) us vs o m to (f .low) (omega (arith, f .most)) (c .kept) below-kept)
+        filling-start bs vs m o size (f .list) (f .few) (f .most) (omega arith)
+        (omega (arith, f .fits, h .kept .long, c .kept .long)) (omega arith) (e ∙ ap sizeFor (f .counts))
+        (standing-kept (listOf bs) us vs o m to (omega arith) (omega (arith, f .most)) (c .kept) below-kept)
         (λ i a b. c .zero i a (omega arith))
 
     module _ (xs : List ℕ) (g : Filled false bs vs xs 0 m o size) where
       pub make-second : Filling true bs xs (recordsIn bs) m o size
       make-second = filling-turn bs xs m o size (g .filling)
 
-      pub make-made : to ≤ o + 8 * size → (ys : List ℕ) → Filled true bs xs ys 0 m o size → Made bs ws ys m (o + 8 * size)
+      pub make-made : to ≤ o + 8 * size → (ys : List ℕ) → Filled true bs xs ys 0 m o size → Made bs ws ys m before count
       make-made x ys t = record {
-        built = standing-more (listOf bs) ys o (o + 8 * size) m (omega arith) (t .filling .built)
-            (filling-end bs ys m o size bo so (t .filling));
+        built = standing-on (listOf bs) ys (o + 8 * size) (headerWords + 8 * (before + count)) (m + 1) (omega arith)
+            (standing-more (listOf bs) ys o (o + 8 * size) m (omega arith) (t .filling .built)
+            (filling-end bs ys m o size (ap (λ (n : ℕ). headerWords + 8 * n) bo) so (t .filling)));
         long = t .kept .long ∙ g .kept .long ∙ c .kept .long ∙ h .kept .long;
-        past = λ i a b. t .kept .above i (omega arith) ∙ g .kept .above i (omega arith) ∙ c .kept .above i (omega arith)
+        begins = bo;
+        sizes = so ∙ e;
+        front = λ i a. same-at i (omega (arith, f .most)) ∙ h .kept .below i a;
+        others = λ i a b. same-at i (omega arith) ∙ h .kept .above i a;
+        past = λ i a. t .kept .above i (omega arith) ∙ g .kept .above i (omega arith) ∙ c .kept .above i (omega arith)
             ∙ h .kept .above i (omega (arith, f .most));
       }
         where
           same-at : (i : ℕ) → i < o → getD ys i 0 ≡ getD us i 0
           same-at i l = t .kept .below i l ∙ g .kept .below i l ∙ c .kept .below i l
 
-          bo : beginOf ys m ≡ o
-          bo = same-at (2 * m) (omega (arith, f .low, f .most)) ∙ h .begins
+          bo : getD ys (2 * m) 0 ≡ before
+          bo = same-at (2 * m) (omega (arith, f .most)) ∙ h .begins
 
-          so : sizeOf ys m ≡ size
-          so = same-at (2 * m + 1) (omega (arith, f .low, f .most)) ∙ h .sizes
+          so : getD ys (2 * m + 1) 0 ≡ size
+          so = same-at (2 * m + 1) (omega (arith, f .most)) ∙ h .sizes

@@ -1,11 +1,12 @@
 -- All tables made, one length after the other, and what the call leaves and answers. Assumes nothing.
-use mathlib.Core.Path.{_≡_, refl, sym, _∙_}
+use mathlib.Core.Path.{_≡_, refl, sym, ap, _∙_}
 use mathlib.Core.Logic.{_≢_}
 use mathlib.Core.List.{List}
 use Prim.Native.Nat.{ℕ, zero, suc, _+_, _-_, _*_, _/_, _^_, _≤_, _<_}
 use native.Mathlib.Omega.{arith}
 use lib.ListN.{length, getD, set, length-set}
 use lib.Seq.{getD-set-same, getD-set-other}
+use lib.Pow.{pow-mono}
 use borrow.Author.Tests.{lt-ltb, le-ltb}
 use Rattle.routes.specs.Route.{Route}
 use Rattle.routes.specs.Route as routes
@@ -13,119 +14,131 @@ use Rattle.routes.specs.Room.{distinct}
 use Rattle.routes.specs.Seen.{gives, refuses}
 use Rattle.routes.specs.Match.{last}
 use Rattle.lengths.specs.Marks.{entries, bestAt, wordsFor, markers}
-use Rattle.lengths.specs.Entries.{entriesTo, entries-all}
+use Rattle.lengths.specs.Entries.{entriesTo}
+use Rattle.lengths.specs.Few.{few-upto}
 use Rattle.candidates.specs.Candidate.{IsList}
 use Rattle.rivals.specs.Won.{winners-list}
 use Rattle.listing.specs.Listed.{recordsIn, candidateAt, candidatesFrom, candidatesIn, listOf, Listed, unlisted, listed, listedIn}
 use Rattle.lengths_build.specs.Answer.{needOn, buildOn}
 use Rattle.listing.specs.Records.{Bytes, head-fits}
 use Rattle.listing.specs.Winning.{winningAt}
-use Rattle.listing.specs.Written.{listed-list, listed-candidates, listed-out}
+use Rattle.listing.specs.Written.{listed-list, listed-candidates}
+use Rattle.logic.specs.Cases.{same}
 use Rattle.laws.specs.Longest.{wfs}
-use Rattle.lengths_build.specs.Filling.{Standing}
+use Rattle.lengths_build.specs.Filling.{Standing, sizeFor}
 use Rattle.lengths_build.specs.Fill.{standing-on}
 use Rattle.lengths_build.specs.Best.{best-own, default-unheld}
 use Rattle.lengths.specs.Layout.{headerWords}
-use Rattle.lengths_build.specs.Build.{LeavesOn, Taken, entriesBound, Makes, Made, Starts, Ends}
-use Rattle.lengths_build.proofs.Words.{entries-few}
+use Rattle.lengths_build.specs.Build.{Header, tableEnd, LeavesOn, Makes, Made, Starts, Ends}
+use Rattle.lengths_build.specs.Sharp.{end-step, end-fits, upto-fits, used-needed}
 
--- ---- the entries of the lengths up to m
+-- ---- the loop over the lengths
 
 to-step : (m : ℕ) (rs : List Route) → 1 ≤ m → entriesTo m rs ≡ entriesTo (m - 1) rs + distinct (entries m rs)
 unfolding entriesTo
 to-step zero rs h = absurd (omega arith)
 to-step (suc m) rs h = let e : suc m - 1 ≡ m = omega arith in rw e
 
-to-le : (m d : ℕ) (rs : List Route) → entriesTo m rs ≤ entriesTo (m + d) rs
-unfolding entriesTo
-to-le m zero rs = let e : m + 0 ≡ m = omega arith in rw e (omega arith)
-to-le m (suc d) rs = let e : m + suc d ≡ suc (m + d) = omega arith in rw e (omega (arith, to-le m d rs))
+-- the entries of the lengths below m are told by a word
+before-low : (m : ℕ) (rs : List Route) → 1 ≤ m → m ≤ 32 → routes.IsList 32 rs → entriesTo (m - 1) rs < 4294967296
+before-low m rs h k l =
+    let e : suc (m - 1) ≡ m = omega arith in
+    let a : entriesTo (m - 1) rs + 2 ≤ 2 ^ m = rw e at (few-upto (m - 1) rs (omega arith) (wfs 32 rs (l .routes))) in
+    let b : 2 ^ m ≤ 2 ^ 32 = pow-mono {i = m} {j = 32} k in
+    omega arith
 
--- those up to m fit the words needed
-to-fits : (m : ℕ) (rs : List Route) → m ≤ 32 → routes.IsList 32 rs → headerWords + 8 * entriesTo m rs ≤ wordsFor rs
-to-fits m rs h l =
-    let e : m + (32 - m) ≡ 32 = omega arith in
-    let a : entriesTo m rs ≤ entriesTo 32 rs = rw e at (to-le m (32 - m) rs) in
-    omega (arith, entries-all rs (l .sorted) (wfs 32 rs (l .routes)))
-
--- and their number in a word, as no length has more than the bound
-to-few : (bs : List ℕ) (m : ℕ) → Taken bs → m ≤ 32 → entriesTo m (listOf bs) ≤ entriesBound * m
-unfolding entriesTo
-to-few bs zero t h = omega arith
-to-few bs (suc m) t h =
-    let e = entries-few bs (suc m) (distinct (entries (suc m) (listOf bs))) t (omega arith) h refl in
-    omega (arith, to-few bs m t (omega arith), e)
-
--- ---- the loop over the lengths
-
-pub record Going (bs ws us : List ℕ) (m o : ℕ) : Type 0 where
+pub record Going (bs ws us : List ℕ) (m before : ℕ) : Type 0 where
   pub few : 1 ≤ m
   pub most : m ≤ 33
-  pub at : o ≡ headerWords + 8 * entriesTo (m - 1) (listOf bs)
-  pub built : Standing (listOf bs) us o m
+  pub at : before ≡ entriesTo (m - 1) (listOf bs)
+  pub built : Standing (listOf bs) us (headerWords + 8 * before) m
+  pub header : Header (listOf bs) ws us m
   pub long : length us ≡ length ws
-  pub past : (i : ℕ) → wordsFor (listOf bs) ≤ i → getD us i 0 ≡ getD ws i 0
+  pub past : (i : ℕ) → tableEnd (m - 1) (listOf bs) ≤ i → getD us i 0 ≡ getD ws i 0
 
-pub going-start : (bs ws : List ℕ) → Starts bs ws → Going bs ws ws 1 headerWords
+pub going-start : (bs ws : List ℕ) → Starts bs ws → Going bs ws ws 1 0
 unfolding entriesTo
 going-start bs ws s = record {
   few = omega arith;
   most = omega arith;
   at = refl;
   built = record { default = s .default; tables = λ l x y. absurd (omega arith) };
+  header = record {
+    before = λ l x y. absurd (omega arith);
+    sizes = λ l x y. absurd (omega arith);
+    second = refl;
+    others = λ i a b. refl;
+  };
   long = refl;
   past = λ i h. refl;
 }
 
-module _ (bs ws : List ℕ) (s : Starts bs ws) (us : List ℕ) (m o : ℕ) (g : Going bs ws us m o) where
+module _ (bs ws : List ℕ) (s : Starts bs ws) (us : List ℕ) (m before : ℕ) (g : Going bs ws us m before) where
   won : routes.IsList 32 (listOf bs)
-  won = winners-list 32 (candidatesIn bs) (s .taken .list)
+  won = winners-list 32 (candidatesIn bs) (s .list)
 
-  module _ (h : m ≤ 32) (size : ℕ) (e : size ≡ distinct (entries m (listOf bs))) where
-    next : o + 8 * size ≡ headerWords + 8 * entriesTo m (listOf bs)
+  module _ (h : m ≤ 32) (count : ℕ) (e : count ≡ distinct (entries m (listOf bs))) where
+    next : before + count ≡ entriesTo m (listOf bs)
     next = omega (arith, g .at, to-step m (listOf bs) (g .few))
 
-    pub going-fits : o + 8 * size ≤ length us
-    going-fits = omega (arith, next, to-fits m (listOf bs) h won, s .room, g .long)
+    pub going-fits : headerWords + 8 * (before + count) ≤ length us
+    going-fits = omega (arith, next, upto-fits m (listOf bs) h won, s .room, g .long)
 
-    pub going-makes : Makes bs us m o size
+    pub going-makes : Makes bs us m before count
     going-makes = record {
-      list = s .taken .list;
+      list = s .list;
       few = g .few;
       most = h;
-      low = omega (arith, g .at);
-      near = omega (arith, g .at, to-few bs (m - 1) (s .taken) (omega arith));
+      near = omega (arith, g .at, before-low m (listOf bs) (g .few) h won);
       fits = going-fits;
-      small = omega (arith, entries-few bs m size (s .taken) (g .few) h e);
       counts = e;
       built = g .built;
     }
 
-    pub going-more : (vs : List ℕ) → Made bs us vs m (o + 8 * size) → Going bs ws vs (m + 1) (o + 8 * size)
-    going-more vs t = record {
-      few = omega arith;
-      most = omega arith;
-      at = let q : m + 1 - 1 ≡ m = omega arith in rw q next;
-      built = t .built;
-      long = t .long ∙ g .long;
-      past = λ i k. t .past i (omega (arith, next, to-fits m (listOf bs) h won)) (omega arith) ∙ g .past i k;
-    }
+    -- where the table of length m ends
+    ends : tableEnd m (listOf bs) ≡ headerWords + 8 * (before + sizeFor count)
+    ends = end-step m (listOf bs) (g .few) ∙ rw (g .at, e)
+
+    pub going-more : (vs : List ℕ) → Made bs us vs m before count → Going bs ws vs (m + 1) (before + count)
+    going-more vs t =
+        let q : m + 1 - 1 ≡ m = omega arith in
+        record {
+          few = omega arith;
+          most = omega arith;
+          at = rw q next;
+          built = t .built;
+          header = record {
+            before = λ l x y. same l m (λ z _. rw z (t .begins ∙ g .at))
+                (λ z _. t .front (2 * l) (omega arith) ∙ g .header .before l x (omega arith));
+            sizes = λ l x y. same l m (λ z _. rw z (t .sizes ∙ ap sizeFor e))
+                (λ z _. t .front (2 * l + 1) (omega arith) ∙ g .header .sizes l x (omega arith));
+            second = t .front 1 (omega (arith, g .few)) ∙ g .header .second;
+            others = λ i a b. t .others i (omega arith) b ∙ g .header .others i (omega arith) b;
+          };
+          long = t .long ∙ g .long;
+          past = λ i k. after vs t i (rw q at k);
+        }
+      where
+        after : (vs : List ℕ) → Made bs us vs m before count → (i : ℕ) → tableEnd m (listOf bs) ≤ i → getD vs i 0 ≡ getD ws i 0
+        after vs t i k = t .past i (omega (arith, ends)) ∙ g .past i (omega (arith, ends, g .at, end-fits (m - 1) (listOf bs)))
 
   pub going-end : 32 < m → Ends bs ws us
   going-end h =
       let q : m - 1 ≡ 32 = omega (arith, g .most) in
       let z : m ≡ 33 = omega (arith, g .most) in
-      let a : o ≡ headerWords + 8 * entriesTo 32 (listOf bs) = g .at ∙ rw q in
-      let b = standing-on (listOf bs) us o (wordsFor (listOf bs)) m
-      (omega (arith, a, to-fits 32 (listOf bs) (omega arith) won)) (g .built) in
+      let a : before ≡ entriesTo 32 (listOf bs) = g .at ∙ rw q in
+      let b = standing-on (listOf bs) us (headerWords + 8 * before) (wordsFor (listOf bs)) m
+      (omega (arith, a, upto-fits 32 (listOf bs) (omega arith) won)) (g .built) in
       record {
         laid = record {
           long = omega (arith, s .room, g .long);
           default = b .default;
           tables = λ l x y. b .tables l x (omega arith);
         };
+        header = rw z at (g .header);
         long = g .long;
-        past = g .past;
+        spare = λ i k. g .past i (rw q k);
+        past = λ i k. g .past i (rw q (omega (arith, used-needed (listOf bs) won)));
       }
 
 -- ---- the default route
@@ -186,20 +199,19 @@ module _ (bs ws : List ℕ) (n : ℕ) (g : Given bs n) where
         record {
           refused = λ _. refl;
           laid = λ k. absurd (omega (arith, g .words));
+          header = λ k. absurd (omega (arith, g .words));
           long = refl;
+          spare = λ i k. refl;
           past = λ i k. refl;
         },
       )
 
-  pub build-taken : Bytes bs → Taken bs
-  build-taken b = record {
-    list = listed-candidates bs b (listOf bs) (g .is);
-    room = listed-out bs b (listOf bs) (g .is) .room;
-  }
+  pub build-list : Bytes bs → IsList 32 (candidatesIn bs)
+  build-list b = listed-candidates bs b (listOf bs) (g .is)
 
   pub build-starts : Bytes bs → (d : ℕ) → n ≤ length ws → d ≡ bestAt (listOf bs) 0 0 → Starts bs (set ws 0 d)
   build-starts b d h e = record {
-    taken = build-taken b;
+    list = build-list b;
     room = simp length-set (omega (arith, g .words));
     default = getD-set-same ws 0 d 0 (omega (arith, g .words)) ∙ e;
   }
@@ -214,7 +226,14 @@ module _ (bs ws : List ℕ) (n : ℕ) (g : Given bs n) where
         record {
           refused = λ k. absurd (omega (arith, g .words));
           laid = λ k. e .laid;
+          header = λ k. record {
+            before = e .header .before;
+            sizes = e .header .sizes;
+            second = e .header .second ∙ getD-set-other ws 0 1 d 0 (λ z. omega arith);
+            others = λ i a b. e .header .others i a b ∙ getD-set-other ws 0 i d 0 (λ z. omega arith);
+          };
           long = e .long ∙ length-set ws 0 d;
+          spare = λ i k. e .spare i k ∙ getD-set-other ws 0 i d 0 (λ z. omega (arith, end-step 32 (listOf bs) (omega arith)));
           past = λ i k. e .past i k ∙ getD-set-other ws 0 i d 0 (λ z. omega arith);
         },
       )

@@ -3,12 +3,13 @@ use mathlib.Core.Path.{_≡_, refl, sym, _∙_}
 use mathlib.Core.Logic.{_≢_}
 use mathlib.Core.Bool.{Bool, true, false, cond, not}
 use mathlib.Core.List.{List, [], _∷_}
-use Prim.Native.Nat.{ℕ, suc, _+_, _*_, _≤_, _<_}
+use Prim.Native.Nat.{ℕ, suc, _+_, _*_, _^_, _≤_, _<_}
 use native.Mathlib.Nat.{le-refl}
 use native.Mathlib.Numerals.{add-one}
 use native.Mathlib.Omega.{arith}
 use lib.ListN.{length}
 use lib.Dec.{eqb}
+use lib.Pow.{pow-mono}
 use borrow.Author.Tests.{ne-eqb}
 use Rattle.routes.specs.Route.{Route, key, From, hopAt}
 use Rattle.routes.specs.Route as routes
@@ -23,14 +24,13 @@ use Rattle.rivals.specs.Won.{winners-list}
 use Rattle.listing.specs.Listed.{recordsIn, candidateAt, candidatesFrom, candidatesIn, listOf, listedIn}
 use Rattle.listing.specs.Winning.{winningAt, record-won}
 use Rattle.listing.specs.Heads.{picks, between}
-use Rattle.listing.specs.Records.{Bytes, Reads}
-use Rattle.listing.specs.Written.{listed-out}
+use Rattle.listing.specs.Records.{Reads}
 use Rattle.lengths.specs.Layout.{headerWords}
 use Rattle.lengths.specs.Marks.{markers, entries}
 use Rattle.lengths.specs.Entries.{tally, entriesTo, entries-all}
 use Rattle.lengths.specs.Few.{few-entries}
 use Rattle.lengths_build.specs.Answer.{needOn}
-use Rattle.lengths_build.specs.Build.{Taken, entriesBound}
+use Rattle.lengths_build.specs.Build.{entriesBound}
 use Rattle.lengths_build.specs.Reach.{reach, entries-reach}
 use Rattle.lengths_build.specs.Best.{default-unheld, default-hop}
 
@@ -39,18 +39,17 @@ entries-count : (rs : List Route) (m k a : ℕ) → routes.IsList 32 rs → 1 �
 entries-count rs m k a l h j e q = rw (entries-reach m rs h j (wfs 32 rs (l .routes)), ← e) q
 
 -- no length has more than the bound
-pub entries-few : (bs : List ℕ) (m a : ℕ) → Taken bs → 1 ≤ m → m ≤ 32 → a ≡ distinct (entries m (listOf bs)) → a ≤ entriesBound
-entries-few bs m a t h k e = omega (
-  arith,
-  t .room,
-  few-entries m (listOf bs) h k (wfs 32 (listOf bs) (winners-list 32 (candidatesIn bs) (t .list) .routes)),
-)
+entries-few : (rs : List Route) (m a : ℕ) → routes.IsList 32 rs → m ≤ 32 → a ≡ distinct (entries m rs) → a ≤ entriesBound
+entries-few rs m a l k e =
+    let b : 2 ^ m ≤ 2 ^ 32 = pow-mono {i = m} {j = 32} k in
+    omega (arith, few-entries m rs k (wfs 32 rs (l .routes)))
 
-pub entries-told : (bs : List ℕ) (m k a : ℕ) → Taken bs → 1 ≤ m → m ≤ 32 → k ≡ reach m
+pub entries-told : (bs : List ℕ) (m k a : ℕ) → IsList 32 (candidatesIn bs) → 1 ≤ m → m ≤ 32 → k ≡ reach m
     → a ≡ distinct (picks (between m k) m (listOf bs)) → (a ≡ distinct (entries m (listOf bs))) × (a ≤ entriesBound)
 entries-told bs m k a t h j e q =
-    let s = entries-count (listOf bs) m k a (winners-list 32 (candidatesIn bs) (t .list)) h j e q in
-    (s, entries-few bs m a t h j s)
+    let l = winners-list 32 (candidatesIn bs) t in
+    let s = entries-count (listOf bs) m k a l h j e q in
+    (s, entries-few (listOf bs) m a l j s)
 
 -- ---- summed up
 
@@ -122,8 +121,5 @@ module _ (bs : List ℕ) (r : Bool) (w : Reads bs r) where
       → gives (8 * t + headerWords) ≡ needOn (listedIn bs)
   need-words t e s = rw (w .is, not-false r e, s)
 
-  -- and what is taken as a list has room in a table
-  pub need-taken : Bytes bs → not r ≡ false → Taken bs
-  need-taken b e =
-      let q : r ≡ true = not-false r e in
-      record { list = w .list q; room = listed-out bs b (listOf bs) (w .is ∙ rw q) .room }
+  pub need-list : not r ≡ false → IsList 32 (candidatesIn bs)
+  need-list e = w .list (not-false r e)

@@ -26,10 +26,12 @@ use Rattle.listing.specs.Listed.{recordsIn, candidateAt, candidatesFrom, candid
 use Rattle.listing.specs.Records.{tail-step, tail-end, candidate-of, head-fits}
 use Rattle.laws.specs.Longest.{wfs}
 use Rattle.lengths.specs.Held.{turn-below}
+use Rattle.lengths.specs.Few.{few-entries}
 use Rattle.lengths.specs.Layout.{headerWords, beginOf, sizeOf, keyOf, takenBy, Places, placesOf, find}
 use Rattle.lengths.specs.Hash.{room-left, Holds, holds-none, holds-again, holds-put}
 use Rattle.lengths.specs.Laid.{Table, table-same}
-use Rattle.lengths_build.specs.Filling.{Kept, Standing, chosen, tail, base, sofar, Filling, Filled, Space, Put, isMiss}
+use Rattle.lengths_build.specs.Filling.{Kept, Standing, chosen, tail, base, sofar, sizeFor, Filling, Filled, Space, Put}
+use Rattle.lengths_build.specs.Filling.{isMiss}
 use Rattle.lengths_build.specs.Best.{best-own, own-entered, unentered}
 
 -- ---- words kept
@@ -124,10 +126,12 @@ module _ (k : Bool) (bs : List ℕ) (i m : ℕ) (h : i < recordsIn bs) where
       (rw (sofar-more e) (or-left (eqb v v) (mem v (sofar k bs m (i + 1))) (eq-eqb v v refl)))
 
 -- a new value leaves room for itself
-room-for : (k : Bool) (bs : List ℕ) (i m v n : ℕ) → IsList 32 (candidatesIn bs) → i ≤ recordsIn bs
-    → mem v (entries m (listOf bs)) ≡ true → mem v (sofar k bs m i) ≡ false → n ≡ distinct (entries m (listOf bs))
+room-for : (k : Bool) (bs : List ℕ) (i m v n : ℕ) → IsList 32 (candidatesIn bs) → m ≤ 32 → i ≤ recordsIn bs
+    → mem v (entries m (listOf bs)) ≡ true → mem v (sofar k bs m i) ≡ false → n ≡ sizeFor (distinct (entries m (listOf bs)))
     → distinct (sofar k bs m i) < 4 * n
-room-for k bs i m v n l h e f q =
+room-for k bs i m v n l w h e f q =
+    let a = few-entries m (listOf bs) w (wfs 32 (listOf bs) (winners-list 32 (candidatesIn bs) l .routes)) in
+    let b : 2 ^ m ≤ 2 ^ 32 = pow-mono {i = m} {j = 32} w in
     let d : distinct (v ∷ sofar k bs m i) ≤ distinct (entries m (listOf bs)) =
     distinct-le (v ∷ sofar k bs m i) (entries m (listOf bs)) all in
     let s : distinct (v ∷ sofar k bs m i) ≡ suc (distinct (sofar k bs m i)) = rw f in
@@ -204,7 +208,7 @@ module _ (k : Bool) (bs ws : List ℕ) (i m o n : ℕ) (f : Filling k bs ws (i +
       small = f .small;
       room = room-left T (4 * n)
           (rw (f .holds .count)
-          (room-for k bs (i + 1) m x n (f .list) (f .upto) (rw xe (head-entry k bs i m here (f .list) c)) (away b e q)
+          (room-for k bs (i + 1) m x n (f .list) (f .most) (f .upto) (rw xe (head-entry k bs i m here (f .list) c)) (away b e q)
           (f .size)));
     }
 
@@ -244,7 +248,7 @@ module _ (k : Bool) (bs ws : List ℕ) (i m o n : ℕ) (f : Filling k bs ws (i +
 
 -- an empty table, before the first pass
 pub filling-start : (bs ws : List ℕ) (m o n : ℕ) → IsList 32 (candidatesIn bs) → 1 ≤ m → m ≤ 32 → headerWords ≤ o
-    → o + 8 * n ≤ length ws → n < 2 ^ 32 → n ≡ distinct (entries m (listOf bs))
+    → o + 8 * n ≤ length ws → n < 2 ^ 32 → n ≡ sizeFor (distinct (entries m (listOf bs)))
     → Standing (listOf bs) ws o m → ((i : ℕ) → o ≤ i → i < o + 8 * n → getD ws i 0 ≡ 0)
     → Filling false bs ws (recordsIn bs) m o n
 filling-start bs ws m o n l a b c d g e f z = record {
@@ -303,13 +307,12 @@ sofar-all bs m z l =
 pub filling-end : (bs ws : List ℕ) (m o n : ℕ) → beginOf ws m ≡ o → sizeOf ws m ≡ n → Filling true bs ws 0 m o n
     → Table (listOf bs) ws (o + 8 * n) m
 filling-end bs ws m o n b s f = record {
-  begins = rw b (f .low);
   ends = rw (b, s) (omega arith);
   finds = λ v. rw (b, s) (f .holds .finds v ∙ rw (sofar-all bs m v (f .list)));
 }
 
 table-on : (rs : List Route) (ws : List ℕ) (o to m : ℕ) → o ≤ to → Table rs ws o m → Table rs ws to m
-table-on rs ws o to m h t = record { begins = t .begins; ends = omega (arith, t .ends); finds = t .finds }
+table-on rs ws o to m h t = record { ends = omega (arith, t .ends); finds = t .finds }
 
 -- one table more
 pub standing-more : (rs : List Route) (ws : List ℕ) (o to m : ℕ) → o ≤ to → Standing rs ws o m → Table rs ws to m

@@ -3,7 +3,7 @@
 use mathlib.Core.Path.{_≡_}
 use mathlib.Core.Bool.{Bool, true, false}
 use mathlib.Core.List.{List, [], _++_}
-use Prim.Native.Nat.{ℕ, zero, suc, _+_, _-_, _*_, _/_, _^_, _≤_, _<_}
+use Prim.Native.Nat.{ℕ, zero, suc, _+_, _-_, _*_, _/_, _^_, _≤_, _<_, min}
 use lib.ListN.{length, getD, set}
 use lib.Dec.{eqb}
 use Rattle.routes.specs.Route.{Route}
@@ -49,6 +49,11 @@ base true bs m = picks (chosen false m) m (tail bs 0) ++ []
 abbrev pub sofar : Bool → List ℕ → ℕ → ℕ → List ℕ
 sofar k bs m i = picks (chosen k m) m (tail bs i) ++ base k bs m
 
+-- for how many entries a table is made that is to hold so many: a word cannot tell 2^32, which length 32 alone can have, and
+-- four places for each of one less are enough
+abbrev pub sizeFor : ℕ → ℕ
+sizeFor count = min count 4294967295
+
 -- a table of n entries at word o
 pub record Filling (k : Bool) (bs ws : List ℕ) (i m o n : ℕ) : Type 0 where
   pub list : IsList 32 (candidatesIn bs)
@@ -58,7 +63,7 @@ pub record Filling (k : Bool) (bs ws : List ℕ) (i m o n : ℕ) : Type 0 where
   pub low : headerWords ≤ o
   pub fits : o + 8 * n ≤ length ws
   pub small : n < 2 ^ 32
-  pub size : n ≡ distinct (entries m (listOf bs))
+  pub size : n ≡ sizeFor (distinct (entries m (listOf bs)))
   pub built : Standing (listOf bs) ws o m
   pub holds : Holds (placesOf ws m o (4 * n)) (4 * n) (bestAt (listOf bs) m) (sofar k bs m i)
 

@@ -18,11 +18,14 @@ ghost use Rattle.listing.specs.Listed.{recordsIn, candidateAt, candidatesIn, li
 ghost use Rattle.lengths.specs.Layout.{headerWords, keyOf, takenBy, placesOf, findIn, look};
 ghost use Rattle.lengths.specs.Answer.{Looked};
 ghost use Rattle.lengths.specs.Hash.{Free};
-ghost use Rattle.lengths_build.specs.Filling.{chosen, Filling, Filled, Space, Put, isMiss, below};
-ghost use Rattle.lengths_build.specs.Build.{LeavesOn, Taken, entriesBound, Bests, Cleared};
+ghost use Rattle.lengths_build.specs.Filling.{sizeFor, chosen, Filling, Filled, Space, Put, isMiss, below};
+ghost use Rattle.lengths_build.specs.Build.{LeavesOn, entriesBound, Bests, Cleared};
 ghost use Rattle.lengths_build.specs.Build.{Headed, Makes, Made, Starts, Ends};
 ghost use Rattle.lengths_build.specs.Answer.{needOn, buildOn, needAnswer, buildAnswer};
 ghost use Rattle.lengths_build.specs.Reach.{stride as strideOf, reach as reachOf};
+
+// The most entries that a table's word in the header can tell.
+const MOST_SIZE: usize = 4294967295;
 
 // The words that a list needs, or the number with which the bytes are refused.
 pub enum Needs {
@@ -69,9 +72,9 @@ fn reach(m: u32) -> u32
     next - 1
 }
 
-// How many entries the length m has: few enough for a word, as the list has room in a table.
+// How many entries the length m has: no more than there are addresses.
 fn entries(bytes: &[u8], m: u32) -> usize
-    requires { ⌜ Taken (now bytes) × (1 ≤ m) × (m ≤ 32) ⌝ }
+    requires { ⌜ IsList 32 (candidatesIn (now bytes)) × (1 ≤ m) × (m ≤ 32) ⌝ }
     ensures { λ r. ⌜ (r ≡ distinct (entriesOf m (listOf (now (bytes .entry))))) × (r ≤ entriesBound) ⌝ }
 {
     listing::count(bytes, m, reach(m), m)
@@ -93,7 +96,7 @@ fn defaults(bytes: &[u8]) -> usize
 
 // The entries of all lengths, and the default route: as many as there are routes and markers.
 fn total(bytes: &[u8]) -> usize
-    requires { ⌜ Taken (now bytes) ⌝ }
+    requires { ⌜ IsList 32 (candidatesIn (now bytes)) ⌝ }
     ensures { λ r. ⌜ (r ≡ length (listOf (now (bytes .entry))) + markers (listOf (now (bytes .entry))))
         × (r ≤ 33 * entriesBound) ⌝ }
 {
@@ -165,7 +168,7 @@ fn look_at(words: &[u32], m: u32, v: u32) -> Look
     ensures { λ r. ⌜ Looked (now (words .entry)) r (look (now (words .entry)) m v) ⌝ }
 {
     let head = 2 * m as usize;
-    let o = words[head] as usize;
+    let o = HEADER_WORDS + ENTRY_WORDS * words[head] as usize;
     let size = words[head + 1] as usize;
     if o + ENTRY_WORDS * size > words.len() {
         return Look::Outside;
@@ -257,22 +260,34 @@ fn clear(words: &mut [u32], from: usize, to: usize)
     }
 }
 
-// Where the table of length m begins and how many entries it has, in the header.
-fn enter_header(words: &mut [u32], m: u32, o: usize, size: usize)
-    requires { ⌜ (m ≤ 32) × (headerWords ≤ length (now words)) × (o < 2 ^ 32) × (size < 2 ^ 32) ⌝ }
-    ensures { λ _. ⌜ Headed (now (words .entry)) (now (words .exit)) m o size ⌝ }
+// How many entries stand before the table of length m and how many it has, in the header.
+fn enter_header(words: &mut [u32], m: u32, before: usize, size: usize)
+    requires { ⌜ (m ≤ 32) × (headerWords ≤ length (now words)) × (before < 2 ^ 32) × (size < 2 ^ 32) ⌝ }
+    ensures { λ _. ⌜ Headed (now (words .entry)) (now (words .exit)) m before size ⌝ }
 {
     let at = 2 * m as usize;
-    words[at] = o as u32;
+    words[at] = before as u32;
     words[at + 1] = size as u32;
 }
 
-// The table of length m, made at word o for `size` entries.
-fn table(bytes: &[u8], words: &mut [u32], m: u32, o: usize, size: usize)
-    requires { ⌜ Makes (now bytes) (now words) m o size ⌝ }
-    ensures { λ _. ⌜ Made (now (bytes .entry)) (now (words .entry)) (now (words .exit)) m (o + 8 * size) ⌝ }
+// For how many entries a table is made that is to hold so many: a word cannot tell 2^32, and the places of one less are enough.
+fn sized(count: usize) -> usize
+    ensures { λ r. ⌜ (r ≡ sizeFor count) × (r < 2 ^ 32) × (r ≤ count) ⌝ }
 {
-    enter_header(words, m, o, size);
+    if count > MOST_SIZE {
+        return MOST_SIZE;
+    }
+    count
+}
+
+// The table of length m, made for `count` entries after those before it.
+fn table(bytes: &[u8], words: &mut [u32], m: u32, before: usize, count: usize)
+    requires { ⌜ Makes (now bytes) (now words) m before count ⌝ }
+    ensures { λ _. ⌜ Made (now (bytes .entry)) (now (words .entry)) (now (words .exit)) m before count ⌝ }
+{
+    let size = sized(count);
+    enter_header(words, m, before, size);
+    let o = HEADER_WORDS + ENTRY_WORDS * before;
     let end = o + ENTRY_WORDS * size;
     clear(words, o, end);
     fill(bytes, words, false, m, o, size);
@@ -286,12 +301,12 @@ fn tables(bytes: &[u8], words: &mut [u32])
     requires { ⌜ Starts (now bytes) (now words) ⌝ }
     ensures { λ _. ⌜ Ends (now (bytes .entry)) (now (words .entry)) (now (words .exit)) ⌝ }
 {
-    let mut o = HEADER_WORDS;
+    let mut before: usize = 0;
     let mut m: u32 = 1;
     while m <= 32 {
-        let size = entries(bytes, m);
-        table(bytes, words, m, o, size);
-        o += ENTRY_WORDS * size;
+        let count = entries(bytes, m);
+        table(bytes, words, m, before, count);
+        before += count;
         m += 1;
     }
 }

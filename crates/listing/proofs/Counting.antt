@@ -1,26 +1,24 @@
--- Heads counted from the last record to the first, as the loop takes them, and the arrays from such counts. Assumes nothing.
+-- Heads counted from the last record to the first, as the loop takes them. Assumes nothing.
 use mathlib.Core.Path.{_≡_, refl, sym, ap, _∙_}
 use mathlib.Core.Logic.{_≢_}
 use mathlib.Core.Bool.{Bool, true, false, cond}
 use mathlib.Core.List.{List, _∷_}
-use Prim.Native.Nat.{ℕ, suc, _+_, _-_, _*_, _/_, _^_, _≤_, _<_}
+use Prim.Native.Nat.{ℕ, suc, _+_, _-_, _/_, _^_, _≤_, _<_}
 use native.Mathlib.Numerals.{add-one}
 use native.Mathlib.Omega.{arith}
 use lib.Dec.{eqb}
 use lib.Pow.{shr-le}
 use borrow.Author.Tests.{eq-eqb, ne-eqb, eqb-true, eqb-false}
 use Rattle.routes.specs.Route.{Route}
-use Rattle.routes.specs.Route as routes
-use Rattle.routes.specs.Room.{distinct, need, needTo}
+use Rattle.routes.specs.Room.{distinct}
 use Rattle.logic.specs.Cases.{same}
-use Rattle.laws.specs.Longest.{wfs}
 use Rattle.candidates.specs.Candidate.{IsList}
 use Rattle.candidates.specs.Winners.{winners, prefixes}
-use Rattle.rivals.specs.Won.{are-good, winners-list}
+use Rattle.rivals.specs.Won.{are-good}
 use Rattle.listing.specs.Listed.{candidateAt, candidatesFrom}
-use Rattle.listing.specs.Heads.{picks, between, noHead, lastHead, Counted, firstOr, head-low, heads-picks, count-skip}
-use Rattle.listing.specs.Heads.{count-same, count-new, count-first, distinct-length, prefixes-length, distinct-winners}
-use Rattle.listing.specs.Records.{keyBound, tail-step, tail-end, tail-list, records-length, list-short}
+use Rattle.listing.specs.Heads.{picks, noHead, lastHead, Counted, firstOr, head-low, count-skip, count-same, count-new}
+use Rattle.listing.specs.Heads.{count-first, distinct-length, prefixes-length, distinct-winners}
+use Rattle.listing.specs.Records.{tail-step, tail-end, tail-list, records-length}
 
 -- what was counted so far, over the records from i on: the count, and the address met last
 pub record Counts (P : ℕ → Bool) (m : ℕ) (rs : List Route) (seen last : ℕ) : Type 0 where
@@ -102,36 +100,9 @@ counts-low P m n i bs seen last s =
 
 pub counts-end : (P : ℕ → Bool) (m n i : ℕ) (bs : List ℕ) (seen last : ℕ) → i ≤ 0 → IsList 32 (candidatesFrom bs n 0)
     → Counts P m (prefixes (candidatesFrom bs (n - i) i)) seen last
-    → (seen ≡ distinct (picks P m (winners (candidatesFrom bs n 0)))) × (seen ≤ keyBound)
+    → seen ≡ distinct (picks P m (winners (candidatesFrom bs n 0)))
 counts-end P m n i bs seen last h l s =
     let cs = candidatesFrom bs n 0 in
     let z : i ≡ 0 = omega arith in
     let d : n - 0 ≡ n = omega arith in
-    let w = winners-list 32 cs l in
-    let e : seen ≡ distinct (picks P m (winners cs)) =
-    (rw (z, d) at (s .count)) ∙ distinct-winners P m cs (are-good 32 (omega arith) cs l) in (
-      e,
-      omega (
-        arith,
-        e,
-        distinct-length P m (winners cs),
-        list-short 0 (winners cs) (w .sorted) (wfs 32 (winners cs) (w .routes)) (omega arith),
-      ),
-    )
-
--- ---- the arrays
-
-pub arrays-none : (rs : List Route) → 1 ≡ needTo 32 0 rs
-unfolding needTo
-arrays-none rs = refl
-
--- those of one level more
-pub arrays-more : (rs : List Route) (sum k j c : ℕ) → routes.IsList 32 rs → sum ≡ needTo 32 k rs → j ≡ k + 1
-    → c ≡ distinct (picks (between (8 * j + 1) 32) (8 * j) rs) → sum + c ≡ needTo 32 j rs
-unfolding needTo
-arrays-more rs sum k j c l e s q =
-    let z : j ≡ suc k = omega arith in
-    rw (z, heads-picks (8 * suc k) rs (wfs 32 rs (l .routes)), e) (ap (λ (n : ℕ). needTo 32 k rs + n) (rw z at q))
-
-pub arrays-all : (rs : List Route) (sum k : ℕ) → sum ≡ needTo 32 k rs → k ≤ 3 → 3 ≤ k → sum ≡ need 32 rs
-arrays-all rs sum k e h l = let z : k ≡ 3 = omega arith in rw z at e
+    (rw (z, d) at (s .count)) ∙ distinct-winners P m cs (are-good 32 (omega arith) cs l)

@@ -1,4 +1,4 @@
--- What each test of the code says of the bytes: of a route, of a record, of the whole, and of the room for it. Assumes nothing.
+-- What each test of the code says of the bytes: of a route, of a record, and of the whole. Assumes nothing.
 use mathlib.Core.Path.{_≡_, refl, sym, ap, _∙_}
 use mathlib.Core.Logic.{_≢_}
 use mathlib.Core.Bool.{Bool, true, false, cond, not, _&&_, true≢false, false≢true}
@@ -9,16 +9,14 @@ use lib.ListN.{length, getD}
 use lib.Dec.{ltb, leb, eqb}
 use borrow.Author.Tests.{lt-ltb, le-ltb, le-leb, lt-leb, eq-eqb, ne-eqb, eqb-true, eqb-false}
 use Rattle.routes.specs.Route.{route, stray}
-use Rattle.routes.specs.Room.{need}
 use Rattle.logic.specs.Cases.{less}
 use Rattle.logic.specs.Every.{allB}
 use Rattle.logic.specs.Reflects.{all-stop}
 use Rattle.logic.specs.Bools.{not-true, not-false}
-use Rattle.sizes.specs.Sizes.{mostArrays}
 use Rattle.candidates.specs.Candidate.{Candidate, key, prefixKey}
-use Rattle.listing.specs.Listed.{fours, kindOf, sizeOf, begin, recordsIn, candidateAt, listOf, routeB, candidateB, recordB}
-use Rattle.listing.specs.Listed.{wholeB, unlisted, listedIn}
-use Rattle.listing.specs.Records.{addedAt, Begins, Whole, Reads, Bytes}
+use Rattle.listing.specs.Listed.{fours, kindOf, sizeOf, begin, recordsIn, candidateAt, routeB, candidateB, recordB}
+use Rattle.listing.specs.Listed.{wholeB, listedIn}
+use Rattle.listing.specs.Records.{addedAt, Begins, Reads, Bytes}
 use Rattle.listing.specs.Records.{whole-list, record-fits, records-few, records-end, end-fits}
 use Rattle.listing.specs.Winning.{IsLast}
 
@@ -125,10 +123,15 @@ module _ (bs : List ℕ) (i : ℕ) where
 -- ---- the whole
 
 module _ (bs : List ℕ) where
-  fails : wholeB bs ≡ false → Whole bs false
-  fails e = record { test = sym e; list = λ q. absurd (false≢true q) }
+  fails : wholeB bs ≡ false → Reads bs false
+  unfolding listedIn
+  fails e = record { is = rw e; list = λ q. absurd (false≢true q) }
 
-  pub whole-broken : (i : ℕ) (r : Bool) → i < recordsIn bs → r ≡ recordB bs i → not r ≡ true → Whole bs false
+  passes : Bytes bs → wholeB bs ≡ true → Reads bs true
+  unfolding listedIn
+  passes b e = record { is = rw e; list = λ _. whole-list bs b e }
+
+  pub whole-broken : (i : ℕ) (r : Bool) → i < recordsIn bs → r ≡ recordB bs i → not r ≡ true → Reads bs false
   unfolding wholeB
   whole-broken i r h e n =
       fails (rw (← (all-stop (recordB bs) (recordsIn bs) i h (sym e ∙ not-true r n)))
@@ -140,7 +143,7 @@ module _ (bs : List ℕ) where
       none false c = refl
 
   module _ (s : ℕ) (e : s ≡ sizeOf (fours bs)) where
-    pub whole-odd : length bs % s ≢ 1 → Whole bs false
+    pub whole-odd : length bs % s ≢ 1 → Reads bs false
     unfolding wholeB
     whole-odd n = fails (rw (ne-eqb (length bs % sizeOf (fours bs)) 1 (rw e at n)))
 
@@ -151,30 +154,13 @@ module _ (bs : List ℕ) where
       even : eqb (length bs % sizeOf (fours bs)) 1 ≡ true
       even = eq-eqb _ _ (rw e at o)
 
-      pub whole-unended : getD bs (s * (length bs / s)) 0 ≢ 0 → Whole bs false
+      pub whole-unended : getD bs (s * (length bs / s)) 0 ≢ 0 → Reads bs false
       unfolding wholeB
       whole-unended n = fails (rw (even, ne-eqb (getD bs (begin bs (recordsIn bs)) 0) 0 (rw last-byte at n)))
 
       pub whole-right : Bytes bs → getD bs (s * (length bs / s)) 0 ≡ 0 → (i : ℕ) → length bs / s ≤ i → i ≤ recordsIn bs
-          → allB (recordB bs) i ≡ true → Whole bs true
+          → allB (recordB bs) i ≡ true → Reads bs true
       unfolding wholeB
       whole-right b z i u v h =
           let q : i ≡ recordsIn bs = omega (arith, records-of bs s e .0) in
-          let w : wholeB bs ≡ true = rw (even, eq-eqb (getD bs (begin bs (recordsIn bs)) 0) 0 (rw last-byte at z), rw q at h) in
-          record { test = sym w; list = λ _. whole-list bs b w }
-
--- ---- and room in a table
-
-module _ (bs : List ℕ) where
-  unwhole : wholeB bs ≡ false → listedIn bs ≡ unlisted
-  unfolding listedIn
-  unwhole e = rw e
-
-  pub reads-broken : (r : Bool) → Whole bs r → not r ≡ true → Reads bs false
-  reads-broken r w e = record { is = unwhole (sym (w .test) ∙ not-true r e); list = λ q. absurd (false≢true q) }
-
-  pub reads-room : (r : Bool) (n : ℕ) → Whole bs r → not r ≡ false → n ≡ need 32 (listOf bs) → Reads bs (leb n mostArrays)
-  unfolding listedIn
-  reads-room r n w e q =
-      let t = not-false r e in
-      record { is = rw (q, sym (w .test) ∙ t) refl; list = λ _. w .list t }
+          passes b (rw (even, eq-eqb (getD bs (begin bs (recordsIn bs)) 0) 0 (rw last-byte at z), rw q at h))

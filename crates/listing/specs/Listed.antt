@@ -1,5 +1,5 @@
--- Which bytes are one whole written-out list of a table of some room, and which list that is: the winners of the candidates that
--- the records announce. All records are of one kind. Assumes nothing.
+-- Which bytes are one whole written-out list, of any room, and which list that is: the winners of the candidates that the records
+-- announce. All records are of one kind. Assumes nothing.
 --
 --     1 address 4 length 1 hop 2 | .. | 0                              of kind 1, which means feed 1, preference 0
 --     4 address 4 length 1 hop 2 feed 1 preference 1 | .. | 0          of kind 4
@@ -7,11 +7,9 @@ use mathlib.Core.Bool.{Bool, true, false, cond, not, _&&_, _||_}
 use mathlib.Core.List.{List, [], _∷_}
 use Prim.Native.Nat.{ℕ, zero, suc, _+_, _-_, _*_, _/_, _%_}
 use lib.ListN.{length, getD}
-use lib.Dec.{ltb, leb, eqb}
-use Rattle.sizes.specs.Sizes.{mostArrays}
+use lib.Dec.{ltb, eqb}
 use Rattle.routes.specs.Family.{v4, announcing, announcingFor, kindOf as kindIn}
 use Rattle.routes.specs.Route.{Route, route, tooLong, stray, badHop}
-use Rattle.routes.specs.Room.{need}
 use Rattle.numbers.specs.Digits.{twoAt, fourAt}
 use Rattle.logic.specs.Every.{allB}
 use Rattle.candidates.specs.Candidate.{Candidate, candidate, badFeed, key}
@@ -85,6 +83,6 @@ pub data Listed : Type 0 where
   unlisted : Listed
   listed : List Route → Listed
 
--- whole bytes, of a list that a table has room for: none has more arrays
+-- whole bytes; how many arrays a table would need for their list is no matter here
 unfoldable pub listedIn : List ℕ → Listed
-listedIn bs = cond (wholeB bs && leb (need 32 (listOf bs)) mostArrays) (listed (listOf bs)) unlisted
+listedIn bs = cond (wholeB bs) (listed (listOf bs)) unlisted

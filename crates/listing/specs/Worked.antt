@@ -5,7 +5,6 @@ use Prim.Native.Nat.{ℕ}
 use Rattle.numbers.specs.Digits.{digits}
 use Rattle.routes.specs.Family.{v4}
 use Rattle.routes.specs.Route.{route}
-use Rattle.routes.specs.Room.{needTo}
 use Rattle.routes.specs.Small.{ip}
 use Rattle.logic.specs.Every.{allB}
 use Rattle.candidates.specs.Bytes.{announces, announcesFor, allBytes}
@@ -19,7 +18,7 @@ eleven = ip 11 0 0 0
 
 -- no record at all, and no byte at all
 pub empty : (listedIn (0 ∷ []) ≡ listed []) × (listedIn [] ≡ unlisted)
-unfolding listedIn wholeB recordsIn candidatesFrom allB needTo
+unfolding listedIn wholeB recordsIn candidatesFrom allB
 empty = (refl, refl)
 
 abbrev of : List ℕ → Listed
@@ -30,7 +29,7 @@ pub lists : (of (allBytes v4 (announces ten 8 5 ∷ announces eleven 8 7 ∷ [])
     × (of (allBytes v4 (announcesFor ten 8 5 1 10 ∷ announcesFor ten 8 6 2 5 ∷ announcesFor eleven 8 7 4 0 ∷ []))
     ≡ listed (route ten 8 6 ∷ route eleven 8 7 ∷ []))
     × (of (allBytes v4 (announcesFor ten 8 5 1 5 ∷ announcesFor ten 8 6 2 5 ∷ [])) ≡ listed (route ten 8 5 ∷ []))
-unfolding listedIn wholeB recordsIn candidatesFrom allB needTo digits
+unfolding listedIn wholeB recordsIn candidatesFrom allB digits
 lists = (refl, refl, refl)
 
 -- both kinds, feeds that do not ascend, one feed twice, no feed, another kind, nothing that ends it
@@ -41,5 +40,5 @@ pub none : (of (allBytes v4 (announces ten 8 5 ∷ announcesFor eleven 8 7 4 0 �
     × (of (allBytes v4 (announcesFor ten 8 5 5 0 ∷ [])) ≡ unlisted)
     × (of (2 ∷ 10 ∷ 0 ∷ 0 ∷ 0 ∷ 8 ∷ 0 ∷ 5 ∷ []) ≡ unlisted)
     × (listedIn (allBytes v4 (announcesFor ten 8 5 1 10 ∷ [])) ≡ unlisted)
-unfolding listedIn wholeB recordsIn candidatesFrom allB needTo digits
+unfolding listedIn wholeB recordsIn candidatesFrom allB digits
 none = (refl, refl, refl, refl, refl, refl, refl)

@@ -1,20 +1,18 @@
--- The bytes that hold a list are exactly those of a list written out by a table of some room: routes as records of kind 1, or
+-- The bytes that hold a list are exactly those of a list written out, whatever room it needs: routes as records of kind 1, or
 -- candidates as records of kind 4, of which they are the winners. Assumes nothing.
 use mathlib.Core.Path.{_≡_, refl, sym, ap, ap₂, _∙_}
 use mathlib.Core.Logic.{_⊎_, inl, inr, ⊎-elim}
-use mathlib.Core.Bool.{Bool, true, false, cond, _&&_, _||_}
+use mathlib.Core.Bool.{Bool, true, false, cond, _||_}
 use mathlib.Core.List.{List, [], _∷_, _++_, append-assoc}
 use Prim.Native.Nat.{ℕ, zero, suc, _+_, _-_, _*_, _/_, _%_, _≤_, _<_}
 use native.Mathlib.Omega.{arith}
 use lib.ListN.{length, getD, drop, length-append}
 use lib.Seq.{drop-cons}
-use lib.Dec.{ltb, leb, eqb}
-use borrow.Author.Tests.{lt-ltb, le-ltb, le-leb, leb-true, eq-eqb, ne-eqb, eqb-true}
-use Rattle.sizes.specs.Sizes.{mostArrays}
+use lib.Dec.{ltb, eqb}
+use borrow.Author.Tests.{lt-ltb, le-ltb, eq-eqb, ne-eqb, eqb-true}
 use Rattle.routes.specs.Family.{v4}
 use Rattle.routes.specs.Route.{Route}
 use Rattle.routes.specs.Route as routes
-use Rattle.routes.specs.Room.{need}
 use Rattle.numbers.specs.Digits.{two, digits, twoAt, fourAt}
 use Rattle.numbers.specs.Number.{numberAt}
 use Rattle.numbers.specs.Back.{four-digits}
@@ -43,10 +41,9 @@ pub record Ranked (bs : List ℕ) (rs : List Route) : Type 0 where
   pub won : rs ≡ winners candidates
   pub bytes : bs ≡ written v4 candidates
 
--- one whole list, written out by a table that has room for it
+-- one whole list, written out
 pub record WrittenOut (bs : List ℕ) (rs : List Route) : Type 0 where
   pub list : routes.IsList 32 rs
-  pub room : need 32 rs ≤ mostArrays
   pub bytes : (bs ≡ writtenPlainly rs) ⊎ Ranked bs rs
 
 -- ---- records of either kind
@@ -249,28 +246,26 @@ module _ (b : Bool) (cs : List Candidate) (l : IsList 32 cs) (o : Every (OfKind 
           let e : 0 + i ≡ i = omega arith in
           rw q (rw e at (kinds-back b [] cs (0 ∷ []) 0 i (omega arith) (l .candidates) h))
 
-  listed-as : need 32 (winners cs) ≤ mostArrays → listedIn W ≡ listed (winners cs)
+  listed-as : listedIn W ≡ listed (winners cs)
   unfolding listedIn
-  listed-as h = rw (whole-written, back, le-leb (need 32 (winners cs)) mostArrays h)
+  listed-as = rw (whole-written, back)
 
 -- candidates written out are listed as their winners. Where there is none, the bytes are those of no route
-pub written-listed : (cs : List Candidate) → IsList 32 cs → need 32 (winners cs) ≤ mostArrays
-    → listedIn (written v4 cs) ≡ listed (winners cs)
-written-listed [] l h = listed-as false [] l tt refl h
-written-listed (c ∷ cs) l h = ap listedIn (sym (as-fours (c ∷ cs))) ∙ listed-as true (c ∷ cs) l (all (c ∷ cs)) refl h
+pub written-listed : (cs : List Candidate) → IsList 32 cs → listedIn (written v4 cs) ≡ listed (winners cs)
+written-listed [] l = listed-as false [] l tt refl
+written-listed (c ∷ cs) l = ap listedIn (sym (as-fours (c ∷ cs))) ∙ listed-as true (c ∷ cs) l (all (c ∷ cs)) refl
   where
     all : (cs : List Candidate) → Every (OfKind true) cs
     all [] = tt
     all (c ∷ cs) = (tt, all cs)
 
 -- and routes written out as themselves
-pub written-plain : (rs : List Route) → routes.IsList 32 rs → need 32 rs ≤ mostArrays
-    → listedIn (writtenPlainly rs) ≡ listed rs
-written-plain rs l h =
+pub written-plain : (rs : List Route) → routes.IsList 32 rs → listedIn (writtenPlainly rs) ≡ listed rs
+written-plain rs l =
     let w : winners (plain rs) ≡ rs = winners-plain 0 (plain rs) (plain-list rs l .sorted) (plain-kind rs) ∙ plain-routes rs in
     let b : writtenAs false (plain rs) ≡ writtenPlainly rs =
     as-ones (plain rs) ∙ ap writtenPlainly (plain-routes rs) in
-    ap listedIn (sym b) ∙ listed-as false (plain rs) (plain-list rs l) (plain-kind rs) (kind rs) (rw w h) ∙ ap listed w
+    ap listedIn (sym b) ∙ listed-as false (plain rs) (plain-list rs l) (plain-kind rs) (kind rs) ∙ ap listed w
   where
     kind : (rs : List Route) → fours (writtenAs false (plain rs)) ≡ false
     kind [] = refl
@@ -279,9 +274,9 @@ written-plain rs l h =
 pub out-listed : (bs : List ℕ) (rs : List Route) → WrittenOut bs rs → listedIn bs ≡ listed rs
 out-listed bs rs w =
     ⊎-elim
-    (λ (e : bs ≡ writtenPlainly rs). ap listedIn e ∙ written-plain rs (w .list) (w .room))
+    (λ (e : bs ≡ writtenPlainly rs). ap listedIn e ∙ written-plain rs (w .list))
     (λ (r : Ranked bs rs).
-    ap listedIn (r .bytes) ∙ written-listed (r .candidates) (r .list) (rw (r .won) at (w .room)) ∙ ap listed (sym (r .won)))
+    ap listedIn (r .bytes) ∙ written-listed (r .candidates) (r .list) ∙ ap listed (sym (r .won)))
     (w .bytes)
 
 -- the same bytes are no other list's
@@ -293,18 +288,17 @@ written-one bs rs ss w x = let a = out-listed bs rs w in let b = out-listed bs s
 -- which is that of their records
 pub listed-list : (bs : List ℕ) (rs : List Route) → listedIn bs ≡ listed rs → listOf bs ≡ rs
 unfolding listedIn
-listed-list bs rs e = go (wholeB bs && leb (need 32 (listOf bs)) mostArrays) e
+listed-list bs rs e = go (wholeB bs) e
   where
     go : (b : Bool) → cond b (listed (listOf bs)) unlisted ≡ listed rs → listOf bs ≡ rs
     go true e = cc
     go false e = let z : _≡_ {A = ℕ} 0 1 = cc in absurd (omega arith)
 
-listed-whole : (bs : List ℕ) (rs : List Route) → listedIn bs ≡ listed rs
-    → (wholeB bs ≡ true) × (leb (need 32 (listOf bs)) mostArrays ≡ true)
+listed-whole : (bs : List ℕ) (rs : List Route) → listedIn bs ≡ listed rs → wholeB bs ≡ true
 unfolding listedIn
 listed-whole bs rs e =
-    bool (wholeB bs && leb (need 32 (listOf bs)) mostArrays)
-    (λ t. and-to (wholeB bs) (leb (need 32 (listOf bs)) mostArrays) t)
+    bool (wholeB bs)
+    (λ t. t)
     (λ t. (let d : unlisted ≡ listed rs = rw t at e in let z : _≡_ {A = ℕ} 0 1 = cc in absurd (omega arith)))
 
 module _ (bs : List ℕ) (b : Bytes bs) where
@@ -426,14 +420,13 @@ module _ (bs : List ℕ) (b : Bytes bs) where
       plains f (suc n) i = ((rw f, rw f), plains f n (suc i))
 
   pub listed-candidates : (rs : List Route) → listedIn bs ≡ listed rs → IsList 32 (candidatesIn bs)
-  listed-candidates rs e = whole-list bs b (listed-whole bs rs e .0)
+  listed-candidates rs e = whole-list bs b (listed-whole bs rs e)
 
   pub listed-out : (rs : List Route) → listedIn bs ≡ listed rs → WrittenOut bs rs
   listed-out rs e =
       let w = listed-whole bs rs e in
-      let l = whole-list bs b (w .0) in
+      let l = whole-list bs b w in
       rw (← (listed-list bs rs e)) (record {
         list = winners-list 32 (candidatesIn bs) l;
-        room = leb-true _ _ (w .1);
-        bytes = out-bytes (w .0) l;
+        bytes = out-bytes w l;
       })

@@ -1,17 +1,16 @@
 // The bytes of a written-out list: whether they are one, what each record says, which candidate of a prefix wins, and how many
 // routes and how many different heads the list has.
-use sizes::MOST_ARRAYS;
 ghost use mathlib.Core.Path.{_≡_};
 ghost use Prim.Native.Nat.{_*_, _-_, _/_, _^_, _<_, _≤_};
 ghost use lib.ListN.{length};
 ghost use Rattle.routes.specs.Route.{route};
-ghost use Rattle.routes.specs.Room.{distinct, need};
+ghost use Rattle.routes.specs.Room.{distinct};
 ghost use Rattle.candidates.specs.Candidate.{key, prefixKey, IsList};
 ghost use Rattle.candidates.specs.Winners.{rank as rankOf};
 ghost use Rattle.listing.specs.Listed.{fours, kindOf, sizeOf, recordsIn, candidateAt, candidatesIn, listOf};
 ghost use Rattle.listing.specs.Listed.{routeB, candidateB, recordB};
 ghost use Rattle.listing.specs.Heads.{picks, between, lastHead, Counted};
-ghost use Rattle.listing.specs.Records.{addedAt, Begins, Whole, Reads, keyBound};
+ghost use Rattle.listing.specs.Records.{addedAt, Begins, Reads};
 ghost use Rattle.listing.specs.Winning.{winningAt, IsLast, LastOf};
 
 // ---- where the records are
@@ -193,8 +192,9 @@ fn is_record(bytes: &[u8], i: usize) -> bool
     key_at(bytes, i - 1) < key_at(bytes, i)
 }
 
-fn whole(bytes: &[u8]) -> bool
-    ensures { λ r. ⌜ Whole (now (bytes .entry)) r ⌝ }
+// Whether the bytes are a list: records in order, and their end. How many arrays it needs is not asked.
+pub fn is_listed(bytes: &[u8]) -> bool
+    ensures { λ r. ⌜ Reads (now (bytes .entry)) r ⌝ }
 {
     let size = size(bytes);
     let n = bytes.len() / size;
@@ -308,7 +308,7 @@ fn counted(seen: usize, address: u32, last: u32, m: u32) -> usize
 // neighbours.
 pub fn count(bytes: &[u8], from: u32, to: u32, m: u32) -> usize
     requires { ⌜ IsList 32 (candidatesIn (now bytes)) × (m ≤ 32) ⌝ }
-    ensures { λ r. ⌜ (r ≡ distinct (picks (between from to) m (listOf (now (bytes .entry))))) × (r ≤ keyBound) ⌝ }
+    ensures { λ r. ⌜ r ≡ distinct (picks (between from to) m (listOf (now (bytes .entry)))) ⌝ }
 {
     let mut i = records(bytes);
     let mut seen: usize = 0;
@@ -322,30 +322,4 @@ pub fn count(bytes: &[u8], from: u32, to: u32, m: u32) -> usize
         }
     }
     seen
-}
-
-// The arrays that a table needs for the list: one, and for each level below the root as many as it has heads.
-fn arrays(bytes: &[u8]) -> usize
-    requires { ⌜ IsList 32 (candidatesIn (now bytes)) ⌝ }
-    ensures { λ r. ⌜ r ≡ need 32 (listOf (now (bytes .entry))) ⌝ }
-{
-    let mut sum: usize = 1;
-    let mut k: u32 = 0;
-    while k < 3 {
-        k += 1;
-        sum += count(bytes, 8 * k + 1, 32, 8 * k);
-    }
-    sum
-}
-
-// ---- the list
-
-// Whether the bytes are a list that some table writes out: no table has more than the most arrays.
-pub fn is_listed(bytes: &[u8]) -> bool
-    ensures { λ r. ⌜ Reads (now (bytes .entry)) r ⌝ }
-{
-    if !whole(bytes) {
-        return false;
-    }
-    arrays(bytes) <= MOST_ARRAYS
 }

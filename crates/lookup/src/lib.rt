@@ -154,10 +154,28 @@ pub fn walk_of(words: &[u32], address: u32) -> End
     walk_along(words, &bytes[..])
 }
 
+// The same of an IPv6 address, sixteen bytes by value: level k reads byte k of it.
+pub fn walk_v6(words: &[u32], address: [u8; 16]) -> End
+    ensures { λ r. ⌜ ended r ≡ lookupOn 128 (seen 16 (now (words .entry))) (walk 16 (now (words .entry)) (number address))
+        (number address) ⌝ }
+    ensures any_words { λ r. ⌜ ended r ≡ walked 16 (now (words .entry)) (number address) ⌝ }
+{
+    walk_along(words, &address[..])
+}
+
 // The longest match of an IPv4 address, and its block.
 pub fn lookup(words: &[u32], address: u32) -> Reply
     ensures { λ r. ⌜ saidReply r ≡ lookupOn 32 (seen 4 (now (words .entry))) (walk 4 (now (words .entry)) address) address ⌝ }
     ensures any_words { λ r. ⌜ saidReply r ≡ walked 4 (now (words .entry)) address ⌝ }
 {
     told(walk_of(words, address))
+}
+
+// Of an IPv6 address.
+pub fn lookup_v6(words: &[u32], address: [u8; 16]) -> Reply
+    ensures { λ r. ⌜ saidReply r ≡ lookupOn 128 (seen 16 (now (words .entry))) (walk 16 (now (words .entry)) (number address))
+        (number address) ⌝ }
+    ensures any_words { λ r. ⌜ saidReply r ≡ walked 16 (now (words .entry)) (number address) ⌝ }
+{
+    told(walk_v6(words, address))
 }

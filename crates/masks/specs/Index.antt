@@ -56,13 +56,6 @@ gather-lt (suc k) m y h =
     (λ q e. rw (e, ones-even m q) r)
     (λ q e. rw (e, ones-odd m (omega arith)) (omega (arith, r, pow-succ' 2 (ones (m / 2)))))
 
-pub gather-small : (k m y : ℕ) → gather k m y < 2 ^ k
-unfolding gather
-gather-small zero m y = omega arith
-gather-small (suc k) m y =
-    let r = gather-small k (m / 2) (y / 2) in
-    same (m % 2) 0 (λ q e. rw e (omega (arith, r, pow-succ' 2 k))) (λ q e. rw e (omega (arith, r, pow-succ' 2 k)))
-
 -- ---- two bytes have one index exactly where they agree on the mask
 
 pub index-from : (k m y z : ℕ) → bitAnd m y ≡ bitAnd m z → gather k m y ≡ gather k m z

@@ -11,7 +11,7 @@ use native.Mathlib.Nat.{mod-eq-of-lt}
 use native.Mathlib.Omega.{arith}
 use lib.Dec.{ltb, leb, eqb}
 use lib.Pow.{pow-pos}
-use lib.Bits.{bitAnd, bitXor, and-comm, xor-comm, and-mask, and-le-r, xor-lt}
+use lib.Bits.{bitAnd, bitXor, and-comm, and-mask, and-le-r, xor-lt}
 use lib.Count.{leadingZeros}
 use borrow.Author.Tests.{eqb-true, leb-true, ltb-true, eq-eqb}
 use Rattle.logic.specs.Cases.{same}
@@ -52,10 +52,6 @@ apart m s t =
     cond (eqb (parted s t) 0) (eqb (bitAnd m (added s t)) (added s t)) (not (eqb (bitAnd m (parted s t)) 0))
 
 -- ---- their laws
-
--- the order of a pair does not matter
-pub apart-swap : (m s t : ℕ) → apart m s t ≡ apart m t s
-apart-swap m s t = rw (xor-comm (value s) (value t), and-comm (reach s) (reach t), xor-comm (reach s) (reach t))
 
 pub reach-lt : (s : ℕ) → reach s < 256
 reach-lt s = omega (arith, pow-pos (spare s))

@@ -5,6 +5,5 @@ pub mod Number
 pub mod Back
 pub mod Four
 pub mod Agree
-pub mod AgreeBytes
 pub mod Wrote
 pub mod Joined

@@ -3,11 +3,11 @@
 --     10.1.4.0      number = 10 * 2 ^ 24 + 1 * 2 ^ 16 + 4 * 2 ^ 8 + 0
 use mathlib.Core.Path.{_≡_, sym, ap, ap₂, _∙_}
 use mathlib.Core.List.{List, [], _∷_, _++_}
-use Prim.Native.Nat.{ℕ, zero, suc, _+_, _-_, _*_, _/_, _%_, _^_, _≤_, _<_}
+use Prim.Native.Nat.{ℕ, suc, _+_, _-_, _*_, _/_, _%_, _^_, _≤_, _<_}
 use native.Mathlib.Omega.{arith}
 use native.Mathlib.Nat.{add-mul, mul-assoc, add-assoc, zero-mul, one-mul, mul-le-mul-right}
 use native.Mathlib.Numerals.{add-one}
-use lib.ListN.{length, getD, take, drop, set, length-set, length-append, length-drop, take-append-drop, drop-of-length-le}
+use lib.ListN.{length, getD, take, drop, length-append, length-drop, take-append-drop, drop-of-length-le}
 use lib.Seq.{take-suc, drop-cons, getD-drop, ext-getD}
 use lib.Pow.{pow-add, pow-pos, high, low}
 use lib.Arith.{digits-lt}
@@ -102,14 +102,3 @@ unfolding number
 number-end bs k h = ap number (drop-of-length-le bs h)
 
 -- ---- one byte changed
-
-pub number-set : (bs : List ℕ) (k y : ℕ) → k < length bs
-    → number (set bs k y) + getD bs k 0 * 2 ^ (8 * (length bs - suc k)) ≡ number bs + y * 2 ^ (8 * (length bs - suc k))
-unfolding number
-number-set [] k y h = absurd (omega arith)
-number-set (b ∷ bs) zero y h =
-    let e : length (b ∷ bs) - suc zero ≡ length bs = omega arith in
-    rw e (omega arith)
-number-set (b ∷ bs) (suc k) y h =
-    let e : length (b ∷ bs) - suc (suc k) ≡ length bs - suc k = omega arith in
-    rw (e, length-set bs k y) (omega (arith, number-set bs k y (omega arith)))

@@ -1,10 +1,8 @@
 // The equal leading bits of two addresses: the leading zeros of their exclusive or.
 ghost use mathlib.Core.Path.{_≡_};
-ghost use Prim.Native.Nat.{_*_, _-_, _/_, _%_, _^_, _<_, _≤_};
+ghost use Prim.Native.Nat.{_-_, _/_, _%_, _^_, _≤_};
 ghost use mathlib.Core.Bool.{not};
 ghost use lib.Dec.{eqb};
-ghost use lib.ListN.{length as size};
-ghost use Rattle.numbers.specs.Number.{number};
 ghost use Rattle.numbers.specs.Agree.{agreement};
 
 // How many leading bits of two IPv4 addresses are equal.
@@ -12,22 +10,6 @@ pub fn bits(a: u32, b: u32) -> u32
     ensures { λ r. ⌜ (r ≡ agreement 32 a b) × (r ≤ 32) ⌝ }
 {
     u32::leading_zeros(a ^ b)
-}
-
-// The same of two addresses of bytes: at the first byte that differs.
-pub fn bits_in(a: &[u8], b: &[u8]) -> u32
-    requires { ⌜ (size (now a) ≡ size (now b)) × (size (now a) ≤ 16) ⌝ }
-    ensures { λ r. ⌜ r ≡ agreement (8 * size (now (a .entry))) (number (now (a .entry))) (number (now (b .entry))) ⌝ }
-{
-    let mut i = 0;
-    while i < a.len() {
-        let x = a[i] ^ b[i];
-        if x != 0 {
-            return 8 * i as u32 + u8::leading_zeros(x);
-        }
-        i += 1;
-    }
-    8 * i as u32
 }
 
 // Whether the first l bits agree. Length 0 needs no case of its own.

@@ -1,7 +1,7 @@
 -- The ways in which a turn of the walk ends, with l levels left before it, and what its end stands for. Assumes nothing.
-use mathlib.Core.Path.{_≡_, refl, sym, ap, _∙_}
+use mathlib.Core.Path.{_≡_}
 use mathlib.Core.Logic.{_≢_}
-use mathlib.Core.Bool.{Bool, true, false, cond}
+use mathlib.Core.Bool.{true, false, cond}
 use mathlib.Core.List.{List}
 use Prim.Native.Nat.{ℕ, zero, suc, _+_, _-_, _*_, _/_, _%_, _^_, _≤_, _<_}
 use native.Mathlib.Omega.{arith}
@@ -10,7 +10,6 @@ use lib.ListN.{length, getD}
 use borrow.Author.Tests.{lt-ltb, le-ltb, eq-eqb, ne-eqb}
 use Rattle.logic.specs.Cases.{same}
 use Rattle.sizes.specs.Sizes.{slotEnd, lastSlot, cellSlots, cellCount, hopBound, bestBound}
-use Rattle.numbers.specs.Front.{byteOf}
 use Rattle.routes.specs.Match.{Match, none, found}
 use Rattle.routes.specs.Seen.{Answer, gives, refuses}
 use Rattle.masks.specs.Prefix.{spare}
@@ -115,9 +114,6 @@ unfolding walkFrom
 turn-end ws x l o m f z = rw z
 
 -- ---- what an end stands for
-
-pub is-astray : ended astray ≡ refuses 2
-is-astray = refl
 
 pub is-best : (e : ℕ) → e < astray → ended e ≡ gives (deeper 0 none e)
 is-best e h = rw (lt-ltb e astray h)

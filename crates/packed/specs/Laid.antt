@@ -1,23 +1,25 @@
 -- When words are arrays laid out by masks: the arrays in use one after the other in the order of their numbers, each with its
--- entries in the order of their indices. Assumes nothing.
+-- entries in the order of their indices. So the words from the header's end to the need are a function of the arrays.
+-- Assumes nothing.
 --
 --     array      1            2          3 (free)      4
 --     mask       255          00001100                 0
 --     entries    256          4                        1
 --     begins     1024         2048                     2064          needed: 2068 words
 use mathlib.Core.Path.{_≡_, refl, sym, _∙_}
+use mathlib.Core.Logic.{_≢_}
 use mathlib.Core.Bool.{Bool, true, false, cond, not, _&&_, _||_, true≢false}
 use mathlib.Core.List.{List}
-use Prim.Native.Nat.{ℕ, zero, suc, _+_, _-_, _*_, _^_, _≤_, _<_}
+use Prim.Native.Nat.{ℕ, zero, suc, _+_, _-_, _*_, _/_, _%_, _^_, _≤_, _<_}
 use native.Mathlib.Omega.{arith}
 use lib.ListN.{length, getD}
 use lib.Dec.{leb, eqb}
 use lib.Count.{ones}
 use borrow.Author.Tests.{ne-eqb, le-leb, leb-true}
-use Rattle.logic.specs.Cases.{same}
+use Rattle.logic.specs.Cases.{same, less}
 use Rattle.logic.specs.Bools.{and-to}
 use Rattle.sizes.specs.Sizes.{cellSlots}
-use Rattle.masks.specs.Mask.{Free, maskOf, chosen, full-free}
+use Rattle.masks.specs.Mask.{Free, Chosen, maskOf, chosen, full-free}
 use Rattle.masks.specs.Entry.{entryAt}
 use Rattle.tree.specs.Arrays.{Arrays}
 use Rattle.packed.specs.Byte.{coverOf, belowOf, Holds}
@@ -106,6 +108,11 @@ module _ (t : Arrays) where
   unfolding maskAt
   mask-free a = same a 1 (λ q e. rw e (full-free (heldOf t a))) (λ n e. rw e (chosen (heldOf t a) .free))
 
+  -- of those without collision the one of fewest set bits, then of the lowest number
+  pub mask-chosen : (a : ℕ) → a ≢ 1 → Chosen (heldOf t a) (maskAt t a)
+  unfolding maskAt
+  mask-chosen a n = rw (ne-eqb a 1 n) (chosen (heldOf t a))
+
   entries-more : (n k : ℕ) → entriesTo t n ≤ entriesTo t (n + k)
   unfolding entriesTo
   entries-more n zero = let e : n + 0 ≡ n = omega arith in rw e (omega arith)
@@ -148,3 +155,43 @@ laid-front t A us vs h e l = record {
       entry-kept t us vs (placeOf t a + entryWords * v) a _ (λ i p q. e i (omega (arith, inside t A a v x y u b)))
       (l .entries a v x y u b);
 }
+
+-- ---- there is one layout only
+
+-- an entry is four words, given by its array and slot
+entry-one : (t : Arrays) (us vs : List ℕ) (w a s : ℕ) → IsEntry t us w a s → IsEntry t vs w a s → (d : ℕ) → d < entryWords
+    → getD us (w + d) 0 ≡ getD vs (w + d) 0
+entry-one t us vs w a s p q zero h = let e : w + 0 ≡ w = omega arith in rw e (p .slot ∙ sym (q .slot))
+entry-one t us vs w a s p q (suc zero) h = p .best ∙ sym (q .best)
+entry-one t us vs w a s p q (suc (suc zero)) h = p .place ∙ sym (q .place)
+entry-one t us vs w a s p q (suc (suc (suc zero))) h = p .mask ∙ sym (q .mask)
+entry-one t us vs w a s p q (suc (suc (suc (suc d)))) h = absurd (omega arith)
+
+module _ (t : Arrays) (A : ℕ) (us vs : List ℕ) (p : Laid t A us) (q : Laid t A vs) where
+  -- entry e of all, in the array that it stands in
+  entries-one : (n : ℕ) → n ≤ A → (e : ℕ) → e < entriesTo t n → (d : ℕ) → d < entryWords
+      → getD us (headerWords + entryWords * e + d) 0 ≡ getD vs (headerWords + entryWords * e + d) 0
+  unfolding entriesTo
+  entries-one zero h e l d k = absurd (omega arith)
+  entries-one (suc n) h e l d k =
+      less e (entriesTo t n)
+      (λ b _. entries-one n (omega arith) e b d k)
+      (λ b _. same (t .tag (suc n)) 0
+      (λ z g. absurd (let m = rw g at l in omega arith))
+      (λ z g.
+      let v = e - entriesTo t n in
+      let o : suc n - 1 ≡ n = omega arith in
+      let m = rw g at l in
+      let w : headerWords + entryWords * entriesTo t n + entryWords * v ≡ headerWords + entryWords * e = omega arith in
+      let f : placeOf t (suc n) + entryWords * v ≡ headerWords + entryWords * e = rw o w in
+      let b : v < 2 ^ ones (maskAt t (suc n)) = omega arith in
+      rw (← f) (entry-one t us vs _ (suc n) _ (p .entries (suc n) v (omega arith) h (omega arith) b)
+      (q .entries (suc n) v (omega arith) h (omega arith) b) d k)))
+
+  -- two lists of words that one table's arrays are laid out in agree, from the header's end to the need
+  pub laid-one : (i : ℕ) → headerWords ≤ i → i < neededFor t A → getD us i 0 ≡ getD vs i 0
+  laid-one i h l =
+      let e = (i - headerWords) / entryWords in
+      let d = (i - headerWords) % entryWords in
+      let w : headerWords + entryWords * e + d ≡ i = omega arith in
+      rw w at (entries-one A (omega arith) e (omega arith) d (omega arith))

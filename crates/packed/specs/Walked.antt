@@ -82,9 +82,6 @@ turned A base b p c q f r on e =
 
 -- ---- one entry, by what the byte gets of it
 
-none-kept : (base : ℕ) (f : Match) → deeper base f 0 ≡ f
-none-kept base f = refl
-
 module _ (base y s b c : ℕ) (f r : Match) (on : Match → Answer Match) (small : s < slotEnd) where
   -- the byte gets it, and with it best b and place c
   turn-gets : gets y s ≡ true → ltb 8 (b / hopBound) ≡ false → (c ≡ 0 → deeper base f b ≡ r)

@@ -1,5 +1,6 @@
--- What the need and the build answer, by what the words are seen to be, what a build leaves, and what the code's answers say:
--- over the list that a table stands for, and by nothing of its arrays. Assumes nothing.
+-- What the need and the build answer, by what the words are seen to be, what a build leaves, and what the code's answers say.
+-- All is over the list that a table stands for, and by nothing of its arrays, but where the words built stand (`HasLaid`).
+-- Assumes nothing.
 use mathlib.Core.Path.{_≡_}
 use mathlib.Core.Bool.{cond}
 use mathlib.Core.List.{List}
@@ -12,7 +13,10 @@ use Rattle.routes.specs.Room.{need}
 use Rattle.routes.specs.Seen.{Answer, gives, refuses}
 use Rattle.candidates.specs.Winners.{winners}
 use Rattle.candidates.specs.Seen.{Seen, misfit, foreign, table}
+use Rattle.words.specs.Words.{arraysOf, arrayCount}
+use Rattle.words.specs.Table.{seen}
 use Rattle.packed.specs.Layout.{headerWords, walk}
+use Rattle.packed.specs.Laid.{Laid}
 use Rattle.packed_build.specs.Need.{wordsFor}
 use Rattle.packed_build.specs.declared.Needs.{Needs}
 use Rattle.packed_build.specs.declared.Needs.the-variants as needs
@@ -61,6 +65,12 @@ abbrev pub LeavesOn : Seen → List ℕ → List ℕ → Type 0
 LeavesOn misfit ws us = us ≡ ws
 LeavesOn foreign ws us = us ≡ ws
 LeavesOn (table A cs) ws us = Leaves (winners cs) ws us
+
+-- from the table's words ts into the words ws: a build that is not refused lays the table's arrays out, each by its mask. So the
+-- words from the header's end to the need are a function of ts
+pub record HasLaid (ts ws us : List ℕ) : Type 0 where
+  pub left : LeavesOn (seen 4 ts) ws us
+  pub laid : (c : Counts) → buildOn (seen 4 ts) (length ws) ≡ gives c → Laid (arraysOf ts) (arrayCount ts) us
 
 -- ---- of the code
 

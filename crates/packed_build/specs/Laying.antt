@@ -1,5 +1,5 @@
 -- What is asked before all arrays are laid out, and what the returns of the calls come to. Assumes nothing.
-use mathlib.Core.Path.{_≡_, refl, ap, _∙_}
+use mathlib.Core.Path.{_≡_, refl, sym, ap, _∙_}
 use mathlib.Core.Logic.{inl, inr}
 use mathlib.Core.Bool.{true, false}
 use mathlib.Core.List.{List}
@@ -10,6 +10,7 @@ use lib.Count.{ones}
 use borrow.Author.Tests.{lt-ltb, le-ltb, ne-eqb}
 use Rattle.routes.specs.Route.{Route}
 use Rattle.routes.specs.Seen.{misfits, gives, refuses}
+use Rattle.laws.specs.Given.{given-refused}
 use Rattle.candidates.specs.Winners.{winners}
 use Rattle.array.specs.Frame.{pageOf}
 use Rattle.tree.specs.Arrays.{Arrays}
@@ -27,7 +28,7 @@ use Rattle.packed_arrays.specs.Filled.{Filled}
 use Rattle.packed_arrays.specs.Laying.{LaidTo, laid-all, laid-used, laid-free, entry-is}
 use Rattle.packed_build.specs.Need.{wordsFor}
 use Rattle.packed_build.specs.Listed.{table-words}
-use Rattle.packed_build.specs.Answer.{needOn, buildOn, Compressed, LeavesOn}
+use Rattle.packed_build.specs.Answer.{needOn, buildOn, Compressed, HasLaid}
 
 -- the words that a table's arrays need
 abbrev pub arraysNeed : List ℕ → ℕ
@@ -54,8 +55,10 @@ module _ (ts : List ℕ) where
     pub need-misfit : refuses 1 ≡ needOn (seen 4 ts)
     need-misfit = rw (seen-misfit 4 ts m)
 
-    pub build-misfit : (ws : List ℕ) → (refuses 1 ≡ buildOn (seen 4 ts) (length ws)) × LeavesOn (seen 4 ts) ws ws
-    build-misfit ws = rw (seen-misfit 4 ts m) (refl, refl)
+    pub build-misfit : (ws : List ℕ) → (refuses 1 ≡ buildOn (seen 4 ts) (length ws)) × HasLaid ts ws ws
+    build-misfit ws =
+        let s = seen-misfit 4 ts m in
+        (rw s, record { left = rw s; laid = λ c e. absurd (given-refused (rw s at (sym e))) })
 
   module _ (m : misfits (length ts) ≡ false) where
     -- ---- refused with 2
@@ -64,8 +67,10 @@ module _ (ts : List ℕ) where
       pub need-foreign : refuses 2 ≡ needOn (seen 4 ts)
       need-foreign = rw (seen-foreign 4 ts m b)
 
-      pub build-foreign : (ws : List ℕ) → (refuses 2 ≡ buildOn (seen 4 ts) (length ws)) × LeavesOn (seen 4 ts) ws ws
-      build-foreign ws = rw (seen-foreign 4 ts m b) (refl, refl)
+      pub build-foreign : (ws : List ℕ) → (refuses 2 ≡ buildOn (seen 4 ts) (length ws)) × HasLaid ts ws ws
+      build-foreign ws =
+          let s = seen-foreign 4 ts m b in
+          (rw s, record { left = rw s; laid = λ c e. absurd (given-refused (rw s at (sym e))) })
 
     -- ---- a table
 
@@ -83,17 +88,21 @@ module _ (ts : List ℕ) where
     need-table = rw (seen-table 4 ts o) (ap gives words-are)
 
     module _ (ws : List ℕ) where
-      pub build-short : length ws < 1024 + 4 * n → (refuses 9 ≡ buildOn (seen 4 ts) (length ws)) × LeavesOn (seen 4 ts) ws ws
+      pub build-short : length ws < 1024 + 4 * n → (refuses 9 ≡ buildOn (seen 4 ts) (length ws)) × HasLaid ts ws ws
       build-short h =
           let l : length ws < wordsFor 32 rs = rw (← words-are) h in
-          rw (seen-table 4 ts o) (
-            rw (lt-ltb (length ws) (wordsFor 32 rs) l),
+          let s = seen-table 4 ts o in
+          let d = lt-ltb (length ws) (wordsFor 32 rs) l in (
+            rw (s, d),
             record {
-              refused = λ _. refl;
-              built = λ k. absurd (omega arith);
-              long = refl;
-              header = λ i k. refl;
-              past = λ i k. refl;
+              left = rw s (record {
+                refused = λ _. refl;
+                built = λ k. absurd (omega arith);
+                long = refl;
+                header = λ i k. refl;
+                past = λ i k. refl;
+              });
+              laid = λ c e. absurd (given-refused (rw (s, d) at (sym e)));
             },
           )
 
@@ -108,16 +117,20 @@ module _ (ts : List ℕ) where
         build-answer =
             rw (seen-table 4 ts o, le-ltb (length ws) (wordsFor 32 rs) enough, table-need 4 ts o, words-are)
 
-        pub build-laid : (us : List ℕ) → LaidTo (arraysOf ts) ws us (arrayCount ts) → LeavesOn (seen 4 ts) ws us
+        pub build-laid : (us : List ℕ) → LaidTo (arraysOf ts) ws us (arrayCount ts) → HasLaid ts ws us
         build-laid us p =
             let w = table-words 4 ts o in
-            rw (seen-table 4 ts o) (record {
-              refused = λ k. absurd (omega (arith, enough));
-              built = λ k. laid-compressed ts us o (laid-all (arraysOf ts) (arrayCount ts) ws us (rw w enough) p);
-              long = p .size;
-              header = λ i k. p .rest i (inl k);
-              past = λ i k. p .rest i (inr (rw w k));
-            })
+            let l = laid-all (arraysOf ts) (arrayCount ts) ws us (rw w enough) p in
+            record {
+              left = rw (seen-table 4 ts o) (record {
+                refused = λ k. absurd (omega (arith, enough));
+                built = λ k. laid-compressed ts us o l;
+                long = p .size;
+                header = λ i k. p .rest i (inl k);
+                past = λ i k. p .rest i (inr (rw w k));
+              });
+              laid = λ c e. l;
+            }
 
 -- ---- one array more
 

@@ -4,3 +4,4 @@ pub mod Sums
 pub mod Listed
 pub mod Answer
 pub mod Laying
+pub mod Sharp

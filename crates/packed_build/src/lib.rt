@@ -16,7 +16,7 @@ ghost use Rattle.words.specs.Words.{arraysOf, arrayCount};
 ghost use Rattle.words.specs.Table.{seen};
 ghost use Rattle.packed_build.specs.Laying.{Lays};
 ghost use Rattle.packed_arrays.specs.Laying.{LaidTo};
-ghost use Rattle.packed_build.specs.Answer.{needOn, buildOn, LeavesOn, needAnswer, buildAnswer};
+ghost use Rattle.packed_build.specs.Answer.{needOn, buildOn, HasLaid, needAnswer, buildAnswer};
 
 // The words of the map: one for each array that a table can have, and one for none.
 const MAP_WORDS: usize = 4097;
@@ -73,7 +73,7 @@ pub fn need(table: &[u32]) -> Needs
 // A table compressed: any words that begin with those needed answer its lookups.
 pub fn build(table: &[u32], words: &mut [u32]) -> Built
     ensures { λ r. ⌜ buildAnswer r ≡ buildOn (seen 4 (now (table .entry))) (length (now (words .entry))) ⌝ }
-    ensures words { λ _. ⌜ LeavesOn (seen 4 (now (table .entry))) (now (words .entry)) (now (words .exit)) ⌝ }
+    ensures words { λ _. ⌜ HasLaid (now (table .entry)) (now (words .entry)) (now (words .exit)) ⌝ }
 {
     if misfit(table.len()) {
         return Built::Refused(1);

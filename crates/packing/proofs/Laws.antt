@@ -10,7 +10,7 @@ use Rattle.candidates.specs.Winners.{winners}
 use Rattle.candidates.specs.Seen.{Seen, misfit, foreign, table}
 use Rattle.words.specs.Table.{seen}
 use Rattle.packed_build.specs.Need.{wordsFor}
-use Rattle.packed_build.specs.Answer.{buildOn, buildAnswer, LeavesOn}
+use Rattle.packed_build.specs.Answer.{buildOn, buildAnswer, LeavesOn, HasLaid}
 use Rattle.packed_build.specs.declared.Built as build
 use Rattle.packing.specs.Face.{built, HasBuilt}
 use Rattle.packing.specs.declared.Built.{Built}
@@ -23,5 +23,10 @@ build-kept (table A cs) ws us n l e =
     less (length ws) (wordsFor 32 (winners cs)) (λ h _. l .refused h) (λ h d. absurd (given-refused (rw d at e)))
 
 pub built-so : (ts ws us : List ℕ) (r : build.Built) (x : Built) → buildAnswer r ≡ buildOn (seen 4 ts) (length ws)
-    → LeavesOn (seen 4 ts) ws us → x ≡ built (buildAnswer r) → HasBuilt ts ws us x
-built-so ts ws us r x a p e = record { answer = e ∙ ap built a; left = p; kept = λ n q. build-kept (seen 4 ts) ws us n p q }
+    → HasLaid ts ws us → x ≡ built (buildAnswer r) → HasBuilt ts ws us x
+built-so ts ws us r x a p e = record {
+  answer = e ∙ ap built a;
+  left = p .left;
+  laid = p .laid;
+  kept = λ n q. build-kept (seen 4 ts) ws us n (p .left) q;
+}

@@ -5,7 +5,9 @@ use Prim.Native.Nat.{ℕ}
 use lib.ListN.{length}
 use Rattle.routes.specs.Match.{Match, none, found}
 use Rattle.routes.specs.Seen.{Answer, gives, refuses}
+use Rattle.words.specs.Words.{arraysOf, arrayCount}
 use Rattle.words.specs.Table.{seen}
+use Rattle.packed.specs.Laid.{Laid}
 use Rattle.packed_build.specs.Answer.{Counts, buildOn, LeavesOn}
 use Rattle.packing.specs.declared.Needed.{Needed}
 use Rattle.packing.specs.declared.Built.{Built}
@@ -29,4 +31,6 @@ matched (refuses n) = record { refusal = n; found = 0; hop = 0; length = 0 }
 pub record HasBuilt (ts ws us : List ℕ) (r : Built) : Type 0 where
   pub answer : r ≡ built (buildOn (seen 4 ts) (length ws))
   pub left : LeavesOn (seen 4 ts) ws us
+  -- the arrays, each by its mask: of those without collision the one of fewest set bits, then of the lowest number
+  pub laid : (c : Counts) → buildOn (seen 4 ts) (length ws) ≡ gives c → Laid (arraysOf ts) (arrayCount ts) us
   pub kept : (n : ℕ) → buildOn (seen 4 ts) (length ws) ≡ refuses n → us ≡ ws

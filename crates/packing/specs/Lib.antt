@@ -1,2 +1,3 @@
 pub mod Face
 pub mod Carried
+pub mod Sharp

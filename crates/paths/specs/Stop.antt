@@ -8,7 +8,6 @@ use lib.ListN.{getD}
 use Rattle.logic.specs.Cases.{same}
 use Rattle.tree.specs.Arrays.{node}
 use Rattle.tree.specs.Shape.{Shape}
-use Rattle.tree.specs.Tree.{node-level}
 use Rattle.tree.specs.Need.{node-child}
 use Rattle.words.specs.Words.{arraysOf, arrayCount}
 use Rattle.words.specs.TableBut.{TableBut}
@@ -42,15 +41,6 @@ next L ws a j b o h =
     ∙ ap (λ (c : ℕ). arraysOf ws .link c (byteOf L a j)) (o .leads)
 
 module _ (L : ℕ) (ws : List ℕ) (a : ℕ) (s : Shape (arrayCount ws) L (arraysOf ws)) where
-  -- with the byte as the code has it
-  pub on-step : (j b y : ℕ) → On L ws a j b → j < L → y ≡ byteOf L a j → arraysOf ws .link b y ≢ 0
-      → On L ws a (j + 1) (arraysOf ws .link b y)
-  on-step j b y o h ey n =
-      let e : j + 1 ≡ suc j = omega arith in
-      let d : node (arraysOf ws) (front L a (suc j)) (suc j) ≡ arraysOf ws .link b y = rw ey (next L ws a j b o h) in
-      let l = node-level (arrayCount ws) L (arraysOf ws) s (front L a (suc j)) (suc j) (rw d (omega arith)) in
-      rw e (record { leads = d; some = omega arith; within = rw d at (l .within) })
-
   -- how many arrays are missing
   pub stops-missing : (k j b : ℕ) → k < L → Stops L ws a k j b → missing (arraysOf ws) (front L a k) k ≡ k - j
   stops-missing k j b h p =

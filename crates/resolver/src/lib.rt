@@ -29,10 +29,10 @@ pub fn resolve_plain(words: &[u32], entries: &[u32], address: u32) -> Resolved
 
 // The version of the table's words and of these calls, in the name: that of `toggleash`.
 #[no_mangle]
-pub extern "C" fn toggleash_resolve_version_5() -> u32
-    ensures { λ r. ⌜ r ≡ 5 ⌝ }
+pub extern "C" fn toggleash_resolve_version_6() -> u32
+    ensures { λ r. ⌜ r ≡ 6 ⌝ }
 {
-    5
+    6
 }
 
 // The interface of an address, with the entries as they are.

@@ -18,18 +18,7 @@ use Rattle.restraint.specs.Places.{choice, has-not, put-has}
 use Rattle.front.specs.Front.{Event, asks, tick, Both, both, Step, step, charged, charge, keeping, kept, passed, dropped}
 use Rattle.front.specs.Front.{removed, damped, updated, spent, taken, leaves, replies}
 use Rattle.restraint.specs.Passes.{rest, listPast, onePass, passes}
-use Rattle.restraint.specs.Ticks.{AllCalm}
-
--- no withdrawal of the candidate k
-abbrev pub Spares : ℕ → Event → Type 0
-Spares k (asks (update (announce a l h f p))) = Unit {0}
-Spares k (asks (update (withdraw a l f))) = place a l f ≢ k
-Spares k (asks (lookup a)) = Unit {0}
-Spares k tick = Unit {0}
-
-abbrev pub AllSpare : ℕ → List Event → Type 0
-AllSpare k [] = Unit {0}
-AllSpare k (e ∷ es) = Spares k e × AllSpare k es
+use Rattle.restraint.specs.Ticks.{AllSpare, AllCalm}
 
 -- ---- it gets no place
 

@@ -14,8 +14,8 @@ use Rattle.front.specs.Place.{has, markAt, IsFront, mostPenalty}
 use Rattle.front.specs.Front.{Event, Both, both, updated, leaves}
 use Rattle.front.specs.Runs.{run, eventsOf}
 use Rattle.restraint.specs.Keeps.{AllTyped, front-keeps, penalty-low}
-use Rattle.restraint.specs.Ticks.{Free, AllCalm, AllRoom, ticksIn, five-ticks}
-use Rattle.restraint.specs.Alone.{AllSpare, undamped}
+use Rattle.restraint.specs.Ticks.{AllSpare, AllCalm, ticksIn, AllRoomFor, AllRoom, Free, five-ticks, all-free}
+use Rattle.restraint.specs.Alone.{undamped}
 use Rattle.restraint.specs.Absent.{Lacks, InOrder, held-back-absent}
 use Rattle.restraint.specs.Installed.{kept-installed}
 use Rattle.restraint.specs.Taken.{run-came}
@@ -48,16 +48,22 @@ module _ (A : ℕ) (feed : List ℕ) (room : ℕ) where
       → markAt (leftBy (both cs []) .places) k .back ≡ true → Lacks (leftBy (both cs []) .list) k
   run-absent ok cs i k = rw (left-as (both cs [])) (held-back-absent 32 A cs (events (both cs [])) k i (typed ok (both cs [])))
 
-  -- a run without a withdrawal, with room, that takes five ticks: nothing is kept or held back then, from any front
-  pub run-five : (b : Both) → IsFront 32 (b .places) → AllCalm (events b) → AllRoom 32 A b (events b) → 5 ≤ ticksIn (events b)
-      → Every Free (leftBy b .places)
-  run-five b i c r n = rw (left-as b) (five-ticks 32 A b (events b) i c r n)
+  -- a run that does not withdraw a candidate, has room for it and takes five ticks: the candidate is not held back then and
+  -- nothing is kept of it, from any front
+  pub run-five : (k : ℕ) (b : Both) → IsFront 32 (b .places) → AllSpare k (events b) → AllRoomFor 32 A k b (events b)
+      → 5 ≤ ticksIn (events b) → (markAt (leftBy b .places) k .back ≡ false) × (markAt (leftBy b .places) k .kept ≡ 0)
+  run-five k b i c r n = rw (left-as b) (five-ticks 32 A k b (events b) i c r n)
 
-  -- and what was kept is in the table
+  -- and what was kept of it is in the table
   pub run-installs : AreBytes feed → (k : ℕ) (b : Both) → IsFront 32 (b .places) → InOrder (b .list)
-      → AllCalm (events b) → AllRoom 32 A b (events b) → 5 ≤ ticksIn (events b)
+      → AllSpare k (events b) → AllRoomFor 32 A k b (events b) → 5 ≤ ticksIn (events b)
       → markAt (b .places) k .kept ≢ 0 → ¬ Lacks (leftBy b .list) k
   run-installs ok k b i o c r n m = rw (left-as b) (kept-installed 32 A k b (events b) i o (typed ok b) c r n m)
+
+  -- with no withdrawal at all, none is held back and nothing is kept
+  pub run-all-free : (b : Both) → IsFront 32 (b .places) → AllCalm (events b) → AllRoom 32 A b (events b)
+      → 5 ≤ ticksIn (events b) → Every Free (leftBy b .places)
+  run-all-free b i c r n = rw (left-as b) (all-free 32 A b (events b) i c r n)
 
   -- a candidate without a place that the run does not withdraw is answered after it as by the table alone
   pub run-undamped : (b : Both) (u : Update) → has (b .places) (at u) ≡ false → AllSpare (at u) (events b)

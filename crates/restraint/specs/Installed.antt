@@ -1,38 +1,33 @@
--- What is kept is not lost: with no withdrawal it stays kept, or the table holds its candidate. So with five ticks and with room
--- the table holds it. Assumes nothing.
+-- What is kept of a candidate is not lost: while that is not withdrawn it stays kept, or the table holds the candidate. So with
+-- five ticks and with room for it the table holds it, whatever becomes of others. Assumes nothing.
 use mathlib.Core.Path.{_≡_, refl, sym, ap, _∙_}
 use mathlib.Core.Logic.{_≢_, _⊎_, inl, inr, ⊎-elim}
-use mathlib.Core.Bool.{Bool, true, false, _&&_}
+use mathlib.Core.Bool.{Bool, true, false, _&&_, _||_}
 use mathlib.Core.List.{List, [], _∷_}
 use mathlib.Core.Option.{some, Option·none-ne-some}
 use Prim.Native.Nat.{ℕ, suc, _≤_}
 use native.Mathlib.Omega.{arith}
+use lib.ListN.{length}
 use lib.Dec.{ltb, eqb}
 use borrow.Author.Tests.{ne-eqb}
 use Rattle.logic.specs.Cases.{bool, same}
 use Rattle.logic.specs.Bools.{and-to}
-use Rattle.routes.specs.Answers.{isDone}
-use Rattle.candidates.specs.Keyed.{Ordered, find, put, Every}
+use Rattle.routes.specs.Answers.{done, refused, isDone}
+use Rattle.candidates.specs.Keyed.{Ordered, find, put}
 use Rattle.candidates.specs.Candidate.{Candidate, place}
 use Rattle.candidates.specs.Candidate as candidate
 use Rattle.candidates.specs.Answers.{Update, announce, withdraw, update, lookup, sound, answer, after}
 use Rattle.rivals.specs.Maps.{put-same, put-other}
 use Rattle.rivals.specs.Updates.{at, after-other, after-same}
-use Rattle.front.specs.Place.{Mark, mark, blank, Place, placed, key, marked, markIn, markAt, IsFront, keptOf, freeBelow}
-use Rattle.front.specs.Place.{keptHop, keptPreference}
-use Rattle.restraint.specs.Places.{choice, mark-case}
-use Rattle.front.specs.Front.{Event, asks, tick, Both, Step, keeping, kept, passed, damped, updated, halved, released, spent}
-use Rattle.front.specs.Front.{halve, again, due, installs, taken, leaves}
+use Rattle.front.specs.Place.{Mark, mark, Place, placed, key, marked, markIn, markAt, has, IsFront, keptOf, keptHop}
+use Rattle.front.specs.Place.{keptPreference, mostPlaces, freeBelow}
+use Rattle.restraint.specs.Places.{choice}
+use Rattle.front.specs.Front.{Event, asks, tick, Both, Step, step, charged, charge, keeping, kept, passed, dropped, removed}
+use Rattle.front.specs.Front.{damped, updated, halved, released, spent, halve, again, due, installs, taken, leaves}
 use Rattle.restraint.specs.Passes.{rest, listPast, onePass, oneList, passes, passes-list}
 use Rattle.restraint.specs.Keeps.{AllTyped, event-keeps, announce-sound}
-use Rattle.restraint.specs.Ticks.{Free, Calm, AllCalm, AllRoom, ticksIn, five-ticks}
+use Rattle.restraint.specs.Ticks.{Spares, AllSpare, AllRoomFor, ticksIn, five-ticks}
 use Rattle.restraint.specs.Absent.{Lacks, InOrder, tried-ordered, tried-other, one-other, event-ordered}
-
--- nothing is kept where nothing is held back
-mark-empty : (ps : List Place) (k : ℕ) → Every Free ps → markAt ps k .kept ≡ 0
-mark-empty ps k a =
-    ⊎-elim (λ (h : markAt ps k .kept ≡ 0). h) (λ (e : markAt ps k ≡ blank). rw e)
-    (mark-case Free (λ m. m .kept ≡ 0) (λ p u. u .empty) ps k a)
 
 -- something is kept of the candidate k, or the table holds it
 abbrev pub Here : List Candidate → List Place → ℕ → Type 0
@@ -107,6 +102,34 @@ module _ (W A : ℕ) where
         (λ _. stored k s w) (λ _. on k w))
         (λ _. on k w)
 
+  -- ---- a withdrawal of another
+
+  module _ (cs : List Candidate) (ps : List Place) (a l f k : ℕ) (n : place a l f ≢ k) where
+    charge-other : find key (charge a l f ps) k ≡ find key ps k
+    charge-other =
+        choice (λ (x : List Place). find key x k ≡ find key ps k) (has ps (place a l f) || ltb (length ps) mostPlaces)
+        (put key (placed a l f (charged (markAt ps (place a l f)))) ps) ps
+        (λ _. put-other key (placed a l f (charged (markAt ps (place a l f)))) ps k n) (λ _. refl)
+
+    withdraw-here : Here cs ps k → HereIn k (updated W A cs ps (withdraw a l f))
+    withdraw-here w =
+        let gone : find candidate.key (after W A cs (withdraw a l f)) k ≡ find candidate.key cs k =
+        after-other W A cs (withdraw a l f) k n in
+        choice (HereIn k) (sound W (withdraw a l f)) (damped W A cs ps (withdraw a l f)) (passed W A cs ps (withdraw a l f))
+        (λ _.
+        choice (HereIn k) (markAt ps (place a l f) .back) (dropped W A cs ps a l f (markAt ps (place a l f) .kept))
+        (removed W A cs ps a l f)
+        (λ _.
+        choice (HereIn k) (eqb (markAt ps (place a l f) .kept) 0) (step (refused 7) cs ps)
+        (step (done (keptHop (markAt ps (place a l f) .kept)) 0) cs (charge a l f ps))
+        (λ _. w) (λ _. same-here cs cs ps (charge a l f ps) k refl charge-other w))
+        (λ _.
+        choice (λ (x : List Place). Here (after W A cs (withdraw a l f)) x k) (isDone (answer W A cs (withdraw a l f)))
+        (charge a l f ps) ps
+        (λ _. same-here cs (after W A cs (withdraw a l f)) ps (charge a l f ps) k gone charge-other w)
+        (λ _. same-here cs (after W A cs (withdraw a l f)) ps ps k gone refl w)))
+        (λ _. same-here cs (after W A cs (withdraw a l f)) ps ps k gone refl w)
+
   -- ---- a tick
 
   -- a place in its turn: it is installed, or what is kept stays kept
@@ -143,17 +166,17 @@ module _ (W A : ℕ) where
 
   -- ---- one after the other
 
-  event-here : (k : ℕ) (b : Both) (e : Event) → Calm e → IsFront W (b .places) → InOrder (b .list)
+  event-here : (k : ℕ) (b : Both) (e : Event) → Spares k e → IsFront W (b .places) → InOrder (b .list)
       → Here (b .list) (b .places) k → HereIn k (taken W A b e)
   event-here k b (asks (update (announce a l h f p))) c g i w = announce-here (b .list) (b .places) a l h f p i k w
-  event-here k b (asks (update (withdraw a l f))) c g i w = absurd c
+  event-here k b (asks (update (withdraw a l f))) c g i w = withdraw-here (b .list) (b .places) a l f k c w
   event-here k b (asks (lookup a)) c g i w = w
   event-here k b tick c g i w =
       rw (passes W A (b .list) (b .places), passes-list W A (b .list) (b .places))
       (pass-here 0 k (b .list) (b .places) (g .sorted) i w)
 
-  pub stays-here : (k : ℕ) (b : Both) (es : List Event) → AllTyped W es → AllCalm es → IsFront W (b .places) → InOrder (b .list)
-      → Here (b .list) (b .places) k → Here (leaves W A b es .list) (leaves W A b es .places) k
+  pub stays-here : (k : ℕ) (b : Both) (es : List Event) → AllTyped W es → AllSpare k es → IsFront W (b .places)
+      → InOrder (b .list) → Here (b .list) (b .places) k → Here (leaves W A b es .list) (leaves W A b es .places) k
   stays-here k b [] t c g i w = w
   stays-here k b (e ∷ es) t c g i w =
       stays-here k (taken W A b e .left) es (t .1) (c .1) (event-keeps W A b e (t .0) g) (event-ordered W A b e i)
@@ -161,10 +184,9 @@ module _ (W A : ℕ) where
 
   -- what is kept in any front is in the table after five ticks
   pub kept-installed : (k : ℕ) (b : Both) (es : List Event) → IsFront W (b .places) → InOrder (b .list)
-      → AllTyped W es → AllCalm es → AllRoom W A b es → 5 ≤ ticksIn es
+      → AllTyped W es → AllSpare k es → AllRoomFor W A k b es → 5 ≤ ticksIn es
       → markAt (b .places) k .kept ≢ 0 → ¬ Lacks (leaves W A b es .list) k
   kept-installed k b es g i t c r m n =
-      ⊎-elim (λ (x : markAt (leaves W A b es .places) k .kept ≢ 0).
-      absurd (x (mark-empty (leaves W A b es .places) k (five-ticks W A b es g c r m))))
+      ⊎-elim (λ (x : markAt (leaves W A b es .places) k .kept ≢ 0). absurd (x (five-ticks W A k b es g c r m .1)))
       (λ (x : ¬ Lacks (leaves W A b es .list) k). x)
       (stays-here k b es t c g i (inl n))

@@ -4,8 +4,10 @@ pub mod Keeps
 pub mod Ticks
 pub mod Alone
 pub mod Absent
+pub mod Still
 pub mod Installed
 pub mod Through
+pub mod Answered
 pub mod Turns
 pub mod Taken
 pub mod Fed

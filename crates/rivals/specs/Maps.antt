@@ -80,14 +80,6 @@ module _ {T : Type 0} (key : T → ℕ) where
   cut-other k j (y ∷ ys) n =
       same (key y) k (λ q e. rw e (sym (find-skip y ys j (omega arith)))) (λ m e. rw (e, cut-other k j ys n))
 
-  -- what is found has a property that each has
-  pub every-find : (P : T → Type 0) (xs : List T) (k : ℕ) (x : T) → Every P xs → find key xs k ≡ some x → P x
-  every-find P [] k x p e = absurd (Option·none-ne-some x e)
-  every-find P (y ∷ ys) k x p e =
-      same (key y) k
-      (λ q d. rw (Option·some-injective y x (rw d at e)) at (p .0))
-      (λ n d. every-find P ys k x (p .1) (rw d at e))
-
   -- ---- two ordered lists in which the same is found are one
 
   pub ext : (lo : ℕ) (xs ys : List T) → Ordered key lo xs → Ordered key lo ys → ((k : ℕ) → find key xs k ≡ find key ys k)

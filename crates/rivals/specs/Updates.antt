@@ -18,7 +18,7 @@ use Rattle.laws.specs.Replies.{passed}
 use Rattle.candidates.specs.Keyed.{Ordered, find, put, Every}
 use Rattle.candidates.specs.Candidate.{Candidate, candidate, badFeed, place, key, hopOf, held, IsCandidate, IsList}
 use Rattle.candidates.specs.Winners.{winning, winners}
-use Rattle.candidates.specs.Answers.{Update, announce, withdraw, faulty, sound, target, changed, verdict, answer, after, plain}
+use Rattle.candidates.specs.Answers.{Update, announce, withdraw, faulty, sound, target, verdict, answer, after, plain}
 use Rattle.rivals.specs.Maps.{put-ordered, cut-ordered, every-put, every-cut, put-same, put-other, cut-same, cut-other}
 use Rattle.rivals.specs.Maps.{put-held}
 use Rattle.rivals.specs.Won.{Good, found-won, winners-hop}
@@ -132,21 +132,6 @@ module _ (W : ℕ) where
   pub unsound-after : (A : ℕ) (cs : List Candidate) (u : Update) → sound W u ≡ false → after W A cs u ≡ cs
   unsound-after A cs u n =
       bool (isDone (answer W A cs u)) (λ e. absurd (true≢false (sym (done-sound A cs u e) ∙ n))) (λ e. rw e)
-
-  -- an accepted one leaves its change
-  pub done-after : (A : ℕ) (cs : List Candidate) (u : Update) → isDone (answer W A cs u) ≡ true → after W A cs u ≡ changed u cs
-  done-after A cs u e = rw e
-
-  -- what a property of candidates keeps
-  pub after-every : (P : Candidate → Type 0) (A : ℕ) (cs : List Candidate) (u : Update)
-      → ((c : Candidate) → sound W u ≡ true → newly u ≡ some c → P c) → Every P cs → Every P (after W A cs u)
-  after-every P A cs (announce a l h f p) n q =
-      bool (isDone (answer W A cs (announce a l h f p)))
-      (λ e. rw e (every-put key P (candidate a l f p h) cs
-      (n (candidate a l f p h) (done-sound A cs (announce a l h f p) e) refl) q))
-      (λ e. rw e q)
-  after-every P A cs (withdraw a l f) n q =
-      bool (isDone (answer W A cs (withdraw a l f))) (λ e. rw e (every-cut key P (place a l f) cs q)) (λ e. rw e q)
 
   -- ---- answers, cells excepted
 

@@ -185,10 +185,6 @@ module _ (g : ℕ → Row) where
   collect-none i zero e = refl
   collect-none i (suc n) e = rw e
 
-  pub collect-some : (i n : ℕ) → used (g i) ≡ true → collect g i (suc n) ≡ decode (g i) ∷ collect g (suc i) n
-  unfolding collect
-  collect-some i n e = rw e
-
   pub collect-few : (i n : ℕ) → length (collect g i n) ≤ n
   unfolding collect
   collect-few i zero = le-refl 0

@@ -6,7 +6,8 @@ use mathlib.Core.List.{List, [], _∷_, _++_}
 use Prim.Native.Nat.{ℕ, zero, suc, _+_, _-_, _*_, _^_, _≤_, _<_}
 use native.Mathlib.Omega.{arith}
 use lib.Dec.{eqb, ltb}
-use lib.ListN.{length, set, drop, length-append}
+use lib.ListN.{length, set, take, drop, length-append}
+use lib.Seq.{take-at}
 use borrow.Author.Tests.{ne-eqb, lt-ltb, le-ltb, eqb-false, ltb-false}
 use Rattle.logic.specs.Cases.{bool, less}
 use Rattle.sizes.specs.Sizes.{rootSlot}
@@ -31,7 +32,7 @@ use Rattle.sweep.specs.Walk.{wonAt, costAt, storeAt, routesAt}
 use Rattle.sweep.specs.Whole.{wonOf, default-is, cost-whole, routes-whole, small-slot}
 use Rattle.sweep.specs.Asked.{KeepsSets, HasKept, bytesOf, PutsRoutes}
 use Rattle.sweep.specs.Bound.{cost-bound, bytes-length}
-use Rattle.shorten.specs.Answer.{unfitOn, shortIn, HasCounted, HasShortened}
+use Rattle.shorten.specs.Answer.{unfitOn, shortIn, frontIn, countIn, HasCounted, HasShortened}
 use Rattle.shorten.proofs.Refusals.{Seated, root-stands}
 
 -- ---- a refusal before the buffer's
@@ -229,3 +230,17 @@ module _ {ws ms b : List ℕ} {n : ℕ} {ns : List ℕ} (g : Given ws ms b n ns)
           scratch = rw v (g .list);
           buffer = rw v (f ∙ ap (λ (k : ℕ). writtenPlainly qs ++ drop k b) l);
         }
+
+-- ---- the front of the buffer that is left
+
+plain-length : (rs : List Route) → length (writtenPlainly rs) ≡ bytesFor (length rs)
+unfolding bytesOf
+plain-length rs = length-append (bytesOf rs) (0 ∷ []) ∙ omega (arith, bytes-length rs)
+
+pub front-length : (x : Answer (List Route)) → countIn (bytesIn x) ≡ length (frontIn x)
+front-length (gives rs) = sym (plain-length rs)
+front-length (refuses n) = refl
+
+pub front-is : (x : Answer (List Route)) (b c : List ℕ) (m : ℕ) → m ≡ countIn (bytesIn x) → c ≡ leftIn x b → take m c ≡ frontIn x
+front-is (gives rs) b c m k e = rw e (take-at (writtenPlainly rs) (drop (bytesFor (length rs)) b) m (plain-length rs ∙ sym k))
+front-is (refuses n) b c m k e = rw k

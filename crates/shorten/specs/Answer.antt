@@ -2,14 +2,15 @@
 -- Assumes nothing.
 use mathlib.Core.Path.{_≡_}
 use mathlib.Core.Bool.{Bool, true, false, cond}
-use mathlib.Core.List.{List}
+use mathlib.Core.List.{List, []}
 use Prim.Native.Nat.{ℕ}
 use lib.Dec.{eqb, ltb}
 use lib.ListN.{length}
 use Rattle.sizes.specs.Sizes.{rootSlot}
 use Rattle.routes.specs.Route.{Route, held}
-use Rattle.routes.specs.Seen.{Answer}
+use Rattle.routes.specs.Seen.{Answer, gives, refuses}
 use Rattle.candidates.specs.Winners.{winners}
+use Rattle.candidates.specs.Bytes.{writtenPlainly}
 use Rattle.candidates.specs.Seen.{Seen, misfit, foreign, table}
 use Rattle.words.specs.Table.{seen}
 use Rattle.writing.specs.declared.Counted.{Counted}
@@ -44,3 +45,15 @@ pub record HasShortened (ws ms b : List ℕ) (r : Counted) (ns c : List ℕ) : T
   pub answer : countAnswer r ≡ bytesIn (shortIn ws ms (length b))
   pub scratch : ns ≡ scratchIn (shortIn ws ms (length b)) ws ms
   pub buffer : c ≡ leftIn (shortIn ws ms (length b)) b
+
+-- ---- the front of the buffer
+
+-- the bytes written, none on a refusal
+abbrev pub frontIn : Answer (List Route) → List ℕ
+frontIn (gives rs) = writtenPlainly rs
+frontIn (refuses n) = []
+
+-- their number
+abbrev pub countIn : Answer ℕ → ℕ
+countIn (gives n) = n
+countIn (refuses n) = 0

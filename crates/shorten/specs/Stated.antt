@@ -1,7 +1,8 @@
--- What is promised of the call for the shortest list, by its contract alone: what it writes is a shortest list for the table's
--- winners, and two outcomes that it allows agree. Assumes nothing.
+-- What is promised of the calls for the shortest list, by their contracts alone: what is written is a shortest list for the
+-- table's winners, and two outcomes that are allowed agree. Assumes nothing.
 use mathlib.Core.Path.{_≡_, refl, sym, ap, _∙_}
-use mathlib.Core.List.{List, _++_}
+use mathlib.Core.Logic.{_≢_}
+use mathlib.Core.List.{List, [], _++_}
 use Prim.Native.Nat.{ℕ}
 use native.Mathlib.Omega.{arith}
 use lib.Dec.{ltb}
@@ -21,7 +22,7 @@ use Rattle.writing.specs.Answer.{countAnswer}
 use Rattle.shortest.specs.Shortest.{IsShortest}
 use Rattle.shortest.specs.Seen.{bytesFor, bytesIn, leftIn}
 use Rattle.shortest.specs.Answered.{given-shortest, table-shortest}
-use Rattle.shorten.specs.Answer.{shortIn, HasCounted, HasShortened}
+use Rattle.shorten.specs.Answer.{shortIn, frontIn, HasCounted, HasShortened}
 
 -- ---- what is written is a shortest list
 
@@ -50,6 +51,19 @@ shortened-shortest ws ms b n ns c s = go (shortIn ws ms (length b)) refl (s .ans
         record { list = qs; shortest = in-shortest ws ms (length b) qs e; count = k; bytes = rw k t }
     go (refuses m) e a t = absurd (given-refused a)
 
+-- the part x of the buffer that was filled, unless it is empty
+pub record PartShortest (ws x : List ℕ) : Type 0 where
+  pub list : List Route
+  pub shortest : IsShortest 32 (winners (listOf 4 ws)) list
+  pub bytes : x ≡ writtenPlainly list
+
+pub part-shortest : (ws ms : List ℕ) (room : ℕ) (x : List ℕ) → x ≡ frontIn (shortIn ws ms room) → x ≢ [] → PartShortest ws x
+part-shortest ws ms room x e n = go (shortIn ws ms room) refl e
+  where
+    go : (y : Answer (List Route)) → shortIn ws ms room ≡ y → x ≡ frontIn y → PartShortest ws x
+    go (gives qs) v f = record { list = qs; shortest = in-shortest ws ms room qs v; bytes = f }
+    go (refuses m) v f = absurd (n f)
+
 -- ---- two outcomes that are allowed agree
 
 counted-one : (r t : Counted) → countAnswer r ≡ countAnswer t → r ≡ t
@@ -69,3 +83,7 @@ shortened-sharp ws ms b r t ns os c d p q = (
   p .scratch ∙ sym (q .scratch),
   p .buffer ∙ sym (q .buffer),
 )
+
+pub part-sharp : (ws ms : List ℕ) (room : ℕ) (x y : List ℕ) → x ≡ frontIn (shortIn ws ms room) → y ≡ frontIn (shortIn ws ms room)
+    → x ≡ y
+part-sharp ws ms room x y p q = p ∙ sym q

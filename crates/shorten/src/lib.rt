@@ -9,7 +9,8 @@ ghost use mathlib.Core.Path.{_≡_};
 ghost use lib.Dec.{ltb};
 ghost use lib.ListN.{length};
 ghost use Rattle.words.specs.Table.{seen};
-ghost use Rattle.shorten.specs.Answer.{unfitOn, HasCounted, HasShortened};
+ghost use Rattle.writing.specs.Answer.{countAnswer};
+ghost use Rattle.shorten.specs.Answer.{unfitOn, shortIn, scratchIn, countIn, frontIn, HasCounted, HasShortened};
 
 // Refusals: a wrong number of words, or a scratch of fewer; a buffer too small; no default route; a winning hop over 32.
 const MISFIT: u32 = 1;
@@ -86,4 +87,27 @@ pub fn shorten(words: &[u32], scratch: &mut [u32], buffer: &mut [u8]) -> Counted
         }
         Counted::Refused(number) => Counted::Refused(number),
     }
+}
+
+// How many bytes an answer says are written: 0 where it refuses.
+fn bytes_in(answer: Counted) -> usize
+    ensures { λ r. ⌜ r ≡ countIn (countAnswer answer) ⌝ }
+{
+    match answer {
+        Counted::Bytes(n) => n,
+        Counted::Refused(_) => 0,
+    }
+}
+
+// The front of the buffer, written: the bytes of the shortest list, or none on a refusal.
+pub fn write_shortest<'a>(words: &[u32], scratch: &mut [u32], buffer: &'a mut [u8]) -> &'a mut [u8]
+    ensures place { λ r. ⌜ r .ptr ≡ buffer .entry .ptr ⌝ }
+    ensures bytes { λ r. ⌜ now r ≡ frontIn
+        (shortIn (now (words .entry)) (now (scratch .entry)) (length (now (buffer .entry)))) ⌝ }
+    ensures sets { λ r. ⌜ now (scratch .exit) ≡ scratchIn
+        (shortIn (now (words .entry)) (now (scratch .entry)) (length (now (buffer .entry))))
+        (now (words .entry)) (now (scratch .entry)) ⌝ }
+{
+    let n = bytes_in(shorten(words, scratch, &mut buffer[..]));
+    &mut buffer[..n]
 }

@@ -10,11 +10,11 @@ use lib.ListN.{length}
 use borrow.Author.Tests.{ne-eqb, eqb-false, le-ltb}
 use Rattle.logic.specs.Cases.{bool}
 use Rattle.routes.specs.Route.{Route, held, IsList}
-use Rattle.routes.specs.Seen.{Answer, gives, refuses}
+use Rattle.routes.specs.Seen.{gives, refuses}
 use Rattle.candidates.specs.Candidate.{Candidate}
 use Rattle.candidates.specs.Winners.{winners}
 use Rattle.candidates.specs.Seen.{Seen, misfit, foreign, table}
-use Rattle.laws.specs.Given.{given-one, given-refused}
+use Rattle.laws.specs.Given.{given-one}
 use Rattle.shortest.specs.Shortest.{IsShortest, upto}
 use Rattle.shortest.specs.Proved.{shortest-of}
 use Rattle.shortest.specs.Seen.{shortest4, bytesFor, shortFor, shortOn}

@@ -10,7 +10,7 @@ use lib.Dec.{eqb}
 use lib.Bits.{bitAnd, bitOr, and-step, or-step}
 use lib.Count.{trailingZeros}
 use lib.Pow.{pow-pos, pow-mono}
-use borrow.Author.Tests.{eq-eqb, ne-eqb, eqb-true}
+use borrow.Author.Tests.{eq-eqb, ne-eqb}
 use Rattle.logic.specs.Cases.{same}
 
 -- bit k of m
@@ -30,21 +30,6 @@ only h = 2 ^ (h - 1)
 -- the lowest hop of a set of hops up to N
 abbrev pub lowest : ℕ → ℕ → ℕ
 lowest N m = suc (trailingZeros N m)
-
--- no hop of the set is lower
-bit-lowest : (N m k : ℕ) → bit m k ≡ true → trailingZeros N m ≤ k
-unfolding bit trailingZeros
-bit-lowest zero m k e = omega arith
-bit-lowest (suc N) m zero e = let z : m % 2 ≡ 1 = eqb-true (m % 2) 1 e in rw z (omega arith)
-bit-lowest (suc N) m (suc k) e =
-    same (m % 2) 1
-    (λ z t. rw z (omega arith))
-    (λ n t. (let z : m % 2 ≡ 0 = omega arith in rw z (omega (arith, bit-lowest N (m / 2) k e))))
-
-pub has-lowest : (N m h : ℕ) → has m h ≡ true → lowest N m ≤ h
-unfolding has
-has-lowest N m zero e = absurd (false≢true e)
-has-lowest N m (suc k) e = omega (arith, bit-lowest N m k e)
 
 -- ---- both, either, none
 

@@ -127,9 +127,6 @@ groupCount = 512
 abbrev pub groupStride : ℕ
 groupStride = 8
 
-abbrev pub strideArrays : ℕ
-strideArrays = 64
-
 -- the first word after the groups, and how many words follow from there
 abbrev pub restAt : ℕ
 restAt = 513

@@ -31,13 +31,13 @@ use Rattle.swaps.specs.Proved.{Holds, table-holds, after-holds, swap-wit
 
 -- ---- two arrays, 0.0.0.0/9 held
 
-abbrev cs : List Candidate
+abbrev pub cs : List Candidate
 cs = candidate (ip 0 0 0 0) 9 1 0 7 ∷ []
 
-abbrev go : Update
+abbrev pub go : Update
 go = withdraw (ip 0 0 0 0) 9 1
 
-abbrev come : Update
+abbrev pub come : Update
 come = announce (ip 1 0 0 0) 9 8 1 0
 
 pub table : Table 32 2 cs

@@ -235,10 +235,10 @@ fn write_out(words: &[u32], family: Family, buffer: &mut [u8]) -> Written
 // The version is in the name, so that a caller made for another one does not link (bindings/c/toggleash.h). It rises with any
 // change that such a caller would not notice: of a call, of its answer, or of what words are a table or a copy.
 #[no_mangle]
-pub extern "C" fn toggleash_version_5() -> u32
-    ensures { λ r. ⌜ r ≡ 5 ⌝ }
+pub extern "C" fn toggleash_version_6() -> u32
+    ensures { λ r. ⌜ r ≡ 6 ⌝ }
 {
-    5
+    6
 }
 
 #[no_mangle]

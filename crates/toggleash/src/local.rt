@@ -63,7 +63,7 @@ pub extern "C" fn toggleash_v6_announce_local(
         (announced (numberOf (address .bytes)) length hop feed preference) r ⌝ }
 {
     let bytes = address.bytes;
-    change(update::announce_local_of(words, &bytes[..], length, hop, feed, preference))
+    change(update::announce_local_v6(words, bytes, length, hop, feed, preference))
 }
 
 #[no_mangle]
@@ -77,7 +77,7 @@ pub extern "C" fn toggleash_v6_withdraw_local(
         (withdrawn (numberOf (address .bytes)) length feed) r ⌝ }
 {
     let bytes = address.bytes;
-    change(update::withdraw_local_of(words, &bytes[..], length, feed))
+    change(update::withdraw_local_v6(words, bytes, length, feed))
 }
 
 #[no_mangle]

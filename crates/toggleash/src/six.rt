@@ -53,7 +53,7 @@ pub extern "C" fn toggleash_v6_lookup(words: &[u32], address: Ipv6) -> Found
         (walk 16 (now (words .entry)) (numberOf (address .bytes))) (numberOf (address .bytes))) ⌝ }
 {
     let bytes = address.bytes;
-    finding(lookup::walk_along(words, &bytes[..]))
+    finding(lookup::walk_v6(words, bytes))
 }
 
 #[no_mangle]
@@ -62,7 +62,7 @@ pub extern "C" fn toggleash_v6_within(words: &[u32], address: Ipv6, length: u32)
         (totalWalk 16 (now (words .entry)) (numberOf (address .bytes)) length) (numberOf (address .bytes)) length) ⌝ }
 {
     let bytes = address.bytes;
-    inside(within::within_of(words, &bytes[..], length))
+    inside(within::within_v6(words, bytes, length))
 }
 
 #[no_mangle]
@@ -78,7 +78,7 @@ pub extern "C" fn toggleash_v6_announce(
         (announced (numberOf (address .bytes)) length hop feed preference) r ⌝ }
 {
     let bytes = address.bytes;
-    change(update::announce_of(words, &bytes[..], length, hop, feed, preference))
+    change(update::announce_v6(words, bytes, length, hop, feed, preference))
 }
 
 #[no_mangle]
@@ -92,7 +92,7 @@ pub extern "C" fn toggleash_v6_withdraw(
         (withdrawn (numberOf (address .bytes)) length feed) r ⌝ }
 {
     let bytes = address.bytes;
-    change(update::withdraw_of(words, &bytes[..], length, feed))
+    change(update::withdraw_v6(words, bytes, length, feed))
 }
 
 #[no_mangle]

@@ -62,15 +62,6 @@ module _ (A L : ℕ) (t : Arrays) (T : ℕ → ℕ → ℕ) (shape : Shape A L t
       let up = mark-off k (v / 256) (cellSlotOf v) a s (node-up A L t shape v k p) (omega arith) in
       rw (ne-eqb a (node t v (suc k)) (λ e. omega (arith, u .level, ap (lev t) e)), up)
 
-  -- nor has one that is not used
-  pub mark-unused : (k v r a s : ℕ) → 1 ≤ node t v k → t .tag a ≡ 0 → mark t v k r a s ≡ 0
-  unfolding mark part
-  mark-unused zero v r a s p h = rw (ne-eqb a 1 (λ e. omega (arith, shape .root, ap (t .tag) e)))
-  mark-unused (suc k) v r a s p h =
-      let u = node-level A L t shape v (suc k) p in
-      let up = mark-unused k (v / 256) (cellSlotOf v) a s (node-up A L t shape v k p) h in
-      rw (ne-eqb a (node t v (suc k)) (λ e. omega (arith, u .level, ap (t .tag) e)), up)
-
   -- the cell's total above an array that has something
   cell-some : (k v r : ℕ) → 1 ≤ node t v (suc k) → 1 ≤ r → r < slotEnd → 1 ≤ T (node t v (suc k)) r
       → 1 ≤ T (node t (v / 256) k) (cellSlotOf v)

@@ -4,7 +4,7 @@
 --     totals of 2: 18 and 19: 1, 9: 2, 4: 2, 2: 2, 1: 2        of 1: 256 + 10: 1 + 2, 133: 3, 66: 3 .. 1: 3
 use mathlib.Core.Path.{_≡_, refl}
 use mathlib.Core.Bool.{cond}
-use Prim.Native.Nat.{ℕ, zero, suc, _+_, _*_, _/_, _%_, _^_, _≤_, _<_}
+use Prim.Native.Nat.{ℕ, zero, suc, _+_, _*_, _/_, _^_, _≤_, _<_}
 use native.Mathlib.Omega.{arith}
 use lib.Dec.{eqb}
 use borrow.Author.Tests.{eq-eqb, ne-eqb}
@@ -52,10 +52,6 @@ pub sum-ext : (T U : ℕ → ℕ → ℕ) (a s : ℕ) → (1 ≤ a → U a s ≡
 unfolding sum
 sum-ext T U zero s e = refl
 sum-ext T U (suc a) s e = e (omega arith)
-
-pub ends-early : (t : Arrays) (T : ℕ → ℕ → ℕ) (v l : ℕ) → node t (v / 2 ^ depthOf l) (level l) ≡ 0 → counted t T v l ≡ 0
-unfolding counted
-ends-early t T v l e = sum-none T _ _ e
 
 -- the conditions with array 0, that has nothing
 module _ (A : ℕ) (t : Arrays) (T : ℕ → ℕ → ℕ) (c : Sums A t T) where

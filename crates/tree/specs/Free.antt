@@ -6,12 +6,7 @@ use native.Mathlib.Omega.{arith}
 use lib.Dec.{eqb}
 use borrow.Author.Tests.{ne-eqb}
 use Rattle.logic.specs.Cases.{same}
-use Rattle.tree.specs.Arrays.{Arrays, usedIn, usedOf}
-
--- used in the n groups of 8 from g on
-unfoldable pub usedFrom : Arrays → ℕ → ℕ → ℕ
-usedFrom t g zero = 0
-usedFrom t g (suc n) = usedFrom t g n + usedOf t (g + n)
+use Rattle.tree.specs.Arrays.{Arrays, usedIn}
 
 -- the first free array from a on, among n
 unfoldable pub firstFree : Arrays → ℕ → ℕ → ℕ

@@ -7,8 +7,8 @@ use native.Mathlib.Omega.{arith}
 use lib.Pow.{pow-pos, pow-mono, pow-add, shr-lt, split, high, low}
 use Rattle.logic.specs.Cases.{same, tri}
 use Rattle.sizes.specs.Sizes.{slotEnd, cellCount}
-use Rattle.routes.specs.Route.{insert, remove, key}
-use Rattle.laws.specs.Collect.{Off, routes-insert, routes-remove}
+use Rattle.routes.specs.Route.{remove, key}
+use Rattle.laws.specs.Collect.{Off, routes-remove}
 use Rattle.routes.specs.Collect.{routes, routeOf}
 use Rattle.routes.specs.Room.{level}
 use Rattle.tree.specs.Arrays.{Arrays, par, cell, at, node, depthOf, slotOf, held}
@@ -158,16 +158,6 @@ module _ (A L : ℕ) (t u : Arrays) (b q k d x h : ℕ) (s : Shape A L t) (p : P
           at-some u c (2 ^ e + y) o
           ∙ g .slots c (2 ^ e + y) o (slot-some v l) (slot-within v l) (same c b (λ z _. inr (apart (r ∙ z))) (λ z _. inl z))
           ∙ sym (at-some t c (2 ^ e + y) o)))
-
-  -- the list with the route put in, or taken out
-  pub slot-set-insert : (W : ℕ) → W < 256 → 8 * k + d ≤ W → 0 < h
-      → routes W (held u) ≡ insert (routeOf (W - (8 * k + d)) (q * 2 ^ d + x) (8 * k + d) h) (routes W (held t))
-  slot-set-insert W w f z =
-      routes-insert W w (held t) (held u) (q * 2 ^ d + x) (8 * k + d) f fits (slot-set-off W) (rw slot-set-here z)
-      ∙ rw slot-set-here
-    where
-      fits : q * 2 ^ d + x < 2 ^ (8 * k + d)
-      fits = omega (arith, pow-add 2 (8 * k) d, mul-le-mul-right (2 ^ d) (p .head), p .small)
 
   pub slot-set-remove : (W : ℕ) → W < 256 → 8 * k + d ≤ W → h ≡ 0
       → routes W (held u) ≡ remove (key (routeOf (W - (8 * k + d)) (q * 2 ^ d + x) (8 * k + d) h)) (routes W (held t))

@@ -205,6 +205,21 @@ pub fn announce(
     announce_of(words, &bytes, length, hop, feed, preference)
 }
 
+// .. and of an IPv6 address, sixteen bytes by value: level k reads byte k of it.
+pub fn announce_v6(
+    words: &mut [u32],
+    address: [u8; 16],
+    length: u32,
+    hop: u32,
+    feed: u32,
+    preference: u8,
+) -> Reply
+    ensures { λ r. ⌜ HasUpdated 16 (now (words .entry)) (now (words .exit))
+        (announced (number address) length hop feed preference) r ⌝ }
+{
+    announce_of(words, &address[..], length, hop, feed, preference)
+}
+
 // A candidate withdrawn: refused with the first of 1, 3, 4, 10, 2 and 7 that applies, or held no more.
 pub fn withdraw_of(words: &mut [u32], address: &[u8], length: u32, feed: u32) -> Reply
     requires { ⌜ IsAddress (now address) ⌝ }
@@ -225,6 +240,13 @@ pub fn withdraw(words: &mut [u32], address: u32, length: u32, feed: u32) -> Repl
 {
     let bytes = address::four_of(address);
     withdraw_of(words, &bytes, length, feed)
+}
+
+// .. and of an IPv6 address.
+pub fn withdraw_v6(words: &mut [u32], address: [u8; 16], length: u32, feed: u32) -> Reply
+    ensures { λ r. ⌜ HasUpdated 16 (now (words .entry)) (now (words .exit)) (withdrawn (number address) length feed) r ⌝ }
+{
+    withdraw_of(words, &address[..], length, feed)
 }
 
 // ---- updates of any words that test what they touch, and no more
@@ -308,6 +330,21 @@ pub fn announce_local(
     announce_local_of(words, &bytes, length, hop, feed, preference)
 }
 
+// .. and of an IPv6 address.
+pub fn announce_local_v6(
+    words: &mut [u32],
+    address: [u8; 16],
+    length: u32,
+    hop: u32,
+    feed: u32,
+    preference: u8,
+) -> Reply
+    ensures { λ r. ⌜ HasUpdatedLocally 16 (now (words .entry)) (now (words .exit))
+        (announced (number address) length hop feed preference) r ⌝ }
+{
+    announce_local_of(words, &address[..], length, hop, feed, preference)
+}
+
 // A candidate withdrawn, by a caller who knows nothing of the words.
 pub fn withdraw_local_of(words: &mut [u32], address: &[u8], length: u32, feed: u32) -> Reply
     requires { ⌜ IsAddress (now address) ⌝ }
@@ -323,4 +360,12 @@ pub fn withdraw_local(words: &mut [u32], address: u32, length: u32, feed: u32) -
 {
     let bytes = address::four_of(address);
     withdraw_local_of(words, &bytes, length, feed)
+}
+
+// .. and of an IPv6 address.
+pub fn withdraw_local_v6(words: &mut [u32], address: [u8; 16], length: u32, feed: u32) -> Reply
+    ensures { λ r. ⌜ HasUpdatedLocally 16 (now (words .entry)) (now (words .exit))
+        (withdrawn (number address) length feed) r ⌝ }
+{
+    withdraw_local_of(words, &address[..], length, feed)
 }

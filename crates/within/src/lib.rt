@@ -82,3 +82,12 @@ pub fn within(words: &[u32], address: u32, length: u32) -> Inside
     let bytes = address::four_of(address);
     within_of(words, &bytes[..], length)
 }
+
+// The same of an IPv6 address, sixteen bytes by value: level k reads byte k of it.
+pub fn within_v6(words: &[u32], address: [u8; 16], length: u32) -> Inside
+    ensures { λ r. ⌜ withinAnswer r ≡ withinOn 128 (seen 16 (now (words .entry)))
+        (walk 16 (now (words .entry)) (number address) length) (number address) length ⌝ }
+    ensures any_words { λ r. ⌜ withinAnswer r ≡ walked 16 (now (words .entry)) (number address) length ⌝ }
+{
+    within_of(words, &address[..], length)
+}

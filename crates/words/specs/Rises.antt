@@ -8,15 +8,11 @@ use mathlib.Core.List.{List}
 use Prim.Native.Nat.{ℕ, zero, suc, _+_, _≤_, _<_}
 use native.Mathlib.Omega.{arith}
 use lib.ListN.{length, getD}
-use Rattle.logic.specs.Cases.{same}
 use Rattle.sizes.specs.Sizes.{cellCount, arrayAt, cellAt, bestBound}
 use Rattle.array.specs.Tag.{parentIn, cellIn, levelIn}
 use Rattle.array.specs.Cell.{bestIn, linkIn}
-use Rattle.array.specs.Right.{best-small}
 use Rattle.tree.specs.Arrays.{Arrays, par, cell, lev}
-use Rattle.tree.specs.Tree.{parent-links, is-child}
-use Rattle.words.specs.Words.{arraysOf, arrayCount, slotsOf, bestsOf}
-use Rattle.words.specs.TableBut.{TableBut}
+use Rattle.words.specs.Words.{arraysOf, bestsOf}
 
 -- array b of level n + 1: its parent's cell, as its tag names them, links back, and has a best in its range
 pub record Rung (ws : List ℕ) (n b : ℕ) : Type 0 where
@@ -144,35 +140,3 @@ off-same ws vs (suc n) b c s r o =
     rw p (o .0, off-same ws vs n (par (arraysOf ws) b) c (less-up s) (r .1) (o .1))
 
 -- ---- of a table but for one array
-
-pub table-rises : {L e : ℕ} {ws : List ℕ} → TableBut L e ws → (n a : ℕ) → 1 ≤ a → a ≤ arrayCount ws
-    → lev (arraysOf ws) a ≡ suc n → Rises ws n a
-unfolding Rises
-table-rises {L} {e} {ws} ok zero a h w l =
-    let t = arraysOf ws in
-    let s = ok .shape in
-    record {
-      is = same a 1 (λ q _. q) (λ m _.
-          let c = is-child (arrayCount ws) L t s a (omega arith) w (omega arith) in
-          absurd (omega (arith, c .named, c .used, c .deep, s .levels)));
-      inside = omega (arith, ok .whole, ok .low);
-      level = omega (arith, s .root);
-    }
-table-rises {L} {e} {ws} ok (suc n) a h w l =
-    let t = arraysOf ws in
-    let A = arrayCount ws in
-    let s = ok .shape in
-    let two : 2 ≤ a = same a 1 (λ q _. absurd (omega (arith, s .root, ap (lev t) q))) (λ m _. omega arith) in
-    let u = parent-links A L t s a two w (omega arith) in
-    let c = is-child A L t s a two w (omega arith) in
-    let up : lev t (par t a) ≡ suc n = omega (arith, c .named, c .used, c .deep, s .levels) in (
-      record {
-        some = h;
-        inside = omega (arith, ok .whole, ok .low);
-        level = omega arith;
-        back = u .back;
-        small = best-small (lev t (par t a)) (slotsOf ws (par t a)) (bestsOf ws (par t a))
-            (ok .right (par t a) (u .some) (u .within) (omega arith)) (cell t a) (omega arith);
-      },
-      table-rises ok n (par t a) (u .some) (u .within) up,
-    )

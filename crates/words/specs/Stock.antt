@@ -1,7 +1,7 @@
 -- The header's count is the need of the list, and says whether an array is free. Assumes nothing.
 use mathlib.Core.Path.{_≡_, refl, _∙_}
 use mathlib.Core.List.{List}
-use Prim.Native.Nat.{ℕ, zero, suc, _-_, _*_, _/_, _<_}
+use Prim.Native.Nat.{ℕ, zero, suc, _-_, _*_, _/_}
 use native.Mathlib.Omega.{arith}
 use lib.ListN.{getD}
 use Rattle.routes.specs.Collect.{routes}
@@ -12,7 +12,6 @@ use Rattle.tree.specs.Need.{used-need}
 use Rattle.gather.specs.Views.{tree-winners}
 use Rattle.words.specs.Words.{feedsOf, arraysOf, arrayCount}
 use Rattle.words.specs.TableBut.{TableBut, Table}
-use Rattle.tree.specs.Free.{firstFree, Found, found}
 use Rattle.words.specs.Table.{listOf}
 
 pub count-need : (J : ℕ) (ws : List ℕ) → TableBut (suc J) 0 ws
@@ -33,8 +32,3 @@ table-count (suc J) ws ok =
 
 pub table-need : (L : ℕ) (ws : List ℕ) → Table L ws → getD ws 0 0 ≡ need (8 * L) (winners (listOf L ws))
 table-need L ws ok = let e : 8 * L / 8 - 1 ≡ L - 1 = omega arith in rw e (table-count L ws ok)
-
--- fewer used than there are: one is free
-pub find-some : (L e : ℕ) (ws : List ℕ) → TableBut L e ws → getD ws 0 0 < arrayCount ws
-    → Found (arraysOf ws) 1 (arrayCount ws) (firstFree (arraysOf ws) 1 (arrayCount ws))
-find-some L e ws ok h = found (arraysOf ws) 0 (arrayCount ws) (omega (arith, ok .header .count))

@@ -24,7 +24,7 @@ use Rattle.writing.specs.Prefix.{reach, prefixOf, leads-number}
 use Rattle.words.specs.Empty.{slot-none}
 use Rattle.writing.specs.Asked.{familyOf, bytesWord, bytesFeeds, bytesOwn, Puts, PutsSlot}
 
--- ---- put_address: what is left to be copied is the whole
+-- ---- put_bytes: what is left to be copied is the whole
 
 module _ (b h : List ℕ) (at : ℕ) (c : List ℕ) (i : ℕ) (inv : sets c (at + i) (drop i h) ≡ sets b at h) where
   pub copy-turn : i < length h → (y : ℕ) → y ≡ getD h i 0

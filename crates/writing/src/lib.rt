@@ -30,6 +30,9 @@ pub enum Counted {
     Refused(u32),
 }
 
+// The bytes of an IPv6 address.
+const V6_BYTES: usize = 16;
+
 // The byte at i of the address of a prefix that reaches into some bytes: 0 behind them. It is read first, so that the test
 // needs no jump.
 fn byte_of(address: &[u8], reach: usize, i: usize) -> u8
@@ -44,7 +47,7 @@ fn byte_of(address: &[u8], reach: usize, i: usize) -> u8
 }
 
 // The bytes of a prefix's address at `at`; returns the place after them.
-fn put_address(address: &[u8], reach: usize, buffer: &mut [u8], at: usize) -> usize
+fn put_bytes(address: &[u8], reach: usize, buffer: &mut [u8], at: usize) -> usize
     requires { ⌜ (reach ≤ length (now address)) × (at + length (now address) ≤ length (now buffer)) ⌝ }
     ensures { λ r. ⌜ Wrote (now (buffer .entry)) at (filled reach (now (address .entry))) r (now (buffer .exit)) ⌝ }
 {
@@ -54,6 +57,25 @@ fn put_address(address: &[u8], reach: usize, buffer: &mut [u8], at: usize) -> us
         i += 1;
     }
     at + i
+}
+
+// The same of an IPv6 address, by value.
+fn put_sixteen(address: [u8; 16], reach: usize, buffer: &mut [u8], at: usize) -> usize
+    requires { ⌜ (reach ≤ 16) × (at + 16 ≤ length (now buffer)) ⌝ }
+    ensures { λ r. ⌜ Wrote (now (buffer .entry)) at (filled reach address) r (now (buffer .exit)) ⌝ }
+{
+    put_bytes(&address[..], reach, buffer, at)
+}
+
+// The same of either family's.
+fn put_address(address: &[u8], reach: usize, buffer: &mut [u8], at: usize) -> usize
+    requires { ⌜ (reach ≤ length (now address)) × (at + length (now address) ≤ length (now buffer)) ⌝ }
+    ensures { λ r. ⌜ Wrote (now (buffer .entry)) at (filled reach (now (address .entry))) r (now (buffer .exit)) ⌝ }
+{
+    if address.len() == V6_BYTES {
+        return put_sixteen(address::sixteen_of(address), reach, buffer, at);
+    }
+    put_bytes(address, reach, buffer, at)
 }
 
 // The record of a prefix at `at` with a feed's candidate, unless its word is 0; returns the place after it. The prefix is the
@@ -290,11 +312,20 @@ pub fn fill(words: &[u32], buffer: &mut [u8]) -> usize
     fill_of(words, Family::V4, buffer)
 }
 
-// The front of the buffer, written: the list's bytes, or none where the count refuses.
+// The front of the buffer, written: the bytes of a family's list, or none where the count refuses.
+pub fn write_out_of<'a>(words: &[u32], family: Family, buffer: &'a mut [u8]) -> &'a mut [u8]
+    ensures place { λ r. ⌜ r .ptr ≡ buffer .entry .ptr ⌝ }
+    ensures bytes { λ r. ⌜ now r ≡ frontOn (saidFamily family) (seen (levels (saidFamily family)) (now (words .entry)))
+        (length (now (buffer .entry))) ⌝ }
+{
+    let n = fill_of(words, family, &mut buffer[..]);
+    &mut buffer[..n]
+}
+
+// Of an IPv4 list.
 pub fn write_out<'a>(words: &[u32], buffer: &'a mut [u8]) -> &'a mut [u8]
     ensures place { λ r. ⌜ r .ptr ≡ buffer .entry .ptr ⌝ }
     ensures bytes { λ r. ⌜ now r ≡ frontOn v4 (seen 4 (now (words .entry))) (length (now (buffer .entry))) ⌝ }
 {
-    let n = fill(words, &mut buffer[..]);
-    &mut buffer[..n]
+    write_out_of(words, Family::V4, buffer)
 }

@@ -1,16 +1,14 @@
-//! Which bytes are one whole written-out list of a table of some room, and the routes of it.
+//! Which bytes are one whole written-out list, of any room, and the routes of it.
 
 use crate::candidates::{Candidate, CandidateList, FEEDS};
 use crate::list::{Prefix, Route, RouteList};
-use crate::memory::MOST_ARRAYS;
 use crate::refusal::Refusal;
 
 /// The routes that the bytes list: those of kind 1 records, or the winners of kind 4 records. Bytes of both kinds are
 /// neither.
 pub fn listed(bytes: &[u8]) -> Result<RouteList, Refusal> {
     let candidates = || candidates(bytes).map(|list| list.winners().clone());
-    let list = routes(bytes).or_else(candidates).filter(|list| list.need() <= MOST_ARRAYS);
-    list.ok_or(Refusal::NotATable)
+    routes(bytes).or_else(candidates).ok_or(Refusal::NotATable)
 }
 
 /// The list of kind 1 records that the bytes are. They are what it encodes to, so records out of order or doubled, and

@@ -9,7 +9,7 @@ mod way;
 
 pub use listed::listed;
 pub use marks::markers;
-pub use stands::{kept, stands};
+pub use stands::{header, kept, stands};
 pub use walk::walk;
 pub use way::turns;
 

@@ -1,4 +1,4 @@
-//! When words are a copy of a list, and which words a build leaves.
+//! When words are a copy of a list, which header a build makes, and which words it leaves.
 
 use std::collections::BTreeMap;
 
@@ -37,9 +37,9 @@ fn best(list: &RouteList, prefix: Prefix) -> u32 {
     (0..=prefix.length).rev().find_map(route).unwrap_or(0)
 }
 
-/// The table of length m begins past the header and ends by the words needed.
+/// The table of length m ends by the words needed.
 fn lies(words: &[u32], m: u32, need: usize) -> bool {
-    words[2 * m as usize] >= HEADER as u32 && table(&words[..need], m).is_some()
+    table(&words[..need], m).is_some()
 }
 
 /// The probe for any bits finds the best match if they are an entry, and nothing otherwise. Bits that are no entry and
@@ -51,8 +51,20 @@ fn tells(words: &[u32], m: u32, entries: &Entries) -> bool {
     table.entries().all(|entry| right(entry.bits)) && entries.keys().all(|&bits| right(bits))
 }
 
+/// The words of the header that a build writes for the lengths, each with its number: the entries of all shorter lengths,
+/// and the length's own, or 2^32 - 1 if these are 2^32.
+pub fn header(list: &RouteList) -> Vec<(usize, u32)> {
+    let told = |number: usize| u32::try_from(number).unwrap_or(u32::MAX);
+    let (mut words, mut before) = (Vec::new(), 0);
+    for (m, entries) in entries(list).iter().enumerate().skip(1) {
+        words.extend([(2 * m, told(before)), (2 * m + 1, told(entries.len()))]);
+        before += entries.len();
+    }
+    words
+}
+
 /// Of so many words, those that a build leaves as they are: the header's without a use, the last eight needed if the
-/// default route is held, and all past the need.
+/// default route is held, and all past the need. (All addresses as routes of length 32 would leave eight more.)
 pub fn kept(list: &RouteList, words: usize) -> Vec<usize> {
     let header = (1..HEADER).filter(|at| !(2..2 * 33).contains(at));
     let tables_end = Built::of(list).need() - if list.hop(DEFAULT).is_some() { 8 } else { 0 };

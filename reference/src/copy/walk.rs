@@ -75,7 +75,8 @@ impl Table<'_> {
 /// The table of length m, if it lies inside the words.
 pub fn table(words: &[u32], m: u32) -> Option<Table<'_>> {
     let number = |at: u32| usize::try_from(words[at as usize]).ok();
-    let (begin, size) = (number(2 * m)?, number(2 * m + 1)?.checked_mul(ENTRY)?);
+    let (before, size) = (number(2 * m)?.checked_mul(ENTRY)?, number(2 * m + 1)?.checked_mul(ENTRY)?);
+    let begin = before.checked_add(HEADER)?;
     let (keys, bests) = words.get(begin..begin.checked_add(size)?)?.split_at(size / 2);
     Some(Table { length: m, keys, bests })
 }

@@ -4,7 +4,8 @@ use Prim.Native.Nat.{_*_}
 use native.Mathlib.Omega.{arith}
 use Rattle.damping.specs.Refuse.{passed-all}
 use Rattle.damping_run.specs.Tables.{ran-table}
-use Rattle.damping_run.proofs.Loop.{run-refused, table-ready}
+use Rattle.damping_run.specs.Steps.{passed-ready}
+use Rattle.damping_run.proofs.Loop.{run-refused}
 use borrow.Author.Needs.{needs}
 use Rattle.damping_run.proofs.run.Statement.{statement}
 use Rattle.damping_run.proofs.run.Tie as tie
@@ -26,9 +27,8 @@ run-with-requires c κs =
     let e = c .before .before .before in
     let s = c .before .before .before .before .before .before .before .before .before .before in
     let a = s .before .args in
-    let p = passed-all (a .front .now) (a .words .now) 0 (λ i. omega (arith, s .slice-known .given (4 * i)))
-    (sym (e .before .refusal .ensures) ∙ e .if1 .left) in
-    table-ready (a .front .now) (a .words .now) (p .0) (p .1)
+    passed-ready (a .front .now) (a .words .now) (λ i. omega (arith, s .slice-known .given (4 * i)))
+    (sym (e .before .refusal .ensures) ∙ e .if1 .left)
 
 same-length-3 : tie.Need-same-length-3
 same-length-3 c = search needs

@@ -3,7 +3,7 @@
 use mathlib.Core.Path.{ap, _∙_}
 use Prim.Native.Nat.{ℕ, _+_, _*_}
 use lib.ListN.{getD}
-use Rattle.lengths.specs.Layout.{placesOf, place}
+use Rattle.lengths.specs.Layout.{beginOf, placesOf, place}
 use Rattle.lengths.proofs.Probing.{key-own, key-other, place-first, probe-free, probe-own, probe-on, find-none, find-all}
 use Rattle.lengths.proofs.Probing.{look-out, look-there}
 use native.Mathlib.Omega.{arith}
@@ -22,6 +22,12 @@ shared-slice-read-o c = search needs
 
 cast-o : tie.Need-cast-o
 cast-o c = omega (arith, c .shared-slice-known2 .given (2 * c .before .before .args .m))
+
+mul-o-3 : tie.Need-mul-o-3
+mul-o-3 c = omega (arith, c .shared-slice-known2 .given (2 * c .before .before .args .m))
+
+add-o : tie.Need-add-o
+add-o c = omega (arith, c .shared-slice-known2 .given (2 * c .before .before .args .m))
 
 mul-size : tie.Need-mul-size
 mul-size c = search needs
@@ -56,7 +62,7 @@ returns-2 c =
     let a = c .before .before .before .before .before .args in
     let ws = a .words .now in
     let p = 4 * getD ws (2 * a .m + 1) 0 in
-    let T = placesOf ws (a .m) (getD ws (2 * a .m) 0) p in
+    let T = placesOf ws (a .m) (beginOf ws (a .m)) p in
     record { told = find-none T p (a .v) (omega arith) ∙ look-there ws (a .m) (a .v) (c .before .if1 .left); inside = tt }
 
 mul-p : tie.Need-mul-p
@@ -78,7 +84,7 @@ returns-3 c =
     let a = c .before .before .before .before .before .before .before .before .args in
     let ws = a .words .now in
     let p = 4 * getD ws (2 * a .m + 1) 0 in
-    let T = placesOf ws (a .m) (getD ws (2 * a .m) 0) p in
+    let T = placesOf ws (a .m) (beginOf ws (a .m)) p in
     let s = c .before .before .start in
     let here = place-first (s .result) p (s .ensures .1) ∙ ap (λ (x : ℕ). place x p 0) (s .ensures .0) in
     let f = c .before .is-free in
@@ -97,15 +103,15 @@ shared-slice-read-if4 c = search needs
 sub-if4 : tie.Need-sub-if4
 sub-if4 c = search needs
 
-add-t20 : tie.Need-add-t20
-add-t20 c = search needs
+add-t21 : tie.Need-add-t21
+add-t21 c = search needs
 
 returns-4 : tie.Need-returns-4
 returns-4 c =
     let a = c .before .before .before .before .before .before .before .before .before .before .args in
     let ws = a .words .now in
     let p = 4 * getD ws (2 * a .m + 1) 0 in
-    let T = placesOf ws (a .m) (getD ws (2 * a .m) 0) p in
+    let T = placesOf ws (a .m) (beginOf ws (a .m)) p in
     let s = c .before .before .before .before .start in
     let here = place-first (s .result) p (s .ensures .1) ∙ ap (λ (x : ℕ). place x p 0) (s .ensures .0) in
     let f = c .before .before .before .is-free in
@@ -124,11 +130,11 @@ returns-5 c =
     let a = c .before .before .before .before .before .before .before .before .before .before .before .args in
     let ws = a .words .now in
     let p = 4 * getD ws (2 * a .m + 1) 0 in
-    let T = placesOf ws (a .m) (getD ws (2 * a .m) 0) p in
+    let T = placesOf ws (a .m) (beginOf ws (a .m)) p in
     let s = c .before .before .before .before .before .start in
     let here = place-first (s .result) p (s .ensures .1) ∙ ap (λ (x : ℕ). place x p 0) (s .ensures .0) in
     let f = c .before .before .before .before .is-free in
-    let word = c .before .before .shared-slice-known4 .given (getD ws (2 * a .m) 0 + s .result) in
+    let word = c .before .before .shared-slice-known4 .given (beginOf ws (a .m) + s .result) in
     let other = key-other _ (a .v) (omega (arith, word)) (c .before .if4 .left) in
     record {
       told = c .probe-on .ensures .told ∙ probe-on T p (a .v) 0 (omega arith) (s .result) here (f .result) (f .ensures)
@@ -145,6 +151,8 @@ look-in-spec =
     mul-o-2
     shared-slice-read-o
     cast-o
+    mul-o-3
+    add-o
     mul-size
     add-size
     mul-size-2
@@ -162,7 +170,7 @@ look-in-spec =
     mul-if4
     shared-slice-read-if4
     sub-if4
-    add-t20
+    add-t21
     returns-4
     probe-on-requires
     returns-5)

@@ -2,7 +2,7 @@
 use mathlib.Core.Path.{sym, ap, _∙_}
 use lib.ListN.{length-set}
 use Rattle.lengths_build.specs.Answer.{needAnswer}
-use Rattle.lengths_build.proofs.Whole.{given, build-unlisted, build-short, build-taken, build-starts, build-built}
+use Rattle.lengths_build.proofs.Whole.{given, build-unlisted, build-short, build-list, build-starts, build-built}
 use Rattle.lengths_build.proofs.Whole.{build-sub}
 use borrow.Author.Needs.{needs}
 use native.Mathlib.Omega.{arith}
@@ -39,7 +39,7 @@ default-of-requires c κs =
     let need = c .before .before .before .before .need in
     let n = c .before .before .n in
     let g = given (a .bytes .now) (n .given .0 .0) (sym (ap needAnswer (n .given .1)) ∙ need .ensures) in
-    build-taken (a .bytes .now) (a .words .now) (n .given .0 .0) g (λ i. omega (arith, shared-slice-known .given i)) .list
+    build-list (a .bytes .now) (a .words .now) (n .given .0 .0) g (λ i. omega (arith, shared-slice-known .given i))
 
 slice-write-words : tie.Need-slice-write-words
 slice-write-words c =
@@ -71,7 +71,7 @@ routes-requires c κs =
     let need = c .before .before .before .before .before .before .before .before .before .need in
     let n = c .before .before .before .before .before .before .before .n in
     let g = given (a .bytes .now) (n .given .0 .0) (sym (ap needAnswer (n .given .1)) ∙ need .ensures) in
-    build-taken (a .bytes .now) (a .words .now) (n .given .0 .0) g (λ i. omega (arith, shared-slice-known .given i)) .list
+    build-list (a .bytes .now) (a .words .now) (n .given .0 .0) g (λ i. omega (arith, shared-slice-known .given i))
 
 sub-t6 : tie.Need-sub-t6
 sub-t6 c =

@@ -35,7 +35,7 @@ same-length : tie.Need-same-length
 same-length c = search needs
 
 returns : tie.Need-returns
-returns c = headed (c .args .words .now) (c .args .m) (c .args .o) (c .args .size) (c .pre .0) (c .pre .1)
+returns c = headed (c .args .words .now) (c .args .m) (c .args .before) (c .args .size) (c .pre .0) (c .pre .1)
 
 pub enter-header-spec : {M : Type 1} → statement M
 enter-header-spec =

@@ -9,7 +9,7 @@ reach-requires : tie.Need-reach-requires
 reach-requires c κs = search needs
 
 count-requires : tie.Need-count-requires
-count-requires c κs = (c .before .before .pre .0 .list, c .before .before .pre .2)
+count-requires c κs = (c .before .before .pre .0, c .before .before .pre .2)
 
 returns : tie.Need-returns
 returns c =
@@ -17,7 +17,7 @@ returns c =
     let reach = c .before .reach in
     let count = c .count in
     entries-told (s .args .bytes .now) (s .args .m) (reach .result) (count .result) (s .pre .0) (s .pre .1) (s .pre .2)
-    (reach .ensures) (count .ensures .0)
+    (reach .ensures) (count .ensures)
 
 pub entries-spec : {M : Type 1} → statement M
 entries-spec = tie.close (tie.spec reach-requires count-requires returns)

@@ -19,6 +19,12 @@ shared-slice-read-o c = search needs
 cast-o : tie.Need-cast-o
 cast-o c = omega (arith, c .shared-slice-known2 .given (2 * c .before .before .args .m))
 
+mul-o-2 : tie.Need-mul-o-2
+mul-o-2 c = omega (arith, c .shared-slice-known2 .given (2 * c .before .before .args .m))
+
+add-o : tie.Need-add-o
+add-o c = omega (arith, c .shared-slice-known2 .given (2 * c .before .before .args .m))
+
 add-size : tie.Need-add-size
 add-size c = search needs
 
@@ -63,6 +69,8 @@ look-at-spec =
     mul-o
     shared-slice-read-o
     cast-o
+    mul-o-2
+    add-o
     add-size
     mul-size
     shared-slice-read-size

@@ -1,7 +1,6 @@
 -- `lengths_build::need` meets its contract: each return is one law of the answer. Assumes nothing.
-use Rattle.lengths_build.proofs.Words.{need-unlisted, need-words, need-taken}
+use Rattle.lengths_build.proofs.Words.{need-unlisted, need-words, need-list}
 use borrow.Author.Needs.{needs}
-use native.Mathlib.Omega.{arith}
 use Rattle.lengths_build.proofs.need.Statement.{statement}
 use Rattle.lengths_build.proofs.need.Tie as tie
 
@@ -18,8 +17,7 @@ total-requires : tie.Need-total-requires
 total-requires c κs =
     let a = c .before .before .before .args in
     let test = c .before .is-listed in
-    need-taken (a .bytes .now) (test .result) (test .ensures) (λ i. omega (arith, c .before .before .shared-slice-known .given i))
-    (c .if1 .left)
+    need-list (a .bytes .now) (test .result) (test .ensures) (c .if1 .left)
 
 mul-t5 : tie.Need-mul-t5
 mul-t5 c = search needs

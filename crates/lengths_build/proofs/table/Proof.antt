@@ -5,8 +5,17 @@ use native.Mathlib.Omega.{arith}
 use Rattle.lengths_build.proofs.table.Statement.{statement}
 use Rattle.lengths_build.proofs.table.Tie as tie
 
+sized-requires : tie.Need-sized-requires
+sized-requires c κs = search needs
+
 enter-header-requires : tie.Need-enter-header-requires
 enter-header-requires c κs = search needs
+
+mul-o : tie.Need-mul-o
+mul-o c = search needs
+
+add-o : tie.Need-add-o
+add-o c = search needs
 
 mul-end : tie.Need-mul-end
 mul-end c = search needs
@@ -19,39 +28,46 @@ clear-requires c κs = search needs
 
 fill-requires : tie.Need-fill-requires
 fill-requires c κs =
-    let s = c .before .before .before .before .before .before .before .before .before .before .before in
+    let s = c .before .before .before .before .before .before .before .before .before .before .before .before in
+    let z = c .before .before .before .before .before .before .before .before .before .sized in
     let h = c .before .before .before .before .before .before .before .enter-header in
     let k = c .before .before .before .clear in
-    make-first (s .args .bytes .now) (s .args .words .now) (s .args .m) (s .args .o) (s .args .size) (s .pre) (h .last .0) (h .ensures)
-    (k .last .0) _ (omega arith) (k .ensures)
+    make-first (s .args .bytes .now) (s .args .words .now) (s .args .m) (s .args .before) (s .args .count) (s .pre) (z .result) (z .ensures .0)
+    (h .last .0) (h .ensures) (k .last .0) _ (omega arith) (k .ensures)
 
 fill-requires-2 : tie.Need-fill-requires-2
 fill-requires-2 c κs =
-    let s = c .before .before .before .before .before .before .before .before .before .before .before .before .before .before .before in
+    let s = c .before .before .before .before .before .before .before .before .before .before .before .before .before .before .before .before in
+    let z = c .before .before .before .before .before .before .before .before .before .before .before .before .before .sized in
     let h = c .before .before .before .before .before .before .before .before .before .before .before .enter-header in
     let k = c .before .before .before .before .before .before .before .clear in
     let f = c .before .before .before .fill in
-    make-second (s .args .bytes .now) (s .args .words .now) (s .args .m) (s .args .o) (s .args .size) (s .pre) (h .last .0) (h .ensures)
-    (k .last .0) _ (omega arith) (k .ensures) (f .last .1 .0) (f .ensures)
+    make-second (s .args .bytes .now) (s .args .words .now) (s .args .m) (s .args .before) (s .args .count) (s .pre) (z .result) (z .ensures .0)
+    (h .last .0) (h .ensures) (k .last .0) _ (omega arith) (k .ensures) (f .last .1 .0) (f .ensures)
 
 same-length : tie.Need-same-length
 same-length c = search needs
 
 returns : tie.Need-returns
 returns c =
-    let s = c .before .before .before .before .before .before .before .before .before .before .before .before .before .before .before .before .before .before in
-    let h = c .before .before .before .before .before .before .before .before .before .before .before .before .before .before .enter-header in
-    let k = c .before .before .before .before .before .before .before .before .before .before .clear in
+    let q = c .before .before .before .before .before .before .before .before .before .before in
+    let s = q .before .before .before .before .before .before .before .before .before in
+    let z = q .before .before .before .before .before .before .sized in
+    let h = q .before .before .before .before .enter-header in
+    let k = q .clear in
     let f = c .before .before .before .before .before .before .fill in
     let g = c .before .before .fill2 in
-    make-made (s .args .bytes .now) (s .args .words .now) (s .args .m) (s .args .o) (s .args .size) (s .pre) (h .last .0) (h .ensures)
-    (k .last .0) _ (omega arith) (k .ensures) (f .last .1 .0) (f .ensures) (omega arith) (g .last .1 .0) (g .ensures)
+    make-made (s .args .bytes .now) (s .args .words .now) (s .args .m) (s .args .before) (s .args .count) (s .pre) (z .result) (z .ensures .0)
+    (h .last .0) (h .ensures) (k .last .0) _ (omega arith) (k .ensures) (f .last .1 .0) (f .ensures) (omega arith) (g .last .1 .0) (g .ensures)
 
 pub table-spec : {M : Type 1} → statement M
 table-spec =
     tie.close
     (tie.spec
+    sized-requires
     enter-header-requires
+    mul-o
+    add-o
     mul-end
     add-end
     clear-requires

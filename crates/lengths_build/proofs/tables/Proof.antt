@@ -7,36 +7,34 @@ use Rattle.lengths_build.proofs.tables.Statement.{statement}
 use Rattle.lengths_build.proofs.tables.Tie as tie
 
 abbrev Inv-loop : tie.InvT-loop
-Inv-loop bytes words₀ o₀ m₀ words o m = Going bytes words₀ words m o
+Inv-loop bytes words₀ before₀ m₀ words before m = Going bytes words₀ words m before
 
 abbrev μ-loop : tie.MeasureT-loop
-μ-loop bytes words₀ o₀ m₀ words o m = 33 - m
+μ-loop bytes words₀ before₀ m₀ words before m = 33 - m
 
 loop-holds : tie.Need-loop-holds Inv-loop μ-loop
 loop-holds c = going-start (c .before .before .args .bytes .now) (c .before .before .args .words .now) (c .before .before .pre)
 
 entries-requires : tie.Need-entries-requires Inv-loop μ-loop
-entries-requires c κs = (c .before .before .before .before .pre .taken, c .before .loop .inv .few, c .loop-test .taken)
+entries-requires c κs = (c .before .before .before .before .pre .list, c .before .loop .inv .few, c .loop-test .taken)
 
 table-requires : tie.Need-table-requires Inv-loop μ-loop
 table-requires c κs =
     let a = c .before .before .before .before .before .before .args in
     let p = c .before .before .before .before .before .before .pre in
     let l = c .before .before .before .loop in
-    going-makes (a .bytes .now) (a .words .now) p (l .words) (l .m) (l .o) (l .inv) (omega arith) (c .before .entries .result) (c .before .entries .ensures .0)
+    let n = c .before .entries in
+    going-makes (a .bytes .now) (a .words .now) p (l .words) (l .m) (l .before) (l .inv) (omega arith) (n .result) (n .ensures .0)
 
-mul-o : tie.Need-mul-o Inv-loop μ-loop
-mul-o c = omega (arith, c .before .before .before .before .entries .ensures .1)
-
-add-o : tie.Need-add-o Inv-loop μ-loop
-add-o c =
+add-before : tie.Need-add-before Inv-loop μ-loop
+add-before c =
     let a = c .before .before .before .before .before .before .before .before .before .args in
     let p = c .before .before .before .before .before .before .before .before .before .pre in
     let l = c .before .before .before .before .before .before .loop in
     let entries = c .before .before .before .before .entries in
     omega (
       arith,
-      going-fits (a .bytes .now) (a .words .now) p (l .words) (l .m) (l .o) (l .inv) (omega arith) (entries .result) (entries .ensures .0),
+      going-fits (a .bytes .now) (a .words .now) p (l .words) (l .m) (l .before) (l .inv) (omega arith) (entries .result) (entries .ensures .0),
       l .inv .long,
     )
 
@@ -53,8 +51,8 @@ loop-again c =
     let l = c .before .before .before .before .before .before .loop in
     let entries = c .before .before .before .before .entries in
     let table = c .before .before .table in
-    going-more (a .bytes .now) (a .words .now) p (l .words) (l .m) (l .o) (l .inv) (omega arith) (entries .result) (entries .ensures .0) (table .last .1 .0)
-    (table .ensures)
+    going-more (a .bytes .now) (a .words .now) p (l .words) (l .m) (l .before) (l .inv) (omega arith) (entries .result) (entries .ensures .0)
+    (table .last .1 .0) (table .ensures)
 
 same-length : tie.Need-same-length Inv-loop μ-loop
 same-length c = c .before .loop .inv .long
@@ -64,7 +62,7 @@ returns c =
     let a = c .before .before .before .before .args in
     let p = c .before .before .before .before .pre in
     let l = c .before .loop in
-    going-end (a .bytes .now) (a .words .now) p (l .words) (l .m) (l .o) (l .inv) (c .loop-test .left)
+    going-end (a .bytes .now) (a .words .now) p (l .words) (l .m) (l .before) (l .inv) (c .loop-test .left)
 
 pub tables-spec : {M : Type 1} → statement M
 tables-spec =
@@ -75,8 +73,7 @@ tables-spec =
     loop-holds
     entries-requires
     table-requires
-    mul-o
-    add-o
+    add-before
     add-m
     loop-less
     loop-again

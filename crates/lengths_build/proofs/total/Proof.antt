@@ -18,7 +18,7 @@ abbrev μ-loop : tie.MeasureT-loop
 μ-loop bytes sum₀ m₀ sum m = 32 - m
 
 defaults-requires : tie.Need-defaults-requires Inv-loop μ-loop
-defaults-requires c κs = c .before .pre .list
+defaults-requires c κs = c .before .pre
 
 loop-holds : tie.Need-loop-holds Inv-loop μ-loop
 loop-holds c =
@@ -52,7 +52,7 @@ returns c =
     let a = c .before .before .before .before .args in
     let p = c .before .before .before .before .pre in
     let l = c .before .loop in
-    let w = winners-list 32 (candidatesIn (a .bytes .now)) (p .list) in
+    let w = winners-list 32 (candidatesIn (a .bytes .now)) p in
     (total-all (listOf (a .bytes .now)) (l .m) (l .sum) w (omega arith) (omega arith) (l .inv .1), omega (arith, l .inv .2))
 
 pub total-spec : {M : Type 1} → statement M

@@ -1,44 +1,28 @@
--- The invariant: the places of the feed, the replies and the text are inside them. The measure is what is left of the feed.
--- Assumes nothing.
-use borrow.Author.Tests.{ltb-true}
+-- The invariant: the run has come as far as its counters say, on a front and a table, and the text is inside its bytes. The measure is
+-- what is left of the feed. Assumes nothing.
 use borrow.Author.Needs.{needs}
 use native.Mathlib.Omega.{arith}
-use mathlib.Core.Path.{_≡_}
-use Prim.Native.Nat.{_≤_, _-_}
+use mathlib.Core.Path.{_≡_, refl, sym, _∙_}
+use mathlib.Core.Bool.{true}
+use Prim.Native.Nat.{_*_, _≤_, _-_}
 use lib.ListN.{length}
+use Rattle.damping_run.specs.Steps.{Comes, passed-ready, comes-first, comes-takes, comes-on}
 use Rattle.console.proofs.through.output.Statement.{statement}
 use Rattle.console.proofs.through.output.Tie as tie
 
 abbrev Inv-loop : tie.InvT-loop
-Inv-loop front₀ words₀ feed reply₀ out₀ c₀ front words reply out c =
-    (length front ≡ length front₀)
+Inv-loop front₀ words₀ feed reply₀ out₀ n room to₀ p₀ stop₀ front words reply out to p stop =
+    Comes p front words feed reply (length reply₀) true stop
+    × (length front ≡ length front₀)
     × (length words ≡ length words₀)
-    × (length reply ≡ length reply₀)
     × (length out ≡ length out₀)
-    × (c .at ≤ length feed)
-    × (c .from ≤ length reply)
-    × (c .to ≤ length out)
+    × (to ≤ length out)
 
 abbrev μ-loop : tie.MeasureT-loop
-μ-loop front₀ words₀ feed reply₀ out₀ c₀ front words reply out c = length feed - c .at
+μ-loop front₀ words₀ feed reply₀ out₀ n room to₀ p₀ stop₀ front words reply out to p stop = length feed - p .at
 
-start-requires : tie.Need-start-requires Inv-loop μ-loop
-start-requires c κs = search needs
-
-step-requires : tie.Need-step-requires Inv-loop μ-loop
-step-requires c κs = search needs
-
-loop-holds : tie.Need-loop-holds Inv-loop μ-loop
-loop-holds c = search needs
-
-step-requires-2 : tie.Need-step-requires-2 Inv-loop μ-loop
-step-requires-2 c κs = search needs
-
-loop-less : tie.Need-loop-less Inv-loop μ-loop
-loop-less c = omega (arith, ltb-true)
-
-loop-again : tie.Need-loop-again Inv-loop μ-loop
-loop-again c = search needs
+refusal-requires : tie.Need-refusal-requires Inv-loop μ-loop
+refusal-requires c κs = search needs
 
 refused-requires : tie.Need-refused-requires Inv-loop μ-loop
 refused-requires c κs = search needs
@@ -52,17 +36,74 @@ same-length-2 c = search needs
 same-length-3 : tie.Need-same-length-3 Inv-loop μ-loop
 same-length-3 c = search needs
 
-same-length-4 : tie.Need-same-length-4 Inv-loop μ-loop
-same-length-4 c = search needs
-
 returns : tie.Need-returns Inv-loop μ-loop
 returns c = search needs
+
+start-requires : tie.Need-start-requires Inv-loop μ-loop
+start-requires c κs = search needs
+
+halt-requires : tie.Need-halt-requires Inv-loop μ-loop
+halt-requires c κs = rw (c .start .ensures) (omega arith, omega arith)
+
+loop-holds : tie.Need-loop-holds Inv-loop μ-loop
+loop-holds c =
+    let e = c .before .before in
+    let s = e .before .before .before .before .before .before .before .before in
+    let a = s .before .args in
+    let y = passed-ready (a .front .now) (a .words .now) (λ i. omega (arith, s .slice-known .given (4 * i)))
+    (sym (e .before .refusal .ensures) ∙ e .if1 .left) in
+    (comes-first _ _ _ _ _ true _ y (c .before .start .ensures) (c .halt .ensures), refl, refl, refl, omega arith)
+
+answer-next-requires : tie.Need-answer-next-requires Inv-loop μ-loop
+answer-next-requires c κs =
+    let t = c .before .before .before in
+    comes-takes _ _ _ _ _ _ _ _ (t .before .loop .inv .0) (t .loop-test .taken)
+
+line-requires : tie.Need-line-requires Inv-loop μ-loop
+line-requires c κs =
+    let n = c .before .before .before .before .before .before .before .before .before in
+    let t = n .before .before .before .before in
+    let k = comes-takes _ _ _ _ _ _ _ _ (t .before .loop .inv .0) (t .loop-test .taken) in
+    let o = n .answer-next .ensures in
+    (omega (arith, o .on, o .placed .at), omega (arith, k .clear .free, n .answer-next .kept .1 .1 .1 .1 .0), t .before .loop .inv .4)
+
+halt-requires-2 : tie.Need-halt-requires-2 Inv-loop μ-loop
+halt-requires-2 c κs =
+    let n = c .before .before .before .before .before .before .before .before .before .before .before .before in
+    let o = n .answer-next .ensures in
+    let l = n .before .before .before .before .before .loop in
+    (o .placed .at, omega (arith, o .placed .out, n .answer-next .kept .1 .1 .1 .1 .0, l .inv .0 .long))
+
+loop-less : tie.Need-loop-less Inv-loop μ-loop
+loop-less c =
+    let n = c .before .before .before .before .before .before .before .before .before .before .before .before .before in
+    let o = n .answer-next .ensures in
+    omega (arith, o .on, o .placed .at)
+
+loop-again : tie.Need-loop-again Inv-loop μ-loop
+loop-again c =
+    let w = c .before .before .before in
+    let n = w .before .before .before .before .before .before .before .before .before .before in
+    let k = n .answer-next .kept in
+    let l = n .before .before .before .before .before .loop in (
+      comes-on _ _ _ _ _ _ _ _ (l .inv .0) _ _ _ _ _ (n .answer-next .ensures) (k .1 .1 .1 .1 .0) (k .1 .1 .0) (c .halt2 .ensures),
+      k .1 .0 ∙ l .inv .1,
+      k .1 .1 .0 ∙ l .inv .2,
+      w .line .kept .1 .1 .1 .1 .0 ∙ l .inv .3,
+      w .line .ensures,
+    )
 
 holds-requires : tie.Need-holds-requires Inv-loop μ-loop
 holds-requires c κs = search needs
 
+report-requires : tie.Need-report-requires Inv-loop μ-loop
+report-requires c κs = omega (arith, c .before .before .before .before .before .before .loop .inv .0 .placed .at)
+
 ended-requires : tie.Need-ended-requires Inv-loop μ-loop
 ended-requires c κs = search needs
+
+same-length-4 : tie.Need-same-length-4 Inv-loop μ-loop
+same-length-4 c = search needs
 
 same-length-5 : tie.Need-same-length-5 Inv-loop μ-loop
 same-length-5 c = search needs
@@ -73,9 +114,6 @@ same-length-6 c = search needs
 same-length-7 : tie.Need-same-length-7 Inv-loop μ-loop
 same-length-7 c = search needs
 
-same-length-8 : tie.Need-same-length-8 Inv-loop μ-loop
-same-length-8 c = search needs
-
 returns-2 : tie.Need-returns-2 Inv-loop μ-loop
 returns-2 c = search needs
 
@@ -85,22 +123,25 @@ output-spec =
     (tie.spec
     Inv-loop
     μ-loop
-    start-requires
-    step-requires
-    loop-holds
-    step-requires-2
-    loop-less
-    loop-again
+    refusal-requires
     refused-requires
     same-length
     same-length-2
     same-length-3
-    same-length-4
     returns
+    start-requires
+    halt-requires
+    loop-holds
+    answer-next-requires
+    line-requires
+    halt-requires-2
+    loop-less
+    loop-again
     holds-requires
+    report-requires
     ended-requires
+    same-length-4
     same-length-5
     same-length-6
     same-length-7
-    same-length-8
     returns-2)

@@ -1,0 +1,9 @@
+pub mod Calls
+pub mod Demands
+pub mod Refusals
+pub mod Sessions
+pub mod Proved
+pub mod Unseen
+pub mod Log
+pub mod Items
+pub mod Met

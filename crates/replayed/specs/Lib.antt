@@ -1,0 +1,4 @@
+pub mod Taken
+pub mod Shortened
+pub mod Fed
+pub mod Card

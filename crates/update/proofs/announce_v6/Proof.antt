@@ -1,0 +1,24 @@
+-- `update::announce_v6` meets its contract: the bytes lent are the address, and sixteen. Assumes nothing.
+use mathlib.Core.Path.{_≡_}
+use lib.ListN.{length}
+use borrow.Author.Needs.{needs}
+use Rattle.update.proofs.announce_v6.Statement.{statement}
+use Rattle.update.proofs.announce_v6.Tie as tie
+
+slice-aggregate-announce-of : tie.Need-slice-aggregate-announce-of
+slice-aggregate-announce-of c = search needs
+
+announce-of-requires : tie.Need-announce-of-requires
+announce-of-requires c κs = search needs
+
+same-length : tie.Need-same-length
+same-length c = search needs
+
+returns : tie.Need-returns
+returns c =
+    let u = c .before .before in
+    let e : length (u .before .before .before .before .args .t2) ≡ 16 = search needs in
+    rw e at (u .announce-of .ensures)
+
+pub announce-v6-spec : {M : Type 1} → statement M
+announce-v6-spec = tie.close (tie.spec slice-aggregate-announce-of announce-of-requires same-length returns)
