@@ -6,9 +6,6 @@ use Rattle.numbers.specs.Number.{number-byte}
 use Rattle.address.proofs.byte_at.Statement.{statement}
 use Rattle.address.proofs.byte_at.Tie as tie
 
-shared-slice-read-result : tie.Need-shared-slice-read-result
-shared-slice-read-result c = search needs
-
 cast-result : tie.Need-cast-result
 cast-result c = omega (arith, c .shared-slice-known .given (c .before .args .k))
 
@@ -19,4 +16,4 @@ returns c =
     (sym (number-byte (s .address .now) (λ i. omega (arith, ok i)) (s .k) (c .before .pre)), omega (arith, ok (s .k)))
 
 pub byte-at-spec : {M : Type 1} → statement M
-byte-at-spec = tie.close (tie.spec shared-slice-read-result cast-result returns)
+byte-at-spec = tie.close (tie.spec (λ c. search needs) cast-result returns)

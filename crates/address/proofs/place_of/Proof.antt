@@ -7,24 +7,6 @@ use Rattle.address.specs.Address.{stands-at}
 use Rattle.address.proofs.place_of.Statement.{statement}
 use Rattle.address.proofs.place_of.Tie as tie
 
-level-requires : tie.Need-level-requires
-level-requires c κs = search needs
-
-mul-d : tie.Need-mul-d
-mul-d c = search needs
-
-sub-d : tie.Need-sub-d
-sub-d c = search needs
-
-byte-at-requires : tie.Need-byte-at-requires
-byte-at-requires c κs = search needs
-
-sub-t6 : tie.Need-sub-t6
-sub-t6 c = search needs
-
-shr-t7 : tie.Need-shr-t7
-shr-t7 c = search needs
-
 returns : tie.Need-returns
 returns c =
     let s = c .before .before .before .args in
@@ -34,4 +16,4 @@ returns c =
 
 pub place-of-spec : {M : Type 1} → statement M
 place-of-spec =
-    tie.close (tie.spec level-requires mul-d sub-d byte-at-requires sub-t6 shr-t7 returns)
+    tie.close (tie.spec (λ c κs. search needs) (λ c. search needs) (λ c. search needs) (λ c κs. search needs) (λ c. search needs) (λ c. search needs) returns)

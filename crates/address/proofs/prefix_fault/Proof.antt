@@ -11,19 +11,10 @@ use Rattle.numbers.specs.Number.{number}
 use Rattle.address.proofs.prefix_fault.Statement.{statement}
 use Rattle.address.proofs.prefix_fault.Tie as tie
 
-cast-width : tie.Need-cast-width
-cast-width c = search needs
-
-mul-width : tie.Need-mul-width
-mul-width c = search needs
-
 returns : tie.Need-returns
 returns c =
     let a = c .before .before .args in
     rw (lt-ltb (8 * size (a .address .now)) (a .length) (omega arith))
-
-stray-requires : tie.Need-stray-requires
-stray-requires c κs = search needs
 
 returns-2 : tie.Need-returns-2
 returns-2 c =
@@ -41,4 +32,4 @@ returns-3 c =
 
 pub prefix-fault-spec : {M : Type 1} → statement M
 prefix-fault-spec =
-    tie.close (tie.spec cast-width mul-width returns stray-requires returns-2 returns-3)
+    tie.close (tie.spec (λ c. search needs) (λ c. search needs) returns (λ c κs. search needs) returns-2 returns-3)

@@ -18,18 +18,6 @@ abbrev μ-loop : tie.MeasureT-loop
 loop-holds : tie.Need-loop-holds Inv-loop μ-loop
 loop-holds c = (omega arith, search needs, λ i l. absurd (omega arith))
 
-shared-slice-read-address : tie.Need-shared-slice-read-address Inv-loop μ-loop
-shared-slice-read-address c = search needs
-
-array-write-address : tie.Need-array-write-address Inv-loop μ-loop
-array-write-address c = search needs
-
-add-k : tie.Need-add-k Inv-loop μ-loop
-add-k c = search needs
-
-loop-less : tie.Need-loop-less Inv-loop μ-loop
-loop-less c = search needs
-
 loop-again : tie.Need-loop-again Inv-loop μ-loop
 loop-again c =
     let l = c .before .before in (
@@ -51,9 +39,9 @@ sixteen-of-spec =
     Inv-loop
     μ-loop
     loop-holds
-    shared-slice-read-address
-    array-write-address
-    add-k
-    loop-less
+    (λ c. search needs)
+    (λ c. search needs)
+    (λ c. search needs)
+    (λ c. search needs)
     loop-again
     returns)

@@ -7,20 +7,11 @@ use Rattle.address.proofs.Laws.{stray-whole, stray-here, stray-rest}
 use Rattle.address.proofs.stray.Statement.{statement}
 use Rattle.address.proofs.stray.Tie as tie
 
-cast-k : tie.Need-cast-k
-cast-k c = search needs
-
 returns : tie.Need-returns
 returns c =
     let k = c .before in
     let s = k .before .args in
     stray-whole (s .address .now) (λ i. omega (arith, k .shared-slice-known .given i)) (s .length) (s .length / 8) (omega arith) refl (c .if1 .taken)
-
-shared-slice-read-stray-in : tie.Need-shared-slice-read-stray-in
-shared-slice-read-stray-in c = search needs
-
-stray-in-requires : tie.Need-stray-in-requires
-stray-in-requires c κs = search needs
 
 returns-2 : tie.Need-returns-2
 returns-2 c =
@@ -28,12 +19,6 @@ returns-2 c =
     let s = k .before .args in
     stray-here (s .address .now) (λ i. omega (arith, k .shared-slice-known .given i)) (s .length) (s .length / 8) (omega arith) refl (omega arith)
     (sym (c .before .stray-in .ensures) ∙ c .if2 .taken)
-
-add-set-from : tie.Need-add-set-from
-add-set-from c = search needs
-
-set-from-requires : tie.Need-set-from-requires
-set-from-requires c κs = search needs
 
 returns-3 : tie.Need-returns-3
 returns-3 c =
@@ -47,11 +32,11 @@ pub stray-spec : {M : Type 1} → statement M
 stray-spec =
     tie.close
     (tie.spec
-    cast-k
+    (λ c. search needs)
     returns
-    shared-slice-read-stray-in
-    stray-in-requires
+    (λ c. search needs)
+    (λ c κs. search needs)
     returns-2
-    add-set-from
-    set-from-requires
+    (λ c. search needs)
+    (λ c κs. search needs)
     returns-3)

@@ -9,9 +9,6 @@ use Rattle.audit.proofs.Laws.{check-misfit, check-foreign, check-table}
 use Rattle.audit.proofs.check_of.Statement.{statement}
 use Rattle.audit.proofs.check_of.Tie as tie
 
-misfit-requires : tie.Need-misfit-requires
-misfit-requires c κs = search needs
-
 returns : tie.Need-returns
 returns c =
     let a = c .before .before .before .args in
@@ -46,4 +43,4 @@ returns-3 c =
 pub check-of-spec : {M : Type 1} → statement M
 check-of-spec =
     tie.close
-    (tie.spec misfit-requires returns candidates-requires returns-2 shared-slice-read-t8 returns-3)
+    (tie.spec (λ c κs. search needs) returns candidates-requires returns-2 shared-slice-read-t8 returns-3)

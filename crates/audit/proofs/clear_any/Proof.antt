@@ -8,17 +8,8 @@ use borrow.Author.Needs.{needs}
 use Rattle.audit.proofs.clear_any.Statement.{statement}
 use Rattle.audit.proofs.clear_any.Tie as tie
 
-misfit-requires : tie.Need-misfit-requires
-misfit-requires c κs = search needs
-
 returns : tie.Need-returns
 returns c = λ L some levels. search (needs, clear-refused)
-
-wipe-requires : tie.Need-wipe-requires
-wipe-requires c κs = search needs
-
-array-at-requires : tie.Need-array-at-requires
-array-at-requires c κs = search needs
 
 slice-write-words : tie.Need-slice-write-words
 slice-write-words c =
@@ -34,18 +25,12 @@ slice-write-words-2 c =
     let f = no-misfit-fits (length (size .before .before .args .words .now)) (sym (size .misfit .ensures) ∙ w .before .before .if1 .left) in
     simp length-set (omega (arith, f .low, w .wipe .kept .0))
 
-mul-words : tie.Need-mul-words
-mul-words c = search needs
-
 slice-write-words-3 : tie.Need-slice-write-words-3
 slice-write-words-3 c =
     let w = c .before .before .before in
     let size = w .before .before .before in
     let f = no-misfit-fits (length (size .before .before .args .words .now)) (sym (size .misfit .ensures) ∙ w .before .before .if1 .left) in
     simp length-set (omega (arith, f .low, w .wipe .kept .0, c .array-at .ensures))
-
-same-length : tie.Need-same-length
-same-length c = search needs
 
 returns-2 : tie.Need-returns-2
 returns-2 c =
@@ -60,13 +45,13 @@ pub clear-any-spec : {M : Type 1} → statement M
 clear-any-spec =
     tie.close
     (tie.spec
-    misfit-requires
+    (λ c κs. search needs)
     returns
-    wipe-requires
-    array-at-requires
+    (λ c κs. search needs)
+    (λ c κs. search needs)
     slice-write-words
     slice-write-words-2
-    mul-words
+    (λ c. search needs)
     slice-write-words-3
-    same-length
+    (λ c. search needs)
     returns-2)

@@ -8,12 +8,6 @@ use Rattle.charge.proofs.raised.Reads as raised-reads
 use Rattle.shelf.proofs.insert.Reads as insert-reads
 use Rattle.shelf.proofs.store.Reads as store-reads
 
-mul-who : tie.Need-mul-who
-mul-who c = search needs
-
-add-who : tie.Need-add-who
-add-who c = search needs
-
 raised-requires : tie.Need-raised-requires
 raised-requires c κs =
     let t = c .before in
@@ -26,9 +20,6 @@ store-requires c κs =
     let t = c .before .before .before .before .before in
     (t .pre .words .size, t .pre .found .stands (c .before .if1 .taken) .low)
 
-same-length : tie.Need-same-length
-same-length c = search needs
-
 returns : tie.Need-returns
 returns c =
     let t = c .before .before .before .before .before .before .before .before in
@@ -37,18 +28,6 @@ returns c =
     charge-here (t .args .words .now) (c .before .before .store .last .0) (t .args .address) (t .args .length) (t .args .feed)
     (s .at) (s .mark) (s .kept) (t .pre) (omega arith) (r .result) (r .ensures .0) (r .ensures .1) (c .before .before .before .before .if1 .taken)
     (c .before .before .store .ensures)
-
-mul-if2 : tie.Need-mul-if2
-mul-if2 c = search needs
-
-add-if2 : tie.Need-add-if2
-add-if2 c = search needs
-
-mul-if2-2 : tie.Need-mul-if2-2
-mul-if2-2 c = search needs
-
-slice-read-if2 : tie.Need-slice-read-if2
-slice-read-if2 c = search needs
 
 returns-2 : tie.Need-returns-2
 returns-2 c =
@@ -66,9 +45,6 @@ insert-requires c κs =
           (t .args .feed) (s .at) (s .mark) (s .kept) (t .pre) (omega arith) (c .before .if2 .left),
     )
 
-same-length-2 : tie.Need-same-length-2
-same-length-2 c = search needs
-
 returns-3 : tie.Need-returns-3
 returns-3 c =
     let t = c .before .before .before .before .before .before .before .before .before .before in
@@ -83,17 +59,17 @@ pub charge-spec : {M : Type 1} → statement M
 charge-spec =
     tie.close
     (tie.spec
-    mul-who
-    add-who
+    (λ c. search needs)
+    (λ c. search needs)
     raised-requires
     store-requires
-    same-length
+    (λ c. search needs)
     returns
-    mul-if2
-    add-if2
-    mul-if2-2
-    slice-read-if2
+    (λ c. search needs)
+    (λ c. search needs)
+    (λ c. search needs)
+    (λ c. search needs)
     returns-2
     insert-requires
-    same-length-2
+    (λ c. search needs)
     returns-3)

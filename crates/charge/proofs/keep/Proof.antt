@@ -6,18 +6,6 @@ use Rattle.charge.proofs.keep.Statement.{statement}
 use Rattle.charge.proofs.keep.Tie as tie
 use Rattle.shelf.proofs.store.Reads as store-reads
 
-mul-kept : tie.Need-mul-kept
-mul-kept c = search needs
-
-add-kept : tie.Need-add-kept
-add-kept c = search needs
-
-mul-store : tie.Need-mul-store
-mul-store c = search needs
-
-add-store : tie.Need-add-store
-add-store c = search needs
-
 store-requires : tie.Need-store-requires
 store-requires c κs =
     let t = c .before .before in
@@ -26,9 +14,6 @@ store-requires c κs =
       keep-low (t .args .words .now) (t .args .words .now) (t .args .address) (t .args .length)
           (t .args .hop) (t .args .feed) (t .args .preference) (s .at) (s .mark) (s .kept) (t .pre) (omega arith),
     )
-
-same-length : tie.Need-same-length
-same-length c = search needs
 
 returns : tie.Need-returns
 returns c =
@@ -39,4 +24,4 @@ returns c =
 
 pub keep-spec : {M : Type 1} → statement M
 keep-spec =
-    tie.close (tie.spec mul-kept add-kept mul-store add-store store-requires same-length returns)
+    tie.close (tie.spec (λ c. search needs) (λ c. search needs) (λ c. search needs) (λ c. search needs) store-requires (λ c. search needs) returns)

@@ -5,14 +5,8 @@ use Rattle.damper.specs.Face.{held}
 use Rattle.damper.proofs.toggleash_damp_check.Statement.{statement}
 use Rattle.damper.proofs.toggleash_damp_check.Tie as tie
 
-check-requires : tie.Need-check-requires
-check-requires c κs = search needs
-
-counts-requires : tie.Need-counts-requires
-counts-requires c κs = search needs
-
 returns : tie.Need-returns
 returns c = c .counts .ensures ∙ ap held (c .before .check .ensures)
 
 pub toggleash-damp-check-spec : {M : Type 1} → statement M
-toggleash-damp-check-spec = tie.close (tie.spec check-requires counts-requires returns)
+toggleash-damp-check-spec = tie.close (tie.spec (λ c κs. search needs) (λ c κs. search needs) returns)

@@ -4,21 +4,6 @@ use borrow.Author.Needs.{needs}
 use Rattle.damper.proofs.toggleash_damp_run.Statement.{statement}
 use Rattle.damper.proofs.toggleash_damp_run.Tie as tie
 
-run-requires : tie.Need-run-requires
-run-requires c κs = search needs
-
-report-requires : tie.Need-report-requires
-report-requires c κs = search needs
-
-same-length : tie.Need-same-length
-same-length c = search needs
-
-same-length-2 : tie.Need-same-length-2
-same-length-2 c = search needs
-
-same-length-3 : tie.Need-same-length-3
-same-length-3 c = search needs
-
 returns : tie.Need-returns
 returns c =
     let a = c .before .before .before .before .before .before .before .run in
@@ -27,4 +12,4 @@ returns c =
 pub toggleash-damp-run-spec : {M : Type 1} → statement M
 toggleash-damp-run-spec =
     tie.close
-    (tie.spec run-requires report-requires same-length same-length-2 same-length-3 returns)
+    (tie.spec (λ c κs. search needs) (λ c κs. search needs) (λ c. search needs) (λ c. search needs) (λ c. search needs) returns)

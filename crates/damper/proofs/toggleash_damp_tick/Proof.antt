@@ -4,18 +4,6 @@ use borrow.Author.Needs.{needs}
 use Rattle.damper.proofs.toggleash_damp_tick.Statement.{statement}
 use Rattle.damper.proofs.toggleash_damp_tick.Tie as tie
 
-tick-requires : tie.Need-tick-requires
-tick-requires c κs = search needs
-
-counts-requires : tie.Need-counts-requires
-counts-requires c κs = search needs
-
-same-length : tie.Need-same-length
-same-length c = search needs
-
-same-length-2 : tie.Need-same-length-2
-same-length-2 c = search needs
-
 returns : tie.Need-returns
 returns c =
     let a = c .before .before .before .before .before .tick in
@@ -23,4 +11,4 @@ returns c =
 
 pub toggleash-damp-tick-spec : {M : Type 1} → statement M
 toggleash-damp-tick-spec =
-    tie.close (tie.spec tick-requires counts-requires same-length same-length-2 returns)
+    tie.close (tie.spec (λ c κs. search needs) (λ c κs. search needs) (λ c. search needs) (λ c. search needs) returns)

@@ -9,9 +9,6 @@ use borrow.Author.Needs.{needs}
 use Rattle.damping.proofs.announce_in.Statement.{statement}
 use Rattle.damping.proofs.announce_in.Tie as tie
 
-find-requires : tie.Need-find-requires
-find-requires c κs = search needs
-
 keep-requires : tie.Need-keep-requires
 keep-requires c κs =
     let t = c .before .before .before .before .before .before .before in
@@ -25,9 +22,6 @@ keep-requires c κs =
       back = eq-eqb (s .result .mark % 2) 1 (c .before .if1 .taken);
     }
 
-same-length : tie.Need-same-length
-same-length c = search needs
-
 returns : tie.Need-returns
 returns c =
     let t = c .before .before .before .before .before .before .before .before .before .before in
@@ -37,22 +31,10 @@ returns c =
     (s .result .kept) (s .ensures) (a .hop) (a .preference) (c .before .before .keep .last .0)
     (c .before .before .before .before .if1 .taken) (c .before .before .keep .ensures)
 
-four-of-requires : tie.Need-four-of-requires
-four-of-requires c κs = search needs
-
-slice-aggregate-announce-with : tie.Need-slice-aggregate-announce-with
-slice-aggregate-announce-with c = search needs
-
 announce-with-requires : tie.Need-announce-with-requires
 announce-with-requires c κs =
     let b = c .before .before in
     (search needs, λ k. rw (b .four-of .ensures) (b .before .before .before .before .before .before .before .pre .table k))
-
-same-length-2 : tie.Need-same-length-2
-same-length-2 c = search needs
-
-same-length-3 : tie.Need-same-length-3
-same-length-3 c = search needs
 
 returns-2 : tie.Need-returns-2
 returns-2 c =
@@ -73,13 +55,13 @@ pub announce-in-spec : {M : Type 1} → statement M
 announce-in-spec =
     tie.close
     (tie.spec
-    find-requires
+    (λ c κs. search needs)
     keep-requires
-    same-length
+    (λ c. search needs)
     returns
-    four-of-requires
-    slice-aggregate-announce-with
+    (λ c κs. search needs)
+    (λ c. search needs)
     announce-with-requires
-    same-length-2
-    same-length-3
+    (λ c. search needs)
+    (λ c. search needs)
     returns-2)

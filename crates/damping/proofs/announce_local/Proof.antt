@@ -11,24 +11,6 @@ use borrow.Author.Needs.{needs}
 use Rattle.damping.proofs.announce_local.Statement.{statement}
 use Rattle.damping.proofs.announce_local.Tie as tie
 
-four-of-requires : tie.Need-four-of-requires
-four-of-requires c κs = search needs
-
-slice-aggregate-announce-fault : tie.Need-slice-aggregate-announce-fault
-slice-aggregate-announce-fault c = search needs
-
-announce-fault-requires : tie.Need-announce-fault-requires
-announce-fault-requires c κs = search needs
-
-refusal-local-requires : tie.Need-refusal-local-requires
-refusal-local-requires c κs = search needs
-
-same-length : tie.Need-same-length
-same-length c = search needs
-
-same-length-2 : tie.Need-same-length-2
-same-length-2 c = search needs
-
 returns : tie.Need-returns
 returns c =
     let f = c .before .before .before .before in
@@ -52,12 +34,6 @@ announce-in-requires c κs =
     (sym (n .before .refusal-local .ensures) ∙ n .if1 .left) in
     record { front = p .0; table = λ k. absurd (false≢true k); sound = fault-sound u (sym e ∙ p .2) }
 
-same-length-3 : tie.Need-same-length-3
-same-length-3 c = search needs
-
-same-length-4 : tie.Need-same-length-4
-same-length-4 c = search needs
-
 returns-2 : tie.Need-returns-2
 returns-2 c =
     let w = c .before .before .before .before in
@@ -76,14 +52,14 @@ pub announce-local-spec : {M : Type 1} → statement M
 announce-local-spec =
     tie.close
     (tie.spec
-    four-of-requires
-    slice-aggregate-announce-fault
-    announce-fault-requires
-    refusal-local-requires
-    same-length
-    same-length-2
+    (λ c κs. search needs)
+    (λ c. search needs)
+    (λ c κs. search needs)
+    (λ c κs. search needs)
+    (λ c. search needs)
+    (λ c. search needs)
     returns
     announce-in-requires
-    same-length-3
-    same-length-4
+    (λ c. search needs)
+    (λ c. search needs)
     returns-2)

@@ -9,15 +9,6 @@ use borrow.Author.Needs.{needs}
 use Rattle.damping.proofs.announce_with.Statement.{statement}
 use Rattle.damping.proofs.announce_with.Tie as tie
 
-four-of-requires : tie.Need-four-of-requires
-four-of-requires c κs = search needs
-
-slice-aggregate-announce-fault : tie.Need-slice-aggregate-announce-fault
-slice-aggregate-announce-fault c = search needs
-
-announce-fault-requires : tie.Need-announce-fault-requires
-announce-fault-requires c κs = search needs
-
 returns : tie.Need-returns
 returns c =
     let t = c .before .before .before .before .before .before in
@@ -36,12 +27,6 @@ announce-in-requires c κs =
     let e = rw (f .before .before .four-of .ensures, four-number (a .address) (omega arith)) at (f .announce-fault .ensures) in
     record { front = t .pre .front; table = t .pre .table; sound = fault-sound u (sym e ∙ c .before .before .if1 .left) }
 
-same-length : tie.Need-same-length
-same-length c = search needs
-
-same-length-2 : tie.Need-same-length-2
-same-length-2 c = search needs
-
 returns-2 : tie.Need-returns-2
 returns-2 c =
     let w = c .before .before .before .before in
@@ -58,11 +43,11 @@ pub announce-with-spec : {M : Type 1} → statement M
 announce-with-spec =
     tie.close
     (tie.spec
-    four-of-requires
-    slice-aggregate-announce-fault
-    announce-fault-requires
+    (λ c κs. search needs)
+    (λ c. search needs)
+    (λ c κs. search needs)
     returns
     announce-in-requires
-    same-length
-    same-length-2
+    (λ c. search needs)
+    (λ c. search needs)
     returns-2)

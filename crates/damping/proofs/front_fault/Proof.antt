@@ -9,9 +9,6 @@ use borrow.Author.Needs.{needs}
 use Rattle.damping.proofs.front_fault.Statement.{statement}
 use Rattle.damping.proofs.front_fault.Tie as tie
 
-is-front-requires : tie.Need-is-front-requires
-is-front-requires c κs = search needs
-
 returns : tie.Need-returns
 returns c =
     let s = c .before .is-front in
@@ -29,4 +26,4 @@ returns-2 c =
     ∙ not-false (s .result) (c .if1 .left))
 
 pub front-fault-spec : {M : Type 1} → statement M
-front-fault-spec = tie.close (tie.spec is-front-requires returns returns-2)
+front-fault-spec = tie.close (tie.spec (λ c κs. search needs) returns returns-2)

@@ -4,16 +4,10 @@ use borrow.Author.Needs.{needs}
 use Rattle.damping.proofs.refusal.Statement.{statement}
 use Rattle.damping.proofs.refusal.Tie as tie
 
-refusal-requires : tie.Need-refusal-requires
-refusal-requires c κs = search needs
-
 returns : tie.Need-returns
 returns c =
     let a = c .before .before .before .before .args in
     refusal-first (a .front .now) (a .words .now) (a .fault) (c .before .refusal .result) (c .before .refusal .ensures) (c .if1 .taken)
-
-front-fault-requires : tie.Need-front-fault-requires
-front-fault-requires c κs = search needs
 
 returns-2 : tie.Need-returns-2
 returns-2 c =
@@ -23,4 +17,4 @@ returns-2 c =
     (c .front-fault .ensures)
 
 pub refusal-spec : {M : Type 1} → statement M
-refusal-spec = tie.close (tie.spec refusal-requires returns front-fault-requires returns-2)
+refusal-spec = tie.close (tie.spec (λ c κs. search needs) returns (λ c κs. search needs) returns-2)

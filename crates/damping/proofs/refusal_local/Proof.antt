@@ -5,9 +5,6 @@ use borrow.Author.Needs.{needs}
 use Rattle.damping.proofs.refusal_local.Statement.{statement}
 use Rattle.damping.proofs.refusal_local.Tie as tie
 
-misfit-requires : tie.Need-misfit-requires
-misfit-requires c κs = search needs
-
 returns : tie.Need-returns
 returns c =
     let a = c .before .before .before .before .args in
@@ -18,9 +15,6 @@ returns-2 c =
     let a = c .before .before .before .before .before .args in
     before-fault (a .front .now) (a .words .now) (a .fault) (sym (c .before .before .misfit .ensures) ∙ c .before .if1 .left) (c .if2 .taken)
 
-front-fault-requires : tie.Need-front-fault-requires
-front-fault-requires c κs = search needs
-
 returns-3 : tie.Need-returns-3
 returns-3 c =
     let a = c .before .before .before .before .before .before .args in
@@ -29,4 +23,4 @@ returns-3 c =
 
 pub refusal-local-spec : {M : Type 1} → statement M
 refusal-local-spec =
-    tie.close (tie.spec misfit-requires returns returns-2 front-fault-requires returns-3)
+    tie.close (tie.spec (λ c κs. search needs) returns returns-2 (λ c κs. search needs) returns-3)

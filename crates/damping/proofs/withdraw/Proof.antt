@@ -10,24 +10,6 @@ use borrow.Author.Needs.{needs}
 use Rattle.damping.proofs.withdraw.Statement.{statement}
 use Rattle.damping.proofs.withdraw.Tie as tie
 
-four-of-requires : tie.Need-four-of-requires
-four-of-requires c κs = search needs
-
-slice-aggregate-withdraw-fault : tie.Need-slice-aggregate-withdraw-fault
-slice-aggregate-withdraw-fault c = search needs
-
-withdraw-fault-requires : tie.Need-withdraw-fault-requires
-withdraw-fault-requires c κs = search needs
-
-refusal-requires : tie.Need-refusal-requires
-refusal-requires c κs = search needs
-
-same-length : tie.Need-same-length
-same-length c = search needs
-
-same-length-2 : tie.Need-same-length-2
-same-length-2 c = search needs
-
 returns : tie.Need-returns
 returns c =
     let t = c .before .before .before .before .before .before .before .before .before in
@@ -51,12 +33,6 @@ withdraw-in-requires c κs =
     (sym (n .before .refusal .ensures) ∙ n .if1 .left) in
     record { front = p .0; table = λ _. p .1; sound = fault-sound u (sym e ∙ p .2) }
 
-same-length-3 : tie.Need-same-length-3
-same-length-3 c = search needs
-
-same-length-4 : tie.Need-same-length-4
-same-length-4 c = search needs
-
 returns-2 : tie.Need-returns-2
 returns-2 c =
     let w = c .before .before .before .before in
@@ -76,14 +52,14 @@ pub withdraw-spec : {M : Type 1} → statement M
 withdraw-spec =
     tie.close
     (tie.spec
-    four-of-requires
-    slice-aggregate-withdraw-fault
-    withdraw-fault-requires
-    refusal-requires
-    same-length
-    same-length-2
+    (λ c κs. search needs)
+    (λ c. search needs)
+    (λ c κs. search needs)
+    (λ c κs. search needs)
+    (λ c. search needs)
+    (λ c. search needs)
     returns
     withdraw-in-requires
-    same-length-3
-    same-length-4
+    (λ c. search needs)
+    (λ c. search needs)
     returns-2)

@@ -8,12 +8,6 @@ use borrow.Author.Needs.{needs}
 use Rattle.damping.proofs.withdraw_in.Statement.{statement}
 use Rattle.damping.proofs.withdraw_in.Tie as tie
 
-find-requires : tie.Need-find-requires
-find-requires c κs = search needs
-
-same-length : tie.Need-same-length
-same-length c = search needs
-
 returns : tie.Need-returns
 returns c =
     let t = c .before .before .before .before .before .before .before .before in
@@ -33,9 +27,6 @@ charge-requires c κs =
       found = c .before .before .before .before .before .find .ensures;
     }
 
-same-length-2 : tie.Need-same-length-2
-same-length-2 c = search needs
-
 returns-2 : tie.Need-returns-2
 returns-2 c =
     let c3 = c .before .before .before in
@@ -50,19 +41,10 @@ returns-2 c =
     (a .length) (a .feed) (s .result .at) (s .result .mark) (s .result .kept) (s .ensures)
     (c3 .charge .last .0) (c7 .if1 .taken) (c5 .if2 .left) (c3 .charge .ensures)
 
-four-of-requires : tie.Need-four-of-requires
-four-of-requires c κs = search needs
-
-slice-aggregate-withdraw-with : tie.Need-slice-aggregate-withdraw-with
-slice-aggregate-withdraw-with c = search needs
-
 withdraw-with-requires : tie.Need-withdraw-with-requires
 withdraw-with-requires c κs =
     let b = c .before .before in
     (search needs, λ k. rw (b .four-of .ensures) (b .before .before .before .before .before .before .before .pre .table k))
-
-is-done-requires : tie.Need-is-done-requires
-is-done-requires c κs = search needs
 
 charge-requires-2 : tie.Need-charge-requires-2
 charge-requires-2 c κs =
@@ -73,12 +55,6 @@ charge-requires-2 c κs =
       sound = withdraw-sound 32 (a .address) (a .length) (a .feed) (t .pre .sound);
       found = c .before .before .before .before .before .before .before .before .before .before .before .find .ensures;
     }
-
-same-length-3 : tie.Need-same-length-3
-same-length-3 c = search needs
-
-same-length-4 : tie.Need-same-length-4
-same-length-4 c = search needs
 
 returns-3 : tie.Need-returns-3
 returns-3 c =
@@ -98,12 +74,6 @@ returns-3 c =
     (a .length) (a .feed) (s .result .at) (s .result .mark) (s .result .kept) (s .ensures)
     (on .last .0) (on .result) (c12 .if1 .left) (rw (c11 .four-of .ensures, four-number (a .address) (omega arith)) at (on .ensures))
     (c2 .charge2 .last .0) (sym (c5 .is-done .ensures) ∙ c4 .if3 .taken) (c2 .charge2 .ensures)
-
-same-length-5 : tie.Need-same-length-5
-same-length-5 c = search needs
-
-same-length-6 : tie.Need-same-length-6
-same-length-6 c = search needs
 
 returns-4 : tie.Need-returns-4
 returns-4 c =
@@ -125,20 +95,20 @@ pub withdraw-in-spec : {M : Type 1} → statement M
 withdraw-in-spec =
     tie.close
     (tie.spec
-    find-requires
-    same-length
+    (λ c κs. search needs)
+    (λ c. search needs)
     returns
     charge-requires
-    same-length-2
+    (λ c. search needs)
     returns-2
-    four-of-requires
-    slice-aggregate-withdraw-with
+    (λ c κs. search needs)
+    (λ c. search needs)
     withdraw-with-requires
-    is-done-requires
+    (λ c κs. search needs)
     charge-requires-2
-    same-length-3
-    same-length-4
+    (λ c. search needs)
+    (λ c. search needs)
     returns-3
-    same-length-5
-    same-length-6
+    (λ c. search needs)
+    (λ c. search needs)
     returns-4)

@@ -9,15 +9,6 @@ use borrow.Author.Needs.{needs}
 use Rattle.damping.proofs.withdraw_with.Statement.{statement}
 use Rattle.damping.proofs.withdraw_with.Tie as tie
 
-four-of-requires : tie.Need-four-of-requires
-four-of-requires c κs = search needs
-
-slice-aggregate-withdraw-fault : tie.Need-slice-aggregate-withdraw-fault
-slice-aggregate-withdraw-fault c = search needs
-
-withdraw-fault-requires : tie.Need-withdraw-fault-requires
-withdraw-fault-requires c κs = search needs
-
 returns : tie.Need-returns
 returns c =
     let t = c .before .before .before .before .before .before in
@@ -36,12 +27,6 @@ withdraw-in-requires c κs =
     let e = rw (f .before .before .four-of .ensures, four-number (a .address) (omega arith)) at (f .withdraw-fault .ensures) in
     record { front = t .pre .front; table = t .pre .table; sound = fault-sound u (sym e ∙ c .before .before .if1 .left) }
 
-same-length : tie.Need-same-length
-same-length c = search needs
-
-same-length-2 : tie.Need-same-length-2
-same-length-2 c = search needs
-
 returns-2 : tie.Need-returns-2
 returns-2 c =
     let w = c .before .before .before .before in
@@ -58,11 +43,11 @@ pub withdraw-with-spec : {M : Type 1} → statement M
 withdraw-with-spec =
     tie.close
     (tie.spec
-    four-of-requires
-    slice-aggregate-withdraw-fault
-    withdraw-fault-requires
+    (λ c κs. search needs)
+    (λ c. search needs)
+    (λ c κs. search needs)
     returns
     withdraw-in-requires
-    same-length
-    same-length-2
+    (λ c. search needs)
+    (λ c. search needs)
     returns-2)

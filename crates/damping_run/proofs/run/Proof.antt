@@ -10,15 +10,6 @@ use borrow.Author.Needs.{needs}
 use Rattle.damping_run.proofs.run.Statement.{statement}
 use Rattle.damping_run.proofs.run.Tie as tie
 
-refusal-requires : tie.Need-refusal-requires
-refusal-requires c κs = search needs
-
-same-length : tie.Need-same-length
-same-length c = search needs
-
-same-length-2 : tie.Need-same-length-2
-same-length-2 c = search needs
-
 returns : tie.Need-returns
 returns c = run-refused _ _ _ _ _ (c .before .refusal .ensures) (c .if1 .taken)
 
@@ -29,15 +20,6 @@ run-with-requires c κs =
     let a = s .before .args in
     passed-ready (a .front .now) (a .words .now) (λ i. omega (arith, s .slice-known .given (4 * i)))
     (sym (e .before .refusal .ensures) ∙ e .if1 .left)
-
-same-length-3 : tie.Need-same-length-3
-same-length-3 c = search needs
-
-same-length-4 : tie.Need-same-length-4
-same-length-4 c = search needs
-
-same-length-5 : tie.Need-same-length-5
-same-length-5 c = search needs
 
 returns-2 : tie.Need-returns-2
 returns-2 c =
@@ -52,12 +34,12 @@ pub run-spec : {M : Type 1} → statement M
 run-spec =
     tie.close
     (tie.spec
-    refusal-requires
-    same-length
-    same-length-2
+    (λ c κs. search needs)
+    (λ c. search needs)
+    (λ c. search needs)
     returns
     run-with-requires
-    same-length-3
-    same-length-4
-    same-length-5
+    (λ c. search needs)
+    (λ c. search needs)
+    (λ c. search needs)
     returns-2)

@@ -9,15 +9,6 @@ use borrow.Author.Needs.{needs}
 use Rattle.damping_run.proofs.run_local.Statement.{statement}
 use Rattle.damping_run.proofs.run_local.Tie as tie
 
-refusal-local-requires : tie.Need-refusal-local-requires
-refusal-local-requires c κs = search needs
-
-same-length : tie.Need-same-length
-same-length c = search needs
-
-same-length-2 : tie.Need-same-length-2
-same-length-2 c = search needs
-
 returns : tie.Need-returns
 returns c = local-refused _ _ _ _ _ (c .before .refusal-local .ensures) (c .if1 .taken)
 
@@ -29,15 +20,6 @@ run-with-requires c κs =
     let p = before-passed (a .front .now) (a .words .now) 0 (λ i. omega (arith, s .slice-known .given (4 * i)))
     (sym (e .before .refusal-local .ensures) ∙ e .if1 .left) in
     record { front = p .0; fits = p .1; table = λ k. absurd (false≢true k) }
-
-same-length-3 : tie.Need-same-length-3
-same-length-3 c = search needs
-
-same-length-4 : tie.Need-same-length-4
-same-length-4 c = search needs
-
-same-length-5 : tie.Need-same-length-5
-same-length-5 c = search needs
 
 returns-2 : tie.Need-returns-2
 returns-2 c =
@@ -52,12 +34,12 @@ pub run-local-spec : {M : Type 1} → statement M
 run-local-spec =
     tie.close
     (tie.spec
-    refusal-local-requires
-    same-length
-    same-length-2
+    (λ c κs. search needs)
+    (λ c. search needs)
+    (λ c. search needs)
     returns
     run-with-requires
-    same-length-3
-    same-length-4
-    same-length-5
+    (λ c. search needs)
+    (λ c. search needs)
+    (λ c. search needs)
     returns-2)

@@ -15,9 +15,6 @@ Inv-loop front₀ words₀ feed reply₀ known room p₀ stop₀ front words rep
 abbrev μ-loop : tie.MeasureT-loop
 μ-loop front₀ words₀ feed reply₀ known room p₀ stop₀ front words reply p stop = length feed - p .at
 
-start-requires : tie.Need-start-requires Inv-loop μ-loop
-start-requires c κs = search needs
-
 halt-requires : tie.Need-halt-requires Inv-loop μ-loop
 halt-requires c κs = rw (c .start .ensures) (omega arith, omega arith)
 
@@ -72,7 +69,7 @@ run-with-spec =
     (tie.spec
     Inv-loop
     μ-loop
-    start-requires
+    (λ c κs. search needs)
     halt-requires
     loop-holds
     answer-next-requires

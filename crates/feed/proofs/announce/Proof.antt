@@ -8,37 +8,10 @@ use Rattle.feed.proofs.Part.{part-length, part-number}
 use Rattle.feed.proofs.announce.Statement.{statement}
 use Rattle.feed.proofs.announce.Tie as tie
 
-add-end : tie.Need-add-end
-add-end c = search needs
-
-add-end-2 : tie.Need-add-end-2
-add-end-2 c = search needs
-
-shared-slice-read-length : tie.Need-shared-slice-read-length
-shared-slice-read-length c = search needs
-
 cast-length : tie.Need-cast-length
 cast-length c =
     let a = c .before .before .before .args in
     omega (arith, c .shared-slice-known2 .given (a .at + 1 + a .levels))
-
-add-two-at : tie.Need-add-two-at
-add-two-at c = search needs
-
-two-at-requires : tie.Need-two-at-requires
-two-at-requires c κs = search needs
-
-add-announce-with : tie.Need-add-announce-with
-add-announce-with c = search needs
-
-sub-announce-with : tie.Need-sub-announce-with
-sub-announce-with c = search needs
-
-part-announce-with-start : tie.Need-part-announce-with-start
-part-announce-with-start c = search needs
-
-part-announce-with-end : tie.Need-part-announce-with-end
-part-announce-with-end c = search needs
 
 announce-with-requires : tie.Need-announce-with-requires
 announce-with-requires c κs =
@@ -49,9 +22,6 @@ announce-with-requires c κs =
       record { some = omega (arith, e, h .some); levels = omega (arith, e, h .few) },
       λ k. rw e (is-table L (s .args .words .now) (h .some) (h .few) (s .pre .1 k)),
     )
-
-same-length : tie.Need-same-length
-same-length c = search needs
 
 returns : tie.Need-returns
 returns c =
@@ -68,16 +38,16 @@ pub announce-spec : {M : Type 1} → statement M
 announce-spec =
     tie.close
     (tie.spec
-    add-end
-    add-end-2
-    shared-slice-read-length
+    (λ c. search needs)
+    (λ c. search needs)
+    (λ c. search needs)
     cast-length
-    add-two-at
-    two-at-requires
-    add-announce-with
-    sub-announce-with
-    part-announce-with-start
-    part-announce-with-end
+    (λ c. search needs)
+    (λ c κs. search needs)
+    (λ c. search needs)
+    (λ c. search needs)
+    (λ c. search needs)
+    (λ c. search needs)
     announce-with-requires
-    same-length
+    (λ c. search needs)
     returns)

@@ -8,27 +8,12 @@ use Rattle.feed.proofs.Answers.{asks-body, asks-whole, not-ending, not-
 use Rattle.feed.proofs.ask.Statement.{statement}
 use Rattle.feed.proofs.ask.Tie as tie
 
-levels-requires : tie.Need-levels-requires
-levels-requires c κs = search needs
-
-add-end : tie.Need-add-end
-add-end c = search needs
-
-add-end-2 : tie.Need-add-end-2
-add-end-2 c = search needs
-
-enum-told : tie.Need-enum-told
-enum-told c = search needs
-
 announce-requires : tie.Need-announce-requires
 announce-requires c κs =
     let t = c .before .enum-told .given .1 in
     let l = c .before .before .before .levels .ensures .0 in
     let s = c .before .before .before .before .before .before in
     (asks-whole _ _ _ _ _ (s .pre .0) announcing _ 4 (ap saidRole t) l (omega arith), λ k. rw l (s .pre .1 k))
-
-enum-told-2 : tie.Need-enum-told-2
-enum-told-2 c = search needs
 
 withdraw-requires : tie.Need-withdraw-requires
 withdraw-requires c κs =
@@ -37,21 +22,12 @@ withdraw-requires c κs =
     let s = c .before .before .before .before .before .before in
     (asks-whole _ _ _ _ _ (s .pre .0) withdrawing _ 2 (ap saidRole t) l (omega arith), λ k. rw l (s .pre .1 k))
 
-enum-told-3 : tie.Need-enum-told-3
-enum-told-3 c = search needs
-
-add-from : tie.Need-add-from
-add-from c = search needs
-
 shared-slice-read-from : tie.Need-shared-slice-read-from
 shared-slice-read-from c =
     let t = c .before .enum-told3 .given .1 in
     let l = c .before .before .before .levels .ensures .0 in
     let s = c .before .before .before .before .before .before in
     omega (arith, asks-body _ _ _ _ _ (s .pre .0) announcingFor (ap saidRole t), l)
-
-add-preference : tie.Need-add-preference
-add-preference c = search needs
 
 shared-slice-read-preference : tie.Need-shared-slice-read-preference
 shared-slice-read-preference c =
@@ -67,12 +43,6 @@ announce-requires-2 c κs =
     let s = c .before .before .before .before .before .before .before .before in
     (asks-whole _ _ _ _ _ (s .pre .0) announcingFor _ 4 (ap saidRole t) l (omega arith), λ k. rw l (s .pre .1 k))
 
-enum-told-4 : tie.Need-enum-told-4
-enum-told-4 c = search needs
-
-add-from-2 : tie.Need-add-from-2
-add-from-2 c = search needs
-
 shared-slice-read-from-2 : tie.Need-shared-slice-read-from-2
 shared-slice-read-from-2 c =
     let t = c .before .enum-told4 .given .1 in
@@ -87,9 +57,6 @@ withdraw-requires-2 c κs =
     let s = c .before .before .before .before .before .before .before in
     (asks-whole _ _ _ _ _ (s .pre .0) withdrawingFor _ 2 (ap saidRole t) l (omega arith), λ k. rw l (s .pre .1 k))
 
-enum-told-5 : tie.Need-enum-told-5
-enum-told-5 c = search needs
-
 lookup-requires : tie.Need-lookup-requires
 lookup-requires c κs =
     let t = c .before .enum-told5 .given .1 in
@@ -97,23 +64,11 @@ lookup-requires c κs =
     let s = c .before .before .before .before .before .before in
     asks-whole _ _ _ _ _ (s .pre .0) looking _ 1 (ap saidRole t) l (omega arith)
 
-enum-told-6 : tie.Need-enum-told-6
-enum-told-6 c = search needs
-
-enum-told-7 : tie.Need-enum-told-7
-enum-told-7 c = search needs
-
-same-length : tie.Need-same-length
-same-length c = search needs
-
 returns : tie.Need-returns
 returns c =
     let t = c .before .before .before .before .enum-told .given .1 in
     let l = c .before .before .before .before .before .before .levels .ensures .0 in
     rw t (rw l at (c .before .before .announce .ensures))
-
-same-length-2 : tie.Need-same-length-2
-same-length-2 c = search needs
 
 returns-2 : tie.Need-returns-2
 returns-2 c =
@@ -121,26 +76,17 @@ returns-2 c =
     let l = c .before .before .before .before .before .before .levels .ensures .0 in
     rw t (rw l at (c .before .before .withdraw .ensures))
 
-same-length-3 : tie.Need-same-length-3
-same-length-3 c = search needs
-
 returns-3 : tie.Need-returns-3
 returns-3 c =
     let t = c .before .before .before .before .before .before .enum-told3 .given .1 in
     let l = c .before .before .before .before .before .before .before .before .levels .ensures .0 in
     rw t (rw l at (c .before .before .announce2 .ensures))
 
-same-length-4 : tie.Need-same-length-4
-same-length-4 c = search needs
-
 returns-4 : tie.Need-returns-4
 returns-4 c =
     let t = c .before .before .before .before .before .enum-told4 .given .1 in
     let l = c .before .before .before .before .before .before .before .levels .ensures .0 in
     rw t (rw l at (c .before .before .withdraw2 .ensures))
-
-same-length-5 : tie.Need-same-length-5
-same-length-5 c = search needs
 
 returns-5 : tie.Need-returns-5
 returns-5 c =
@@ -162,36 +108,36 @@ pub ask-spec : {M : Type 1} → statement M
 ask-spec =
     tie.close
     (tie.spec
-    levels-requires
-    add-end
-    add-end-2
-    enum-told
+    (λ c κs. search needs)
+    (λ c. search needs)
+    (λ c. search needs)
+    (λ c. search needs)
     announce-requires
-    enum-told-2
+    (λ c. search needs)
     withdraw-requires
-    enum-told-3
-    add-from
+    (λ c. search needs)
+    (λ c. search needs)
     shared-slice-read-from
-    add-preference
+    (λ c. search needs)
     shared-slice-read-preference
     announce-requires-2
-    enum-told-4
-    add-from-2
+    (λ c. search needs)
+    (λ c. search needs)
     shared-slice-read-from-2
     withdraw-requires-2
-    enum-told-5
+    (λ c. search needs)
     lookup-requires
-    enum-told-6
-    enum-told-7
-    same-length
+    (λ c. search needs)
+    (λ c. search needs)
+    (λ c. search needs)
     returns
-    same-length-2
+    (λ c. search needs)
     returns-2
-    same-length-3
+    (λ c. search needs)
     returns-3
-    same-length-4
+    (λ c. search needs)
     returns-4
-    same-length-5
+    (λ c. search needs)
     returns-5
     returns-6
     returns-7)

@@ -7,24 +7,6 @@ use Rattle.feed.proofs.Part.{part-length, part-number}
 use Rattle.feed.proofs.lookup.Statement.{statement}
 use Rattle.feed.proofs.lookup.Tie as tie
 
-add-lookup-on : tie.Need-add-lookup-on
-add-lookup-on c = search needs
-
-add-lookup-on-2 : tie.Need-add-lookup-on-2
-add-lookup-on-2 c = search needs
-
-add-lookup-on-3 : tie.Need-add-lookup-on-3
-add-lookup-on-3 c = search needs
-
-sub-lookup-on : tie.Need-sub-lookup-on
-sub-lookup-on c = search needs
-
-part-lookup-on-start : tie.Need-part-lookup-on-start
-part-lookup-on-start c = search needs
-
-part-lookup-on-end : tie.Need-part-lookup-on-end
-part-lookup-on-end c = search needs
-
 lookup-on-requires : tie.Need-lookup-on-requires
 lookup-on-requires c κs =
     let s = c .before .before .before in
@@ -50,11 +32,11 @@ pub lookup-spec : {M : Type 1} → statement M
 lookup-spec =
     tie.close
     (tie.spec
-    add-lookup-on
-    add-lookup-on-2
-    add-lookup-on-3
-    sub-lookup-on
-    part-lookup-on-start
-    part-lookup-on-end
+    (λ c. search needs)
+    (λ c. search needs)
+    (λ c. search needs)
+    (λ c. search needs)
+    (λ c. search needs)
+    (λ c. search needs)
     lookup-on-requires
     returns)

@@ -8,9 +8,6 @@ use Rattle.feed.proofs.Loop.{local-refused, local-ran}
 use Rattle.feed.proofs.run_local_of.Statement.{statement}
 use Rattle.feed.proofs.run_local_of.Tie as tie
 
-misfit-requires : tie.Need-misfit-requires
-misfit-requires c κs = search needs
-
 returns : tie.Need-returns
 returns c =
     let s = c .before .before .before .before .before in
@@ -20,12 +17,6 @@ run-table-requires : tie.Need-run-table-requires
 run-table-requires c κs =
     let e = c .before .before in
     (no-misfit-fits _ (sym (e .before .misfit .ensures) ∙ e .if1 .left), λ k. absurd (false≢true k))
-
-same-length : tie.Need-same-length
-same-length c = search needs
-
-same-length-2 : tie.Need-same-length-2
-same-length-2 c = search needs
 
 returns-2 : tie.Need-returns-2
 returns-2 c =
@@ -38,9 +29,9 @@ pub run-local-of-spec : {M : Type 1} → statement M
 run-local-of-spec =
     tie.close
     (tie.spec
-    misfit-requires
+    (λ c κs. search needs)
     returns
     run-table-requires
-    same-length
-    same-length-2
+    (λ c. search needs)
+    (λ c. search needs)
     returns-2)

@@ -15,18 +15,6 @@ first : (c : tie.After-refusal)
     c .refusal .result ≡ refusalOf (levels (saidFamily (s .args .family))) (s .args .words .now) 0)
 first c = rw (c .before .levels .ensures .0) at (c .refusal .ensures)
 
-levels-requires : tie.Need-levels-requires
-levels-requires c κs = search needs
-
-cast-refusal : tie.Need-cast-refusal
-cast-refusal c = search needs
-
-refusal-requires : tie.Need-refusal-requires
-refusal-requires c κs = search needs
-
-same-length : tie.Need-same-length
-same-length c = search needs
-
 returns : tie.Need-returns
 returns c =
     let s = c .before .before .before .before .before .before .before in
@@ -41,12 +29,6 @@ run-table-requires c κs =
       λ _. run-started F (s .args .words .now) _ (first (t .before)) (omega arith),
     )
 
-same-length-2 : tie.Need-same-length-2
-same-length-2 c = search needs
-
-same-length-3 : tie.Need-same-length-3
-same-length-3 c = search needs
-
 returns-2 : tie.Need-returns-2
 returns-2 c =
     let e = c .before .before .before .before .before .before .before in
@@ -58,12 +40,12 @@ pub run-of-spec : {M : Type 1} → statement M
 run-of-spec =
     tie.close
     (tie.spec
-    levels-requires
-    cast-refusal
-    refusal-requires
-    same-length
+    (λ c κs. search needs)
+    (λ c. search needs)
+    (λ c κs. search needs)
+    (λ c. search needs)
     returns
     run-table-requires
-    same-length-2
-    same-length-3
+    (λ c. search needs)
+    (λ c. search needs)
     returns-2)

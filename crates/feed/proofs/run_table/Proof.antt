@@ -48,9 +48,6 @@ loop-again c =
     any-again _ _ _ _ _ _ _ _ (test .before .loop .inv) _ _ _ _ (test .loop-test .taken) (n .answer-next .ensures) (k .1 .1 .1 .1 .0) (k .1 .0)
     (c .halt2 .ensures)
 
-last-requires : tie.Need-last-requires Inv-loop μ-loop
-last-requires c κs = search needs
-
 add-t15 : tie.Need-add-t15 Inv-loop μ-loop
 add-t15 c = omega (arith, c .before .before .before .loop .inv .placed .at, c .before .last .ensures .1)
 
@@ -77,7 +74,7 @@ run-table-spec =
     halt-requires-2
     loop-less
     loop-again
-    last-requires
+    (λ c κs. search needs)
     add-t15
     same-length
     same-length-2

@@ -4,48 +4,6 @@ use borrow.Author.Needs.{needs}
 use Rattle.feed.proofs.size.Statement.{statement}
 use Rattle.feed.proofs.size.Tie as tie
 
-levels-requires : tie.Need-levels-requires
-levels-requires c κs = search needs
-
-enum-told : tie.Need-enum-told
-enum-told c = search needs
-
-enum-told-2 : tie.Need-enum-told-2
-enum-told-2 c = search needs
-
-add-result : tie.Need-add-result
-add-result c = search needs
-
-enum-told-3 : tie.Need-enum-told-3
-enum-told-3 c = search needs
-
-add-result-2 : tie.Need-add-result-2
-add-result-2 c = search needs
-
-enum-told-4 : tie.Need-enum-told-4
-enum-told-4 c = search needs
-
-add-result-3 : tie.Need-add-result-3
-add-result-3 c = search needs
-
-enum-told-5 : tie.Need-enum-told-5
-enum-told-5 c = search needs
-
-add-result-4 : tie.Need-add-result-4
-add-result-4 c = search needs
-
-enum-told-6 : tie.Need-enum-told-6
-enum-told-6 c = search needs
-
-add-result-5 : tie.Need-add-result-5
-add-result-5 c = search needs
-
-enum-told-7 : tie.Need-enum-told-7
-enum-told-7 c = search needs
-
-returns : tie.Need-returns
-returns c = search needs
-
 returns-2 : tie.Need-returns-2
 returns-2 c =
     let l = c .before .before .levels .ensures in
@@ -71,30 +29,27 @@ returns-6 c =
     let l = c .before .before .levels .ensures in
     rw (c .enum-told6 .given .1) (omega (arith, l .0), omega arith, omega (arith, l .2))
 
-returns-7 : tie.Need-returns-7
-returns-7 c = search needs
-
 pub size-spec : {M : Type 1} → statement M
 size-spec =
     tie.close
     (tie.spec
-    levels-requires
-    enum-told
-    enum-told-2
-    add-result
-    enum-told-3
-    add-result-2
-    enum-told-4
-    add-result-3
-    enum-told-5
-    add-result-4
-    enum-told-6
-    add-result-5
-    enum-told-7
-    returns
+    (λ c κs. search needs)
+    (λ c. search needs)
+    (λ c. search needs)
+    (λ c. search needs)
+    (λ c. search needs)
+    (λ c. search needs)
+    (λ c. search needs)
+    (λ c. search needs)
+    (λ c. search needs)
+    (λ c. search needs)
+    (λ c. search needs)
+    (λ c. search needs)
+    (λ c. search needs)
+    (λ c. search needs)
     returns-2
     returns-3
     returns-4
     returns-5
     returns-6
-    returns-7)
+    (λ c. search needs))

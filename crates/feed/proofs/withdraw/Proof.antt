@@ -8,31 +8,10 @@ use Rattle.feed.proofs.Part.{part-length, part-number}
 use Rattle.feed.proofs.withdraw.Statement.{statement}
 use Rattle.feed.proofs.withdraw.Tie as tie
 
-add-end : tie.Need-add-end
-add-end c = search needs
-
-add-end-2 : tie.Need-add-end-2
-add-end-2 c = search needs
-
-shared-slice-read-length : tie.Need-shared-slice-read-length
-shared-slice-read-length c = search needs
-
 cast-length : tie.Need-cast-length
 cast-length c =
     let a = c .before .before .before .args in
     omega (arith, c .shared-slice-known2 .given (a .at + 1 + a .levels))
-
-add-withdraw-with : tie.Need-add-withdraw-with
-add-withdraw-with c = search needs
-
-sub-withdraw-with : tie.Need-sub-withdraw-with
-sub-withdraw-with c = search needs
-
-part-withdraw-with-start : tie.Need-part-withdraw-with-start
-part-withdraw-with-start c = search needs
-
-part-withdraw-with-end : tie.Need-part-withdraw-with-end
-part-withdraw-with-end c = search needs
 
 withdraw-with-requires : tie.Need-withdraw-with-requires
 withdraw-with-requires c κs =
@@ -43,9 +22,6 @@ withdraw-with-requires c κs =
       record { some = omega (arith, e, h .some); levels = omega (arith, e, h .few) },
       λ k. rw e (is-table L (s .args .words .now) (h .some) (h .few) (s .pre .1 k)),
     )
-
-same-length : tie.Need-same-length
-same-length c = search needs
 
 returns : tie.Need-returns
 returns c =
@@ -60,14 +36,14 @@ pub withdraw-spec : {M : Type 1} → statement M
 withdraw-spec =
     tie.close
     (tie.spec
-    add-end
-    add-end-2
-    shared-slice-read-length
+    (λ c. search needs)
+    (λ c. search needs)
+    (λ c. search needs)
     cast-length
-    add-withdraw-with
-    sub-withdraw-with
-    part-withdraw-with-start
-    part-withdraw-with-end
+    (λ c. search needs)
+    (λ c. search needs)
+    (λ c. search needs)
+    (λ c. search needs)
     withdraw-with-requires
-    same-length
+    (λ c. search needs)
     returns)

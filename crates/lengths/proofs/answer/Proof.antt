@@ -8,12 +8,6 @@ use borrow.Author.Needs.{needs}
 use Rattle.lengths.proofs.answer.Statement.{statement}
 use Rattle.lengths.proofs.answer.Tie as tie
 
-enum-told : tie.Need-enum-told
-enum-told c = search needs
-
-enum-known-found : tie.Need-enum-known-found
-enum-known-found c = search needs
-
 mul-told : tie.Need-mul-told
 mul-told c =
     let a = c .before .before .before .before .args in
@@ -24,33 +18,21 @@ shared-slice-read-told c =
     let a = c .before .before .before .before .before .args in
     there-hit (a .words .now) (a .found) _ (c .before .before .found .given .1) (c .before .before .before .before .before .pre)
 
-told-requires : tie.Need-told-requires
-told-requires c κs = search needs
-
-enum-told-2 : tie.Need-enum-told-2
-enum-told-2 c = search needs
-
-returns : tie.Need-returns
-returns c = search needs
-
 returns-2 : tie.Need-returns-2
 returns-2 c =
     let a = c .before .before .before .before .before .before .args in
     c .told .ensures ∙ sym (ap answered (ap (lookOf (a .words .now)) (c .before .before .before .found .given .1)))
 
-returns-3 : tie.Need-returns-3
-returns-3 c = search needs
-
 pub answer-spec : {M : Type 1} → statement M
 answer-spec =
     tie.close
     (tie.spec
-    enum-told
-    enum-known-found
+    (λ c. search needs)
+    (λ c. search needs)
     mul-told
     shared-slice-read-told
-    told-requires
-    enum-told-2
-    returns
+    (λ c κs. search needs)
+    (λ c. search needs)
+    (λ c. search needs)
     returns-2
-    returns-3)
+    (λ c. search needs))

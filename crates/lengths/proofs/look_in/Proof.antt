@@ -11,15 +11,6 @@ use borrow.Author.Needs.{needs}
 use Rattle.lengths.proofs.look_in.Statement.{statement}
 use Rattle.lengths.proofs.look_in.Tie as tie
 
-mul-o : tie.Need-mul-o
-mul-o c = search needs
-
-mul-o-2 : tie.Need-mul-o-2
-mul-o-2 c = search needs
-
-shared-slice-read-o : tie.Need-shared-slice-read-o
-shared-slice-read-o c = search needs
-
 cast-o : tie.Need-cast-o
 cast-o c = omega (arith, c .shared-slice-known2 .given (2 * c .before .before .args .m))
 
@@ -28,18 +19,6 @@ mul-o-3 c = omega (arith, c .shared-slice-known2 .given (2 * c .before .before .
 
 add-o : tie.Need-add-o
 add-o c = omega (arith, c .shared-slice-known2 .given (2 * c .before .before .args .m))
-
-mul-size : tie.Need-mul-size
-mul-size c = search needs
-
-add-size : tie.Need-add-size
-add-size c = search needs
-
-mul-size-2 : tie.Need-mul-size-2
-mul-size-2 c = search needs
-
-shared-slice-read-size : tie.Need-shared-slice-read-size
-shared-slice-read-size c = search needs
 
 cast-size : tie.Need-cast-size
 cast-size c = omega (arith, c .shared-slice-known3 .given (2 * c .before .before .before .args .m + 1))
@@ -65,19 +44,10 @@ returns-2 c =
     let T = placesOf ws (a .m) (beginOf ws (a .m)) p in
     record { told = find-none T p (a .v) (omega arith) ∙ look-there ws (a .m) (a .v) (c .before .if1 .left); inside = tt }
 
-mul-p : tie.Need-mul-p
-mul-p c = search needs
-
 start-requires : tie.Need-start-requires
 start-requires c κs =
     let m = c .before .before .before .before .before .args .m in
     (omega arith, omega (arith, c .before .before .shared-slice-known3 .given (2 * m + 1)))
-
-add-at : tie.Need-add-at
-add-at c = search needs
-
-is-free-requires : tie.Need-is-free-requires
-is-free-requires c κs = search needs
 
 returns-3 : tie.Need-returns-3
 returns-3 c =
@@ -94,18 +64,6 @@ returns-3 c =
       inside = tt;
     }
 
-mul-if4 : tie.Need-mul-if4
-mul-if4 c = search needs
-
-shared-slice-read-if4 : tie.Need-shared-slice-read-if4
-shared-slice-read-if4 c = search needs
-
-sub-if4 : tie.Need-sub-if4
-sub-if4 c = search needs
-
-add-t21 : tie.Need-add-t21
-add-t21 c = search needs
-
 returns-4 : tie.Need-returns-4
 returns-4 c =
     let a = c .before .before .before .before .before .before .before .before .before .before .args in
@@ -121,9 +79,6 @@ returns-4 c =
           ∙ find-all T p (a .v) ∙ look-there ws (a .m) (a .v) (c .before .before .before .before .before .before .if1 .left);
       inside = omega (arith, s .ensures .1, c .before .before .before .before .before .before .if1 .left);
     }
-
-probe-on-requires : tie.Need-probe-on-requires
-probe-on-requires c κs = search needs
 
 returns-5 : tie.Need-returns-5
 returns-5 c =
@@ -147,30 +102,30 @@ pub look-in-spec : {M : Type 1} → statement M
 look-in-spec =
     tie.close
     (tie.spec
-    mul-o
-    mul-o-2
-    shared-slice-read-o
+    (λ c. search needs)
+    (λ c. search needs)
+    (λ c. search needs)
     cast-o
     mul-o-3
     add-o
-    mul-size
-    add-size
-    mul-size-2
-    shared-slice-read-size
+    (λ c. search needs)
+    (λ c. search needs)
+    (λ c. search needs)
+    (λ c. search needs)
     cast-size
     mul-if1
     add-if1
     returns
     returns-2
-    mul-p
+    (λ c. search needs)
     start-requires
-    add-at
-    is-free-requires
+    (λ c. search needs)
+    (λ c κs. search needs)
     returns-3
-    mul-if4
-    shared-slice-read-if4
-    sub-if4
-    add-t21
+    (λ c. search needs)
+    (λ c. search needs)
+    (λ c. search needs)
+    (λ c. search needs)
     returns-4
-    probe-on-requires
+    (λ c κs. search needs)
     returns-5)

@@ -15,9 +15,6 @@ returns c =
     let w : refuses 2 ≡ walk (a .words .now) (a .address) = walk-short (a .words .now) (a .address) (c .if1 .taken) in
     (w, of-list (a .words .now) (a .address) (refuses 2) (omega arith) w)
 
-search-from-requires : tie.Need-search-from-requires
-search-from-requires c κs = search needs
-
 answer-requires : tie.Need-answer-requires
 answer-requires c κs = c .search-from .ensures .inside
 
@@ -31,4 +28,4 @@ returns-2 c =
     (w, of-list (a .words .now) (a .address) y (omega arith) w)
 
 pub lookup-spec : {M : Type 1} → statement M
-lookup-spec = tie.close (tie.spec returns search-from-requires answer-requires returns-2)
+lookup-spec = tie.close (tie.spec returns (λ c κs. search needs) answer-requires returns-2)

@@ -14,15 +14,6 @@ returns c =
     let T = placesOf (a .words .now) (a .m) (a .o) (4 * a .size) in
     record { told = find-none T (4 * a .size) (a .v) (omega arith); inside = tt }
 
-mul-probe-on : tie.Need-mul-probe-on
-mul-probe-on c = search needs
-
-start-requires : tie.Need-start-requires
-start-requires c κs = search needs
-
-probe-on-requires : tie.Need-probe-on-requires
-probe-on-requires c κs = search needs
-
 returns-2 : tie.Need-returns-2
 returns-2 c =
     let a = c .before .before .before .before .args in
@@ -30,4 +21,4 @@ returns-2 c =
     record { told = c .probe-on .ensures .told ∙ find-all T (4 * a .size) (a .v); inside = c .probe-on .ensures .inside }
 
 pub probe-spec : {M : Type 1} → statement M
-probe-spec = tie.close (tie.spec returns mul-probe-on start-requires probe-on-requires returns-2)
+probe-spec = tie.close (tie.spec returns (λ c. search needs) (λ c κs. search needs) (λ c κs. search needs) returns-2)

@@ -20,9 +20,6 @@ loop-holds c = (c .before .pre .3, refl)
 place-requires : tie.Need-place-requires Inv-loop μ-loop
 place-requires c κs = (c .before .before .before .pre .2, omega arith, omega arith)
 
-add-at : tie.Need-add-at Inv-loop μ-loop
-add-at c = omega arith
-
 is-free-requires : tie.Need-is-free-requires Inv-loop μ-loop
 is-free-requires c κs = omega (arith, c .place .ensures .1)
 
@@ -40,18 +37,6 @@ returns c =
       inside = tt;
     }
 
-mul-if2 : tie.Need-mul-if2 Inv-loop μ-loop
-mul-if2 c = omega arith
-
-shared-slice-read-if2 : tie.Need-shared-slice-read-if2 Inv-loop μ-loop
-shared-slice-read-if2 c = omega arith
-
-sub-if2 : tie.Need-sub-if2 Inv-loop μ-loop
-sub-if2 c = omega arith
-
-add-t16 : tie.Need-add-t16 Inv-loop μ-loop
-add-t16 c = omega arith
-
 returns-2 : tie.Need-returns-2 Inv-loop μ-loop
 returns-2 c =
     let s = c .before .before .before .before .before .before .before .before in
@@ -66,12 +51,6 @@ returns-2 c =
           (f .result) (f .ensures) (c .before .before .if1 .left) own ∙ l .inv .1;
       inside = omega (arith, at .ensures .1);
     }
-
-add-e : tie.Need-add-e Inv-loop μ-loop
-add-e c = omega arith
-
-loop-less : tie.Need-loop-less Inv-loop μ-loop
-loop-less c = omega arith
 
 loop-again : tie.Need-loop-again Inv-loop μ-loop
 loop-again c =
@@ -101,15 +80,15 @@ probe-on-spec =
     μ-loop
     loop-holds
     place-requires
-    add-at
+    (λ c. omega arith)
     is-free-requires
     returns
-    mul-if2
-    shared-slice-read-if2
-    sub-if2
-    add-t16
+    (λ c. omega arith)
+    (λ c. omega arith)
+    (λ c. omega arith)
+    (λ c. omega arith)
     returns-2
-    add-e
-    loop-less
+    (λ c. omega arith)
+    (λ c. omega arith)
     loop-again
     returns-3)

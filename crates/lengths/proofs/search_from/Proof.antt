@@ -32,9 +32,6 @@ shr-look-in c = omega (arith, pow-pos (c .loop .n), c .loop .inv .1)
 look-in-requires : tie.Need-look-in-requires Inv-loop μ-loop
 look-in-requires c κs = (c .before .before .pre, c .loop .inv .2)
 
-enum-told : tie.Need-enum-told Inv-loop μ-loop
-enum-told c = search needs
-
 returns : tie.Need-returns Inv-loop μ-loop
 returns c =
     let a = c .before .before .before .before .before .before .args in
@@ -44,9 +41,6 @@ returns c =
     let e : l .n ≡ 0 = c .if1 .taken in
     let x = saw (a .words .now) (k .result) _ (k .ensures) Miss (c .before .enum-told .given .1) in
     record { told = end-miss (looks (a .words .now) (a .address)) (l .m) before x ∙ rw e at (l .inv .4); inside = l .inv .5 }
-
-sub-n : tie.Need-sub-n Inv-loop μ-loop
-sub-n c = omega arith
 
 power-requires : tie.Need-power-requires Inv-loop μ-loop
 power-requires c κs = omega (arith, c .before .before .before .before .loop .inv .0)
@@ -77,12 +71,6 @@ loop-again c =
       turn-shorter (looks (a .words .now) (a .address)) (l .m) before (l .n) (c .power .result) (omega arith) (c .power .ensures) x ∙ l .inv .4,
       l .inv .5,
     )
-
-enum-known-b : tie.Need-enum-known-b Inv-loop μ-loop
-enum-known-b c = search needs
-
-sub-n-2 : tie.Need-sub-n-2 Inv-loop μ-loop
-sub-n-2 c = omega arith
 
 power-requires-2 : tie.Need-power-requires-2 Inv-loop μ-loop
 power-requires-2 c κs = omega (arith, c .before .before .before .before .before .loop .inv .0)
@@ -115,9 +103,6 @@ loop-again-2 c =
       within (a .words .now) (k .result) _ (k .ensures) _ (b .given .1),
     )
 
-loop-less-3 : tie.Need-loop-less-3 Inv-loop μ-loop
-loop-less-3 c = omega arith
-
 loop-again-3 : tie.Need-loop-again-3 Inv-loop μ-loop
 loop-again-3 c =
     let a = c .before .before .before .before .before .before .before .before .args in
@@ -149,9 +134,6 @@ returns-2 c =
       inside = within (a .words .now) (k .result) _ (k .ensures) _ (b .given .1);
     }
 
-enum-told-2 : tie.Need-enum-told-2 Inv-loop μ-loop
-enum-told-2 c = search needs
-
 returns-3 : tie.Need-returns-3 Inv-loop μ-loop
 returns-3 c =
     let a = c .before .before .before .before .before .args in
@@ -171,21 +153,21 @@ search-from-spec =
     sub-look-in
     shr-look-in
     look-in-requires
-    enum-told
+    (λ c. search needs)
     returns
-    sub-n
+    (λ c. omega arith)
     power-requires
     sub-m
     loop-less
     loop-again
-    enum-known-b
-    sub-n-2
+    (λ c. search needs)
+    (λ c. omega arith)
     power-requires-2
     add-m
     loop-less-2
     loop-again-2
-    loop-less-3
+    (λ c. omega arith)
     loop-again-3
     returns-2
-    enum-told-2
+    (λ c. search needs)
     returns-3)

@@ -6,9 +6,6 @@ use native.Mathlib.Omega.{arith}
 use Rattle.lengths.proofs.start.Statement.{statement}
 use Rattle.lengths.proofs.start.Tie as tie
 
-mul-mixed : tie.Need-mul-mixed
-mul-mixed c = search needs
-
 mul-result : tie.Need-mul-result
 mul-result c = omega (arith, product-fits (c .args .v) (c .args .size) (c .pre .0) (c .pre .1))
 
@@ -18,4 +15,4 @@ returns c =
     (s .0, rw (s .0) (s .1))
 
 pub start-spec : {M : Type 1} → statement M
-start-spec = tie.close (tie.spec mul-mixed mul-result returns)
+start-spec = tie.close (tie.spec (λ c. search needs) mul-result returns)

@@ -4,9 +4,6 @@ use borrow.Author.Needs.{needs}
 use Rattle.lengths.proofs.told.Statement.{statement}
 use Rattle.lengths.proofs.told.Tie as tie
 
-strange-requires : tie.Need-strange-requires
-strange-requires c κs = search needs
-
 returns : tie.Need-returns
 returns c =
     let s = c .before .strange in
@@ -23,4 +20,4 @@ returns-3 c =
     told-found (c .before .before .before .args .best) (s .result) (s .ensures) (c .before .if1 .left) (c .if2 .left)
 
 pub told-spec : {M : Type 1} → statement M
-told-spec = tie.close (tie.spec strange-requires returns returns-2 returns-3)
+told-spec = tie.close (tie.spec (λ c κs. search needs) returns returns-2 returns-3)

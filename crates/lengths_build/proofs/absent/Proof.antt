@@ -4,18 +4,6 @@ use borrow.Author.Needs.{needs}
 use Rattle.lengths_build.proofs.absent.Statement.{statement}
 use Rattle.lengths_build.proofs.absent.Tie as tie
 
-probe-requires : tie.Need-probe-requires
-probe-requires c κs = search needs
-
-enum-told : tie.Need-enum-told
-enum-told c = search needs
-
-enum-told-2 : tie.Need-enum-told-2
-enum-told-2 c = search needs
-
-enum-told-3 : tie.Need-enum-told-3
-enum-told-3 c = search needs
-
 returns : tie.Need-returns
 returns c =
     let a = c .before .before .before .before .args in
@@ -37,4 +25,4 @@ returns-3 c =
 pub absent-spec : {M : Type 1} → statement M
 absent-spec =
     tie.close
-    (tie.spec probe-requires enum-told enum-told-2 enum-told-3 returns returns-2 returns-3)
+    (tie.spec (λ c κs. search needs) (λ c. search needs) (λ c. search needs) (λ c. search needs) returns returns-2 returns-3)

@@ -9,15 +9,6 @@ use native.Mathlib.Omega.{arith}
 use Rattle.lengths_build.proofs.build.Statement.{statement}
 use Rattle.lengths_build.proofs.build.Tie as tie
 
-need-requires : tie.Need-need-requires
-need-requires c κs = search needs
-
-enum-known-n : tie.Need-enum-known-n
-enum-known-n c = search needs
-
-enum-told : tie.Need-enum-told
-enum-told c = search needs
-
 returns : tie.Need-returns
 returns c =
     let a = c .before .before .before .before .before .args in
@@ -108,9 +99,9 @@ pub build-spec : {M : Type 1} → statement M
 build-spec =
     tie.close
     (tie.spec
-    need-requires
-    enum-known-n
-    enum-told
+    (λ c κs. search needs)
+    (λ c. search needs)
+    (λ c. search needs)
     returns
     returns-2
     default-of-requires

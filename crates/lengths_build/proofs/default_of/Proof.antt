@@ -5,9 +5,6 @@ use Rattle.lengths_build.proofs.Whole.{default-empty, default-none, def
 use Rattle.lengths_build.proofs.default_of.Statement.{statement}
 use Rattle.lengths_build.proofs.default_of.Tie as tie
 
-records-requires : tie.Need-records-requires
-records-requires c κs = search needs
-
 returns : tie.Need-returns
 returns c =
     let n = c .before .records in
@@ -41,4 +38,4 @@ returns-3 c =
 
 pub default-of-spec : {M : Type 1} → statement M
 default-of-spec =
-    tie.close (tie.spec records-requires returns bits-requires returns-2 winner-requires mul-result returns-3)
+    tie.close (tie.spec (λ c κs. search needs) returns bits-requires returns-2 winner-requires mul-result returns-3)

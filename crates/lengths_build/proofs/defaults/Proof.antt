@@ -5,9 +5,6 @@ use Rattle.lengths_build.proofs.Words.{default-empty, default-absent, d
 use Rattle.lengths_build.proofs.defaults.Statement.{statement}
 use Rattle.lengths_build.proofs.defaults.Tie as tie
 
-records-requires : tie.Need-records-requires
-records-requires c κs = search needs
-
 returns : tie.Need-returns
 returns c =
     let n = c .before .records in
@@ -37,4 +34,4 @@ returns-3 c =
     )
 
 pub defaults-spec : {M : Type 1} → statement M
-defaults-spec = tie.close (tie.spec records-requires returns bits-requires returns-2 returns-3)
+defaults-spec = tie.close (tie.spec (λ c κs. search needs) returns bits-requires returns-2 returns-3)

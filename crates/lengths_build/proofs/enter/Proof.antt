@@ -15,9 +15,6 @@ absent-requires c κs =
     let f = c .before .before .before .before .pre .0 in
     (f .fits, f .small)
 
-same-length : tie.Need-same-length
-same-length c = search needs
-
 returns : tie.Need-returns
 returns c =
     let a = c .before .before .before .before .before .before .args in
@@ -46,9 +43,6 @@ put-requires c κs =
     enter-space (a .marks) (a .bytes .now) (a .words .now) (a .i) (a .m) (a .o) (a .size) (p .0) (p .1) (head .result)
     (head .ensures) (absent .result) (absent .ensures) (if1 .left) (best-of .result) (best-of .ensures)
 
-same-length-2 : tie.Need-same-length-2
-same-length-2 c = search needs
-
 returns-2 : tie.Need-returns-2
 returns-2 c =
     let a = c .before .before .before .before .before .before .before .before .before .before .before .before .args in
@@ -67,9 +61,9 @@ enter-spec =
     (tie.spec
     head-requires
     absent-requires
-    same-length
+    (λ c. search needs)
     returns
     best-of-requires
     put-requires
-    same-length-2
+    (λ c. search needs)
     returns-2)

@@ -5,9 +5,6 @@ use borrow.Author.Needs.{needs}
 use Rattle.lengths_build.proofs.entries.Statement.{statement}
 use Rattle.lengths_build.proofs.entries.Tie as tie
 
-reach-requires : tie.Need-reach-requires
-reach-requires c κs = search needs
-
 count-requires : tie.Need-count-requires
 count-requires c κs = (c .before .before .pre .0, c .before .before .pre .2)
 
@@ -20,4 +17,4 @@ returns c =
     (reach .ensures) (count .ensures)
 
 pub entries-spec : {M : Type 1} → statement M
-entries-spec = tie.close (tie.spec reach-requires count-requires returns)
+entries-spec = tie.close (tie.spec (λ c κs. search needs) count-requires returns)

@@ -15,17 +15,11 @@ Inv-loop bytes words₀ marks m o size i₀ words i = Filled marks bytes words�
 abbrev μ-loop : tie.MeasureT-loop
 μ-loop bytes words₀ marks m o size i₀ words i = i
 
-records-requires : tie.Need-records-requires Inv-loop μ-loop
-records-requires c κs = search needs
-
 loop-holds : tie.Need-loop-holds Inv-loop μ-loop
 loop-holds c =
     let a = c .before .before .before .args in
     let p = c .before .before .before .pre in
     rw (c .records .ensures .0) (fill-none (a .marks) (a .bytes .now) (a .m) (a .o) (a .size) (a .words .now) (recordsIn (a .bytes .now)) p)
-
-sub-i : tie.Need-sub-i Inv-loop μ-loop
-sub-i c = omega arith
 
 bits-requires : tie.Need-bits-requires Inv-loop μ-loop
 bits-requires c κs = omega (arith, c .before .loop .inv .filling .upto)
@@ -47,18 +41,12 @@ enter-requires c κs =
       sym (is-chosen .ensures ∙ ap (chosen (a .marks) (a .m)) (bits .ensures .0)) ∙ c .before .if1 .taken,
     )
 
-loop-less : tie.Need-loop-less Inv-loop μ-loop
-loop-less c = omega arith
-
 loop-again : tie.Need-loop-again Inv-loop μ-loop
 loop-again c =
     let a = c .before .before .before .before .before .before .before .before .before .before .before .before .args in
     let l = c .before .before .before .before .before .before .before .before .loop in
     let enter = c .before .before .enter in
     fill-join (a .marks) (a .bytes .now) (a .m) (a .o) (a .size) (a .words .now) (l .words) (enter .last .1 .0) (l .i) (l .i - 1) (l .inv) (enter .ensures)
-
-loop-less-2 : tie.Need-loop-less-2 Inv-loop μ-loop
-loop-less-2 c = omega arith
 
 loop-again-2 : tie.Need-loop-again-2 Inv-loop μ-loop
 loop-again-2 c =
@@ -83,15 +71,15 @@ fill-spec =
     (tie.spec
     Inv-loop
     μ-loop
-    records-requires
+    (λ c κs. search needs)
     loop-holds
-    sub-i
+    (λ c. omega arith)
     bits-requires
     is-chosen-requires
     enter-requires
-    loop-less
+    (λ c. omega arith)
     loop-again
-    loop-less-2
+    (λ c. omega arith)
     loop-again-2
     same-length
     returns)

@@ -47,12 +47,6 @@ returns c =
     (place-call .ensures .0 ∙ ap (λ (s : ℕ). place s (4 * a .size) (l .d)) (start .ensures .0))
     (told-free T (place-call .result) (test .result) (test .ensures) (c .if1 .taken))
 
-add-d : tie.Need-add-d Inv-loop μ-loop
-add-d c = omega arith
-
-loop-less : tie.Need-loop-less Inv-loop μ-loop
-loop-less c = omega arith
-
 loop-again : tie.Need-loop-again Inv-loop μ-loop
 loop-again c =
     let a = c .before .before .before .before .before .before .before .args in
@@ -87,7 +81,7 @@ free-spec =
     add-is-free
     is-free-requires
     returns
-    add-d
-    loop-less
+    (λ c. omega arith)
+    (λ c. omega arith)
     loop-again
     returns-2)

@@ -5,15 +5,6 @@ use borrow.Author.Needs.{needs}
 use Rattle.lengths_build.proofs.is_chosen.Statement.{statement}
 use Rattle.lengths_build.proofs.is_chosen.Tie as tie
 
-add-is-between : tie.Need-add-is-between
-add-is-between c = search needs
-
-reach-requires : tie.Need-reach-requires
-reach-requires c κs = search needs
-
-is-between-requires : tie.Need-is-between-requires
-is-between-requires c κs = search needs
-
 returns : tie.Need-returns
 returns c =
     let s = c .before .before .before in
@@ -25,4 +16,4 @@ returns-2 c = rw (c .if1 .left)
 
 pub is-chosen-spec : {M : Type 1} → statement M
 is-chosen-spec =
-    tie.close (tie.spec add-is-between reach-requires is-between-requires returns returns-2)
+    tie.close (tie.spec (λ c. search needs) (λ c κs. search needs) (λ c κs. search needs) returns returns-2)

@@ -7,15 +7,6 @@ use borrow.Author.Needs.{needs}
 use Rattle.lengths_build.proofs.look_at.Statement.{statement}
 use Rattle.lengths_build.proofs.look_at.Tie as tie
 
-mul-head : tie.Need-mul-head
-mul-head c = search needs
-
-mul-o : tie.Need-mul-o
-mul-o c = search needs
-
-shared-slice-read-o : tie.Need-shared-slice-read-o
-shared-slice-read-o c = search needs
-
 cast-o : tie.Need-cast-o
 cast-o c = omega (arith, c .shared-slice-known2 .given (2 * c .before .before .args .m))
 
@@ -24,15 +15,6 @@ mul-o-2 c = omega (arith, c .shared-slice-known2 .given (2 * c .before .before .
 
 add-o : tie.Need-add-o
 add-o c = omega (arith, c .shared-slice-known2 .given (2 * c .before .before .args .m))
-
-add-size : tie.Need-add-size
-add-size c = search needs
-
-mul-size : tie.Need-mul-size
-mul-size c = search needs
-
-shared-slice-read-size : tie.Need-shared-slice-read-size
-shared-slice-read-size c = search needs
 
 cast-size : tie.Need-cast-size
 cast-size c = omega (arith, c .shared-slice-known3 .given (2 * c .before .before .before .args .m + 1))
@@ -65,15 +47,15 @@ pub look-at-spec : {M : Type 1} → statement M
 look-at-spec =
     tie.close
     (tie.spec
-    mul-head
-    mul-o
-    shared-slice-read-o
+    (λ c. search needs)
+    (λ c. search needs)
+    (λ c. search needs)
     cast-o
     mul-o-2
     add-o
-    add-size
-    mul-size
-    shared-slice-read-size
+    (λ c. search needs)
+    (λ c. search needs)
+    (λ c. search needs)
     cast-size
     mul-if1
     add-if1

@@ -7,35 +7,8 @@ use native.Mathlib.Omega.{arith}
 use Rattle.lengths_build.proofs.put.Statement.{statement}
 use Rattle.lengths_build.proofs.put.Tie as tie
 
-mul-p : tie.Need-mul-p
-mul-p c = search needs
-
-free-requires : tie.Need-free-requires
-free-requires c κs = search needs
-
-add-at : tie.Need-add-at
-add-at c = search needs
-
-sub-words : tie.Need-sub-words
-sub-words c = search needs
-
-mul-words : tie.Need-mul-words
-mul-words c = search needs
-
-slice-write-words : tie.Need-slice-write-words
-slice-write-words c = search needs
-
-add-words : tie.Need-add-words
-add-words c = search needs
-
-mul-words-2 : tie.Need-mul-words-2
-mul-words-2 c = search needs
-
 slice-write-words-2 : tie.Need-slice-write-words-2
 slice-write-words-2 c = simp length-set (omega (arith, c .free .ensures .1, c .before .before .before .pre .0 .fits))
-
-same-length : tie.Need-same-length
-same-length c = search needs
 
 returns : tie.Need-returns
 unfolding putAt
@@ -50,14 +23,14 @@ pub put-spec : {M : Type 1} → statement M
 put-spec =
     tie.close
     (tie.spec
-    mul-p
-    free-requires
-    add-at
-    sub-words
-    mul-words
-    slice-write-words
-    add-words
-    mul-words-2
+    (λ c. search needs)
+    (λ c κs. search needs)
+    (λ c. search needs)
+    (λ c. search needs)
+    (λ c. search needs)
+    (λ c. search needs)
+    (λ c. search needs)
+    (λ c. search needs)
     slice-write-words-2
-    same-length
+    (λ c. search needs)
     returns)

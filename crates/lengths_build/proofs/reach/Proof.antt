@@ -5,9 +5,6 @@ use borrow.Author.Needs.{needs}
 use Rattle.lengths_build.proofs.reach.Statement.{statement}
 use Rattle.lengths_build.proofs.reach.Tie as tie
 
-stride-requires : tie.Need-stride-requires
-stride-requires c κs = search needs
-
 add-next : tie.Need-add-next
 add-next c = omega (arith, c .stride .ensures .2)
 
@@ -27,4 +24,4 @@ returns-2 c =
     reach-before (a .m) (s .result) (s .ensures .0) (c .if1 .left)
 
 pub reach-spec : {M : Type 1} → statement M
-reach-spec = tie.close (tie.spec stride-requires add-next returns sub-result returns-2)
+reach-spec = tie.close (tie.spec (λ c κs. search needs) add-next returns sub-result returns-2)

@@ -14,26 +14,11 @@ Inv-loop words m v l₀ l = (l < m) × (below words m v l ≡ below words m v (m
 abbrev μ-loop : tie.MeasureT-loop
 μ-loop words m v l₀ l = l
 
-sub-l : tie.Need-sub-l Inv-loop μ-loop
-sub-l c = omega arith
-
 loop-holds : tie.Need-loop-holds Inv-loop μ-loop
 loop-holds c = (omega arith, refl)
 
-sub-l-2 : tie.Need-sub-l-2 Inv-loop μ-loop
-sub-l-2 c = omega arith
-
-sub-look-at : tie.Need-sub-look-at Inv-loop μ-loop
-sub-look-at c = omega arith
-
-shr-look-at : tie.Need-shr-look-at Inv-loop μ-loop
-shr-look-at c = omega arith
-
 look-at-requires : tie.Need-look-at-requires Inv-loop μ-loop
 look-at-requires c κs = (c .before .before .before .pre .0, omega arith)
-
-enum-known-b : tie.Need-enum-known-b Inv-loop μ-loop
-enum-known-b c = search needs
 
 mul-result : tie.Need-mul-result Inv-loop μ-loop
 mul-result c =
@@ -58,12 +43,6 @@ returns c =
     let x = saw (a .words .now) (look-at .result) _ (look-at .ensures) _ (b .given .1) in
     below-hit (a .words .now) (a .m) (a .v) (l .l) _ (omega arith) x ∙ l .inv .1
 
-enum-told : tie.Need-enum-told Inv-loop μ-loop
-enum-told c = search needs
-
-loop-less : tie.Need-loop-less Inv-loop μ-loop
-loop-less c = omega arith
-
 loop-again : tie.Need-loop-again Inv-loop μ-loop
 loop-again c =
     let a = c .before .before .before .before .before .before .args in
@@ -71,12 +50,6 @@ loop-again c =
     let look-at = c .before .before .look-at in
     let x = saw (a .words .now) (look-at .result) _ (look-at .ensures) _ (c .enum-told .given .1) in
     (omega arith, below-miss (a .words .now) (a .m) (a .v) (l .l) (omega arith) x ∙ l .inv .1)
-
-enum-told-2 : tie.Need-enum-told-2 Inv-loop μ-loop
-enum-told-2 c = search needs
-
-loop-less-2 : tie.Need-loop-less-2 Inv-loop μ-loop
-loop-less-2 c = omega arith
 
 loop-again-2 : tie.Need-loop-again-2 Inv-loop μ-loop
 loop-again-2 c =
@@ -101,21 +74,21 @@ shorter-spec =
     (tie.spec
     Inv-loop
     μ-loop
-    sub-l
+    (λ c. omega arith)
     loop-holds
-    sub-l-2
-    sub-look-at
-    shr-look-at
+    (λ c. omega arith)
+    (λ c. omega arith)
+    (λ c. omega arith)
     look-at-requires
-    enum-known-b
+    (λ c. search needs)
     mul-result
     shared-slice-read-result
     returns
-    enum-told
-    loop-less
+    (λ c. search needs)
+    (λ c. omega arith)
     loop-again
-    enum-told-2
-    loop-less-2
+    (λ c. search needs)
+    (λ c. omega arith)
     loop-again-2
     shared-slice-read-result-2
     returns-2)

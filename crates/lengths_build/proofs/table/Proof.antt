@@ -5,27 +5,6 @@ use native.Mathlib.Omega.{arith}
 use Rattle.lengths_build.proofs.table.Statement.{statement}
 use Rattle.lengths_build.proofs.table.Tie as tie
 
-sized-requires : tie.Need-sized-requires
-sized-requires c κs = search needs
-
-enter-header-requires : tie.Need-enter-header-requires
-enter-header-requires c κs = search needs
-
-mul-o : tie.Need-mul-o
-mul-o c = search needs
-
-add-o : tie.Need-add-o
-add-o c = search needs
-
-mul-end : tie.Need-mul-end
-mul-end c = search needs
-
-add-end : tie.Need-add-end
-add-end c = search needs
-
-clear-requires : tie.Need-clear-requires
-clear-requires c κs = search needs
-
 fill-requires : tie.Need-fill-requires
 fill-requires c κs =
     let s = c .before .before .before .before .before .before .before .before .before .before .before .before in
@@ -45,9 +24,6 @@ fill-requires-2 c κs =
     make-second (s .args .bytes .now) (s .args .words .now) (s .args .m) (s .args .before) (s .args .count) (s .pre) (z .result) (z .ensures .0)
     (h .last .0) (h .ensures) (k .last .0) _ (omega arith) (k .ensures) (f .last .1 .0) (f .ensures)
 
-same-length : tie.Need-same-length
-same-length c = search needs
-
 returns : tie.Need-returns
 returns c =
     let q = c .before .before .before .before .before .before .before .before .before .before in
@@ -64,14 +40,14 @@ pub table-spec : {M : Type 1} → statement M
 table-spec =
     tie.close
     (tie.spec
-    sized-requires
-    enter-header-requires
-    mul-o
-    add-o
-    mul-end
-    add-end
-    clear-requires
+    (λ c κs. search needs)
+    (λ c κs. search needs)
+    (λ c. search needs)
+    (λ c. search needs)
+    (λ c. search needs)
+    (λ c. search needs)
+    (λ c κs. search needs)
     fill-requires
     fill-requires-2
-    same-length
+    (λ c. search needs)
     returns)

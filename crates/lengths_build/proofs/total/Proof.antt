@@ -26,17 +26,11 @@ loop-holds c =
     let d = c .defaults in
     (omega arith, total-none (listOf (a .bytes .now)) (d .result) (d .ensures .0), omega (arith, d .ensures .1))
 
-add-m : tie.Need-add-m Inv-loop μ-loop
-add-m c = omega arith
-
 entries-requires : tie.Need-entries-requires Inv-loop μ-loop
 entries-requires c κs = (c .before .before .before .before .pre, omega arith, omega arith)
 
 add-sum : tie.Need-add-sum Inv-loop μ-loop
 add-sum c = omega (arith, c .entries .ensures .1, c .before .before .loop .inv .2)
-
-loop-less : tie.Need-loop-less Inv-loop μ-loop
-loop-less c = omega arith
 
 loop-again : tie.Need-loop-again Inv-loop μ-loop
 loop-again c =
@@ -63,9 +57,9 @@ total-spec =
     μ-loop
     defaults-requires
     loop-holds
-    add-m
+    (λ c. omega arith)
     entries-requires
     add-sum
-    loop-less
+    (λ c. omega arith)
     loop-again
     returns)

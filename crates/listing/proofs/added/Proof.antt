@@ -8,19 +8,10 @@ use native.Mathlib.Omega.{arith}
 use Rattle.listing.proofs.added.Statement.{statement}
 use Rattle.listing.proofs.added.Tie as tie
 
-is-fours-requires : tie.Need-is-fours-requires
-is-fours-requires c κs = search needs
-
 returns : tie.Need-returns
 returns c =
     let test = c .before .is-fours in
     rw (sym (test .ensures) ∙ not-true (test .result) (c .if1 .taken)) (refl, omega arith)
-
-begin-requires : tie.Need-begin-requires
-begin-requires c κs = search needs
-
-add-at : tie.Need-add-at
-add-at c = search needs
 
 shared-slice-read-result : tie.Need-shared-slice-read-result
 shared-slice-read-result c =
@@ -52,10 +43,10 @@ pub added-spec : {M : Type 1} → statement M
 added-spec =
     tie.close
     (tie.spec
-    is-fours-requires
+    (λ c κs. search needs)
     returns
-    begin-requires
-    add-at
+    (λ c κs. search needs)
+    (λ c. search needs)
     shared-slice-read-result
     cast-result
     returns-2)

@@ -5,9 +5,6 @@ use native.Mathlib.Omega.{arith}
 use Rattle.listing.proofs.begin.Statement.{statement}
 use Rattle.listing.proofs.begin.Tie as tie
 
-size-requires : tie.Need-size-requires
-size-requires c κs = search needs
-
 mul-result : tie.Need-mul-result
 mul-result c =
     let s = c .before .before in
@@ -22,4 +19,4 @@ returns c =
     begin-of (s .args .bytes .now) (c .size .result) (c .size .ensures .0) (s .args .i) (c .size .ensures .1) (s .pre)
 
 pub begin-spec : {M : Type 1} → statement M
-begin-spec = tie.close (tie.spec size-requires mul-result returns)
+begin-spec = tie.close (tie.spec (λ c κs. search needs) mul-result returns)

@@ -6,15 +6,6 @@ use native.Mathlib.Omega.{arith}
 use Rattle.listing.proofs.bits.Statement.{statement}
 use Rattle.listing.proofs.bits.Tie as tie
 
-begin-requires : tie.Need-begin-requires
-begin-requires c κs = search needs
-
-add-at : tie.Need-add-at
-add-at c = search needs
-
-shared-slice-read-result : tie.Need-shared-slice-read-result
-shared-slice-read-result c = search needs
-
 cast-result : tie.Need-cast-result
 cast-result c = omega (arith, c .shared-slice-known2 .given (c .before .begin .result + 5))
 
@@ -22,4 +13,4 @@ returns : tie.Need-returns
 returns c = (rw (c .before .begin .ensures .at) refl, omega (arith, c .shared-slice-known2 .given (c .before .begin .result + 5)))
 
 pub bits-spec : {M : Type 1} → statement M
-bits-spec = tie.close (tie.spec begin-requires add-at shared-slice-read-result cast-result returns)
+bits-spec = tie.close (tie.spec (λ c κs. search needs) (λ c. search needs) (λ c. search needs) cast-result returns)

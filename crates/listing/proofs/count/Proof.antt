@@ -19,25 +19,10 @@ Inv-loop bytes from to m i₀ seen₀ last₀ i seen last =
 abbrev μ-loop : tie.MeasureT-loop
 μ-loop bytes from to m i₀ seen₀ last₀ i seen last = i
 
-records-requires : tie.Need-records-requires Inv-loop μ-loop
-records-requires c κs = search needs
-
 loop-holds : tie.Need-loop-holds Inv-loop μ-loop
 loop-holds c =
     let a = c .before .before .args in
     rw (c .records .ensures .0) (omega arith, counts-none (between (a .from) (a .to)) (a .m) (recordsIn (a .bytes .now)) (a .bytes .now))
-
-sub-i : tie.Need-sub-i Inv-loop μ-loop
-sub-i c = omega arith
-
-bits-requires : tie.Need-bits-requires Inv-loop μ-loop
-bits-requires c κs = omega arith
-
-is-between-requires : tie.Need-is-between-requires Inv-loop μ-loop
-is-between-requires c κs = search needs
-
-address-requires : tie.Need-address-requires Inv-loop μ-loop
-address-requires c κs = omega arith
 
 counted-requires : tie.Need-counted-requires Inv-loop μ-loop
 counted-requires c κs =
@@ -51,9 +36,6 @@ counted-requires c κs =
       ),
       s .pre .1,
     )
-
-loop-less : tie.Need-loop-less Inv-loop μ-loop
-loop-less c = omega arith
 
 loop-again : tie.Need-loop-again Inv-loop μ-loop
 loop-again c =
@@ -71,9 +53,6 @@ loop-again c =
           (c .counted .result) e (if1 .taken) (c .before .address .ensures)
           (c .counted .ensures),
     )
-
-loop-less-2 : tie.Need-loop-less-2 Inv-loop μ-loop
-loop-less-2 c = omega arith
 
 loop-again-2 : tie.Need-loop-again-2 Inv-loop μ-loop
 loop-again-2 c =
@@ -103,15 +82,15 @@ count-spec =
     (tie.spec
     Inv-loop
     μ-loop
-    records-requires
+    (λ c κs. search needs)
     loop-holds
-    sub-i
-    bits-requires
-    is-between-requires
-    address-requires
+    (λ c. omega arith)
+    (λ c κs. omega arith)
+    (λ c κs. search needs)
+    (λ c κs. omega arith)
     counted-requires
-    loop-less
+    (λ c. omega arith)
     loop-again
-    loop-less-2
+    (λ c. omega arith)
     loop-again-2
     returns)

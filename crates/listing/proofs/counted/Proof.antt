@@ -6,12 +6,6 @@ use borrow.Author.Needs.{needs}
 use Rattle.listing.proofs.counted.Statement.{statement}
 use Rattle.listing.proofs.counted.Tie as tie
 
-first-requires : tie.Need-first-requires
-first-requires c κs = search needs
-
-add-result : tie.Need-add-result
-add-result c = search needs
-
 returns : tie.Need-returns
 returns c =
     let s = c .before .before in
@@ -32,4 +26,4 @@ returns-3 c =
     counted-same (a .seen) (a .address) (a .last) (a .m) (sym (f .ensures) ∙ not-false (f .result) (c .before .if1 .left)) (c .if2 .left)
 
 pub counted-spec : {M : Type 1} → statement M
-counted-spec = tie.close (tie.spec first-requires add-result returns returns-2 returns-3)
+counted-spec = tie.close (tie.spec (λ c κs. search needs) (λ c. search needs) returns returns-2 returns-3)

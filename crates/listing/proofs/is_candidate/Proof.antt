@@ -5,18 +5,6 @@ use borrow.Author.Needs.{needs}
 use Rattle.listing.proofs.is_candidate.Statement.{statement}
 use Rattle.listing.proofs.is_candidate.Tie as tie
 
-address-requires : tie.Need-address-requires
-address-requires c κs = search needs
-
-bits-requires : tie.Need-bits-requires
-bits-requires c κs = search needs
-
-hop-requires : tie.Need-hop-requires
-hop-requires c κs = search needs
-
-is-route-requires : tie.Need-is-route-requires
-is-route-requires c κs = search needs
-
 returns : tie.Need-returns
 returns c =
     let a = c .before .before .before .before .before .before .args in
@@ -26,9 +14,6 @@ returns c =
     let test = c .before .is-route in
     candidate-bad (candidateAt (a .bytes .now) (a .i)) (address .result) (bits .result) (hop .result) (test .result) (address .ensures)
     (bits .ensures .0) (hop .ensures .0) (test .ensures) (c .if1 .taken)
-
-feed-requires : tie.Need-feed-requires
-feed-requires c κs = search needs
 
 returns-2 : tie.Need-returns-2
 returns-2 c =
@@ -56,11 +41,11 @@ pub is-candidate-spec : {M : Type 1} → statement M
 is-candidate-spec =
     tie.close
     (tie.spec
-    address-requires
-    bits-requires
-    hop-requires
-    is-route-requires
+    (λ c κs. search needs)
+    (λ c κs. search needs)
+    (λ c κs. search needs)
+    (λ c κs. search needs)
     returns
-    feed-requires
+    (λ c κs. search needs)
     returns-2
     returns-3)

@@ -7,11 +7,5 @@ use Rattle.listing.proofs.is_fours.Tie as tie
 returns : tie.Need-returns
 returns c = fours-none (c .before .args .bytes .now) (c .if1 .taken)
 
-shared-slice-read-result : tie.Need-shared-slice-read-result
-shared-slice-read-result c = search needs
-
-returns-2 : tie.Need-returns-2
-returns-2 c = search needs
-
 pub is-fours-spec : {M : Type 1} → statement M
-is-fours-spec = tie.close (tie.spec returns shared-slice-read-result returns-2)
+is-fours-spec = tie.close (tie.spec returns (λ c. search needs) (λ c. search needs))

@@ -9,23 +9,11 @@ use Rattle.listing.proofs.is_last.Tie as tie
 add-if1 : tie.Need-add-if1
 add-if1 c = omega (arith, c .before .pre, records-few (c .before .args .bytes .now))
 
-records-requires : tie.Need-records-requires
-records-requires c κs = search needs
-
 returns : tie.Need-returns
 returns c =
     let s = c .before .before .before in
     let records = c .before .records in
     last-end (s .args .bytes .now) (s .args .i) (records .result) (records .ensures .0) (c .if1 .taken)
-
-add-prefix : tie.Need-add-prefix
-add-prefix c = search needs
-
-prefix-requires : tie.Need-prefix-requires
-prefix-requires c κs = search needs
-
-prefix-requires-2 : tie.Need-prefix-requires-2
-prefix-requires-2 c κs = search needs
 
 returns-2 : tie.Need-returns-2
 returns-2 c =
@@ -39,9 +27,9 @@ is-last-spec =
     tie.close
     (tie.spec
     add-if1
-    records-requires
+    (λ c κs. search needs)
     returns
-    add-prefix
-    prefix-requires
-    prefix-requires-2
+    (λ c. search needs)
+    (λ c κs. search needs)
+    (λ c κs. search needs)
     returns-2)

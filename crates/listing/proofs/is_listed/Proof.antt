@@ -18,9 +18,6 @@ Inv-loop bytes size n end i₀ i = (i ≤ recordsIn bytes) × (allB (recordB byt
 abbrev μ-loop : tie.MeasureT-loop
 μ-loop bytes size n end i₀ i = recordsIn bytes - i
 
-size-requires : tie.Need-size-requires Inv-loop μ-loop
-size-requires c κs = search needs
-
 div-n : tie.Need-div-n Inv-loop μ-loop
 div-n c = omega (arith, c .size .ensures .1)
 
@@ -104,7 +101,7 @@ is-listed-spec =
     (tie.spec
     Inv-loop
     μ-loop
-    size-requires
+    (λ c κs. search needs)
     div-n
     mul-end
     rem-if1

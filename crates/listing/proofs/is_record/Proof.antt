@@ -4,24 +4,12 @@ use borrow.Author.Needs.{needs}
 use Rattle.listing.proofs.is_record.Statement.{statement}
 use Rattle.listing.proofs.is_record.Tie as tie
 
-begin-requires : tie.Need-begin-requires
-begin-requires c κs = search needs
-
-shared-slice-read-if1 : tie.Need-shared-slice-read-if1
-shared-slice-read-if1 c = search needs
-
-kind-requires : tie.Need-kind-requires
-kind-requires c κs = search needs
-
 returns : tie.Need-returns
 returns c =
     let a = c .before .before .before .before .before .args in
     let begin = c .before .before .before .begin in
     let kind = c .before .kind in
     record-kind (a .bytes .now) (a .i) (begin .result) (kind .result) (begin .ensures .at) (kind .ensures) (c .if1 .taken)
-
-is-candidate-requires : tie.Need-is-candidate-requires
-is-candidate-requires c κs = search needs
 
 returns-2 : tie.Need-returns-2
 returns-2 c =
@@ -43,15 +31,6 @@ returns-3 c =
     record-first (a .bytes .now) (a .i) (begin .result) (kind .result) (begin .ensures .at) (kind .ensures) (test .result) (test .ensures)
     (if1 .left) (c .before .if2 .left) (c .if3 .taken)
 
-sub-key-at : tie.Need-sub-key-at
-sub-key-at c = search needs
-
-key-at-requires : tie.Need-key-at-requires
-key-at-requires c κs = search needs
-
-key-at-requires-2 : tie.Need-key-at-requires-2
-key-at-requires-2 c κs = search needs
-
 returns-4 : tie.Need-returns-4
 returns-4 c =
     let a = c .before .before .before .before .before .before .before .before .before .before .args in
@@ -68,14 +47,14 @@ pub is-record-spec : {M : Type 1} → statement M
 is-record-spec =
     tie.close
     (tie.spec
-    begin-requires
-    shared-slice-read-if1
-    kind-requires
+    (λ c κs. search needs)
+    (λ c. search needs)
+    (λ c κs. search needs)
     returns
-    is-candidate-requires
+    (λ c κs. search needs)
     returns-2
     returns-3
-    sub-key-at
-    key-at-requires
-    key-at-requires-2
+    (λ c. search needs)
+    (λ c κs. search needs)
+    (λ c κs. search needs)
     returns-4)

@@ -7,9 +7,6 @@ use Rattle.listing.proofs.is_route.Tie as tie
 returns : tie.Need-returns
 returns c = route-long (c .before .args .address) (c .before .args .length) (c .before .args .hop) (c .if1 .taken)
 
-stray-requires : tie.Need-stray-requires
-stray-requires c κs = search needs
-
 returns-2 : tie.Need-returns-2
 returns-2 c =
     let a = c .before .before .before .args in
@@ -31,4 +28,4 @@ returns-4 c =
     route-hop (a .address) (a .length) (a .hop) (stray .result) (stray .ensures) (if1 .left) (c .before .if2 .left) (c .if3 .left)
 
 pub is-route-spec : {M : Type 1} → statement M
-is-route-spec = tie.close (tie.spec returns stray-requires returns-2 returns-3 returns-4)
+is-route-spec = tie.close (tie.spec returns (λ c κs. search needs) returns-2 returns-3 returns-4)

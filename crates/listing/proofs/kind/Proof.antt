@@ -4,9 +4,6 @@ use borrow.Author.Needs.{needs}
 use Rattle.listing.proofs.kind.Statement.{statement}
 use Rattle.listing.proofs.kind.Tie as tie
 
-is-fours-requires : tie.Need-is-fours-requires
-is-fours-requires c κs = search needs
-
 returns : tie.Need-returns
 returns c = rw (sym (c .before .is-fours .ensures) ∙ c .if1 .taken) refl
 
@@ -14,4 +11,4 @@ returns-2 : tie.Need-returns-2
 returns-2 c = rw (sym (c .before .is-fours .ensures) ∙ c .if1 .left) refl
 
 pub kind-spec : {M : Type 1} → statement M
-kind-spec = tie.close (tie.spec is-fours-requires returns returns-2)
+kind-spec = tie.close (tie.spec (λ c κs. search needs) returns returns-2)

@@ -4,14 +4,8 @@ use borrow.Author.Needs.{needs}
 use Rattle.listing.proofs.records.Statement.{statement}
 use Rattle.listing.proofs.records.Tie as tie
 
-size-requires : tie.Need-size-requires
-size-requires c κs = search needs
-
-div-result : tie.Need-div-result
-div-result c = search needs
-
 returns : tie.Need-returns
 returns c = records-of (c .before .before .args .bytes .now) (c .size .result) (c .size .ensures .0)
 
 pub records-spec : {M : Type 1} → statement M
-records-spec = tie.close (tie.spec size-requires div-result returns)
+records-spec = tie.close (tie.spec (λ c κs. search needs) (λ c. search needs) returns)

@@ -17,23 +17,14 @@ Inv-loop bytes i₀ seen₀ i seen = (seen + i ≤ recordsIn bytes) × (seen ≡
 abbrev μ-loop : tie.MeasureT-loop
 μ-loop bytes i₀ seen₀ i seen = i
 
-records-requires : tie.Need-records-requires Inv-loop μ-loop
-records-requires c κs = search needs
-
 loop-holds : tie.Need-loop-holds Inv-loop μ-loop
 loop-holds c = (omega (arith, c .records .ensures .0), rw (c .records .ensures .0) (sym (routes-none (c .before .before .args .bytes .now))))
-
-sub-i : tie.Need-sub-i Inv-loop μ-loop
-sub-i c = omega arith
 
 is-last-requires : tie.Need-is-last-requires Inv-loop μ-loop
 is-last-requires c κs = omega (arith, c .before .loop .inv .0)
 
 add-seen : tie.Need-add-seen Inv-loop μ-loop
 add-seen c = omega (arith, c .before .before .before .loop .inv .0, records-few (c .before .before .before .before .before .before .args .bytes .now))
-
-loop-less : tie.Need-loop-less Inv-loop μ-loop
-loop-less c = omega arith
 
 loop-again : tie.Need-loop-again Inv-loop μ-loop
 loop-again c =
@@ -44,9 +35,6 @@ loop-again c =
       rw (l .inv .1) (sym (routes-more (s .args .bytes .now) (s .pre) (l .i) (l .i - 1) (omega arith) (omega (arith, l .inv .0))
           (rw (c .if1 .taken) at (last .ensures)))),
     )
-
-loop-less-2 : tie.Need-loop-less-2 Inv-loop μ-loop
-loop-less-2 c = omega arith
 
 loop-again-2 : tie.Need-loop-again-2 Inv-loop μ-loop
 loop-again-2 c =
@@ -69,13 +57,13 @@ routes-spec =
     (tie.spec
     Inv-loop
     μ-loop
-    records-requires
+    (λ c κs. search needs)
     loop-holds
-    sub-i
+    (λ c. omega arith)
     is-last-requires
     add-seen
-    loop-less
+    (λ c. omega arith)
     loop-again
-    loop-less-2
+    (λ c. omega arith)
     loop-again-2
     returns)

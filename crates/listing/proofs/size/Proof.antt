@@ -5,9 +5,6 @@ use native.Mathlib.Omega.{arith}
 use Rattle.listing.proofs.size.Statement.{statement}
 use Rattle.listing.proofs.size.Tie as tie
 
-is-fours-requires : tie.Need-is-fours-requires
-is-fours-requires c κs = search needs
-
 returns : tie.Need-returns
 returns c = rw (sym (c .before .is-fours .ensures) ∙ c .if1 .taken) (refl, omega arith, omega arith)
 
@@ -15,4 +12,4 @@ returns-2 : tie.Need-returns-2
 returns-2 c = rw (sym (c .before .is-fours .ensures) ∙ c .if1 .left) (refl, omega arith, omega arith)
 
 pub size-spec : {M : Type 1} → statement M
-size-spec = tie.close (tie.spec is-fours-requires returns returns-2)
+size-spec = tie.close (tie.spec (λ c κs. search needs) returns returns-2)

@@ -38,9 +38,6 @@ loop-holds c =
       c .hop .ensures .1,
     )
 
-sub-is-last : tie.Need-sub-is-last Inv-loop μ-loop
-sub-is-last c = omega arith
-
 is-last-requires : tie.Need-is-last-requires Inv-loop μ-loop
 is-last-requires c κs = omega (arith, c .before .loop .inv .0)
 
@@ -55,17 +52,11 @@ returns c =
       l .inv .3,
     )
 
-sub-j : tie.Need-sub-j Inv-loop μ-loop
-sub-j c = omega arith
-
 rank-requires-2 : tie.Need-rank-requires-2 Inv-loop μ-loop
 rank-requires-2 c κs = omega (arith, c .before .before .before .loop .inv .0)
 
 hop-requires-2 : tie.Need-hop-requires-2 Inv-loop μ-loop
 hop-requires-2 c κs = omega (arith, c .before .before .before .before .before .loop .inv .0)
-
-loop-less : tie.Need-loop-less Inv-loop μ-loop
-loop-less c = omega arith
 
 loop-again : tie.Need-loop-again Inv-loop μ-loop
 loop-again c =
@@ -84,9 +75,6 @@ loop-again c =
           (c .hop2 .result) (c .hop2 .ensures .0) (c .before .if2 .taken),
       c .hop2 .ensures .1,
     )
-
-loop-less-2 : tie.Need-loop-less-2 Inv-loop μ-loop
-loop-less-2 c = omega arith
 
 loop-again-2 : tie.Need-loop-again-2 Inv-loop μ-loop
 loop-again-2 c =
@@ -125,14 +113,14 @@ winner-spec =
     rank-requires
     hop-requires
     loop-holds
-    sub-is-last
+    (λ c. omega arith)
     is-last-requires
     returns
-    sub-j
+    (λ c. omega arith)
     rank-requires-2
     hop-requires-2
-    loop-less
+    (λ c. omega arith)
     loop-again
-    loop-less-2
+    (λ c. omega arith)
     loop-again-2
     returns-2)

@@ -25,29 +25,14 @@ Inv-loop words address arrays a₀ best₀ k₀ a best k =
 abbrev μ-loop : tie.MeasureT-loop
 μ-loop words address arrays a₀ best₀ k₀ a best k = length address - k
 
-arrays-in-requires : tie.Need-arrays-in-requires Inv-loop μ-loop
-arrays-in-requires c κs = search needs
-
 loop-holds : tie.Need-loop-holds Inv-loop μ-loop
 loop-holds c =
     let L = length (c .before .before .before .args .address .now) in
     let e : L - 0 ≡ L = omega arith in
     (omega arith, omega arith, omega arith, rw e)
 
-byte-at-requires : tie.Need-byte-at-requires Inv-loop μ-loop
-byte-at-requires c κs = search needs
-
 cell-requires : tie.Need-cell-requires Inv-loop μ-loop
 cell-requires c κs = (omega arith, omega arith)
-
-cast-base : tie.Need-cast-base Inv-loop μ-loop
-cast-base c = search needs
-
-mul-base : tie.Need-mul-base Inv-loop μ-loop
-mul-base c = search needs
-
-has-link-requires : tie.Need-has-link-requires Inv-loop μ-loop
-has-link-requires c κs = search needs
 
 last-requires : tie.Need-last-requires Inv-loop μ-loop
 last-requires c κs =
@@ -72,9 +57,6 @@ returns c =
 best-linked-requires : tie.Need-best-linked-requires Inv-loop μ-loop
 best-linked-requires c κs = linked-by _ _ (c .before .has-link .ensures) (not-false _ (c .if1 .left))
 
-astray-requires : tie.Need-astray-requires Inv-loop μ-loop
-astray-requires c κs = search needs
-
 returns-2 : tie.Need-returns-2 Inv-loop μ-loop
 returns-2 c =
     let o = c .before .before in
@@ -92,9 +74,6 @@ returns-2 c =
 array-below-requires : tie.Need-array-below-requires Inv-loop μ-loop
 array-below-requires c κs = linked-by _ _ (c .before .before .before .has-link .ensures) (not-false _ (c .before .before .if1 .left))
 
-astray-requires-2 : tie.Need-astray-requires-2 Inv-loop μ-loop
-astray-requires-2 c κs = search needs
-
 returns-3 : tie.Need-returns-3 Inv-loop μ-loop
 returns-3 c =
     let b = c .before .before in
@@ -110,15 +89,6 @@ returns-3 c =
     ∙ bad-link L (s .words .now) (number (s .address .now)) (l .k) (L - l .k) (l .a) (y .result) (deeper 0 none (l .best)) (omega arith) (omega arith)
     (y .ensures .0) (λ z. i (e ∙ z)) (omega (arith, b .array-below .ensures .0, e))
     ∙ l .inv .3
-
-newer-requires : tie.Need-newer-requires Inv-loop μ-loop
-newer-requires c κs = search needs
-
-add-k : tie.Need-add-k Inv-loop μ-loop
-add-k c = search needs
-
-loop-less : tie.Need-loop-less Inv-loop μ-loop
-loop-less c = search needs
 
 loop-again : tie.Need-loop-again Inv-loop μ-loop
 loop-again c =
@@ -144,9 +114,6 @@ loop-again c =
     (omega (arith, q)) (λ z. i (e ∙ z)) (omega (arith, p)) in
     (omega arith, omega arith, omega arith, rw (d, p, n) on ∙ l .inv .3)
 
-astray-requires-3 : tie.Need-astray-requires-3 Inv-loop μ-loop
-astray-requires-3 c κs = search needs
-
 returns-4 : tie.Need-returns-4 Inv-loop μ-loop
 returns-4 c =
     let l = c .before .before .loop in
@@ -162,24 +129,24 @@ descend-spec =
     (tie.spec
     Inv-loop
     μ-loop
-    arrays-in-requires
+    (λ c κs. search needs)
     loop-holds
-    byte-at-requires
+    (λ c κs. search needs)
     cell-requires
-    cast-base
-    mul-base
-    has-link-requires
+    (λ c. search needs)
+    (λ c. search needs)
+    (λ c κs. search needs)
     last-requires
     returns
     best-linked-requires
-    astray-requires
+    (λ c κs. search needs)
     returns-2
     array-below-requires
-    astray-requires-2
+    (λ c κs. search needs)
     returns-3
-    newer-requires
-    add-k
-    loop-less
+    (λ c κs. search needs)
+    (λ c. search needs)
+    (λ c. search needs)
     loop-again
-    astray-requires-3
+    (λ c κs. search needs)
     returns-4)

@@ -7,12 +7,6 @@ use Rattle.lookup.proofs.Laws.{last-long, last-wide, last-good}
 use Rattle.lookup.proofs.last.Statement.{statement}
 use Rattle.lookup.proofs.last.Tie as tie
 
-best-plain-requires : tie.Need-best-plain-requires
-best-plain-requires c κs = search needs
-
-astray-requires : tie.Need-astray-requires
-astray-requires c κs = search needs
-
 returns : tie.Need-returns
 returns c =
     let b = c .before .before in
@@ -20,24 +14,12 @@ returns c =
     c .astray .ensures
     ∙ last-long (a .best) (bestIn (a .word)) (blockIn (a .word)) (a .base) (omega (arith, b .best-plain .ensures .0))
 
-block-in-requires : tie.Need-block-in-requires
-block-in-requires c κs = search needs
-
-astray-requires-2 : tie.Need-astray-requires-2
-astray-requires-2 c κs = search needs
-
 returns-2 : tie.Need-returns-2
 returns-2 c =
     let q = c .before .before in
     let a = q .before .before .before .args in
     c .astray2 .ensures
     ∙ last-wide (a .best) (bestIn (a .word)) (blockIn (a .word)) (a .base) (omega (arith, q .block-in .ensures .0))
-
-newer-requires : tie.Need-newer-requires
-newer-requires c κs = search needs
-
-add-t8 : tie.Need-add-t8
-add-t8 c = search needs
 
 returns-3 : tie.Need-returns-3
 returns-3 c =
@@ -52,12 +34,12 @@ pub last-spec : {M : Type 1} → statement M
 last-spec =
     tie.close
     (tie.spec
-    best-plain-requires
-    astray-requires
+    (λ c κs. search needs)
+    (λ c κs. search needs)
     returns
-    block-in-requires
-    astray-requires-2
+    (λ c κs. search needs)
+    (λ c κs. search needs)
     returns-2
-    newer-requires
-    add-t8
+    (λ c κs. search needs)
+    (λ c. search needs)
     returns-3)

@@ -4,14 +4,8 @@ use borrow.Author.Needs.{needs}
 use Rattle.lookup.proofs.lookup.Statement.{statement}
 use Rattle.lookup.proofs.lookup.Tie as tie
 
-walk-of-requires : tie.Need-walk-of-requires
-walk-of-requires c κs = search needs
-
-told-requires : tie.Need-told-requires
-told-requires c κs = search needs
-
 returns : tie.Need-returns
 returns c = (c .told .ensures ∙ c .before .walk-of .ensures .0, c .told .ensures ∙ c .before .walk-of .ensures .1)
 
 pub lookup-spec : {M : Type 1} → statement M
-lookup-spec = tie.close (tie.spec walk-of-requires told-requires returns)
+lookup-spec = tie.close (tie.spec (λ c κs. search needs) (λ c κs. search needs) returns)

@@ -9,12 +9,6 @@ use Rattle.lookup.proofs.Laws.{gave, both}
 use Rattle.lookup.proofs.lookup_on.Statement.{statement}
 use Rattle.lookup.proofs.lookup_on.Tie as tie
 
-descend-requires : tie.Need-descend-requires
-descend-requires c κs = search needs
-
-told-requires : tie.Need-told-requires
-told-requires c κs = search needs
-
 returns : tie.Need-returns
 returns c =
     let d = c .before in
@@ -27,4 +21,4 @@ returns c =
     .0
 
 pub lookup-on-spec : {M : Type 1} → statement M
-lookup-on-spec = tie.close (tie.spec descend-requires told-requires returns)
+lookup-on-spec = tie.close (tie.spec (λ c κs. search needs) (λ c κs. search needs) returns)

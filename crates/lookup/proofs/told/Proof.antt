@@ -4,9 +4,6 @@ use Rattle.lookup.proofs.Laws.{told-refused, told-none, told-some}
 use Rattle.lookup.proofs.told.Statement.{statement}
 use Rattle.lookup.proofs.told.Tie as tie
 
-sub-t5 : tie.Need-sub-t5
-sub-t5 c = search needs
-
 returns : tie.Need-returns
 returns c = told-refused (c .before .args .end) (c .if1 .taken)
 
@@ -18,4 +15,4 @@ returns-3 c =
     told-some (c .before .before .before .before .args .end) (c .before .before .before .if1 .left) (c .before .if2 .left)
 
 pub told-spec : {M : Type 1} → statement M
-told-spec = tie.close (tie.spec sub-t5 returns returns-2 returns-3)
+told-spec = tie.close (tie.spec (λ c. search needs) returns returns-2 returns-3)

@@ -10,9 +10,6 @@ use Rattle.lookup.proofs.Laws.{small-words, gave, both}
 use Rattle.lookup.proofs.walk_along.Statement.{statement}
 use Rattle.lookup.proofs.walk_along.Tie as tie
 
-misfit-requires : tie.Need-misfit-requires
-misfit-requires c κs = search needs
-
 returns : tie.Need-returns
 returns c =
     let k = c .before .before in
@@ -36,4 +33,4 @@ returns-2 c =
     (gave (length bs) ws (number bs) (c .descend .result) (sym (f .before .misfit .ensures) ∙ f .if1 .left) (c .descend .ensures))
 
 pub walk-along-spec : {M : Type 1} → statement M
-walk-along-spec = tie.close (tie.spec misfit-requires returns descend-requires returns-2)
+walk-along-spec = tie.close (tie.spec (λ c κs. search needs) returns descend-requires returns-2)

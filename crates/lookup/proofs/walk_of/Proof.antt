@@ -8,15 +8,6 @@ use Rattle.numbers.specs.Four.{four-number}
 use Rattle.lookup.proofs.walk_of.Statement.{statement}
 use Rattle.lookup.proofs.walk_of.Tie as tie
 
-four-of-requires : tie.Need-four-of-requires
-four-of-requires c κs = search needs
-
-slice-aggregate-walk-along : tie.Need-slice-aggregate-walk-along
-slice-aggregate-walk-along c = search needs
-
-walk-along-requires : tie.Need-walk-along-requires
-walk-along-requires c κs = search needs
-
 returns : tie.Need-returns
 returns c =
     let f = c .before .before in
@@ -26,4 +17,4 @@ returns c =
     rw (e, v) at (c .walk-along .ensures)
 
 pub walk-of-spec : {M : Type 1} → statement M
-walk-of-spec = tie.close (tie.spec four-of-requires slice-aggregate-walk-along walk-along-requires returns)
+walk-of-spec = tie.close (tie.spec (λ c κs. search needs) (λ c. search needs) (λ c κs. search needs) returns)

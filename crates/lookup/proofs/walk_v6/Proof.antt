@@ -5,16 +5,10 @@ use borrow.Author.Needs.{needs}
 use Rattle.lookup.proofs.walk_v6.Statement.{statement}
 use Rattle.lookup.proofs.walk_v6.Tie as tie
 
-slice-aggregate-walk-along : tie.Need-slice-aggregate-walk-along
-slice-aggregate-walk-along c = search needs
-
-walk-along-requires : tie.Need-walk-along-requires
-walk-along-requires c κs = search needs
-
 returns : tie.Need-returns
 returns c =
     let e : length (c .before .before .before .args .t2) ≡ 16 = search needs in
     rw e at (c .walk-along .ensures)
 
 pub walk-v6-spec : {M : Type 1} → statement M
-walk-v6-spec = tie.close (tie.spec slice-aggregate-walk-along walk-along-requires returns)
+walk-v6-spec = tie.close (tie.spec (λ c. search needs) (λ c κs. search needs) returns)

@@ -8,11 +8,8 @@ use native.Mathlib.Omega.{arith}
 use Rattle.numbers.proofs.power.Statement.{statement}
 use Rattle.numbers.proofs.power.Tie as tie
 
-shl-result : tie.Need-shl-result
-shl-result c = search needs
-
 returns : tie.Need-returns
 returns c = shl-exact {a = 1} 1 (c .args .n) 32 (omega arith) (omega arith) ∙ one-mul (2 ^ c .args .n)
 
 pub power-spec : {M : Type 1} → statement M
-power-spec = tie.close (tie.spec shl-result returns)
+power-spec = tie.close (tie.spec (λ c. search needs) returns)

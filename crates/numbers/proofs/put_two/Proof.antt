@@ -6,23 +6,8 @@ use borrow.Author.Needs.{needs}
 use Rattle.numbers.proofs.put_two.Statement.{statement}
 use Rattle.numbers.proofs.put_two.Tie as tie
 
-cast-bytes : tie.Need-cast-bytes
-cast-bytes c = search needs
-
-slice-write-bytes : tie.Need-slice-write-bytes
-slice-write-bytes c = search needs
-
-cast-bytes-2 : tie.Need-cast-bytes-2
-cast-bytes-2 c = search needs
-
-add-bytes : tie.Need-add-bytes
-add-bytes c = search needs
-
 slice-write-bytes-2 : tie.Need-slice-write-bytes-2
 slice-write-bytes-2 c = simp length-set (omega arith)
-
-same-length : tie.Need-same-length
-same-length c = search needs
 
 returns : tie.Need-returns
 returns c = rw add-one
@@ -30,4 +15,4 @@ returns c = rw add-one
 pub put-two-spec : {M : Type 1} → statement M
 put-two-spec =
     tie.close
-    (tie.spec cast-bytes slice-write-bytes cast-bytes-2 add-bytes slice-write-bytes-2 same-length returns)
+    (tie.spec (λ c. search needs) (λ c. search needs) (λ c. search needs) (λ c. search needs) slice-write-bytes-2 (λ c. search needs) returns)

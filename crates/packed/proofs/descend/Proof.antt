@@ -25,9 +25,6 @@ abbrev μ-loop : tie.MeasureT-loop
 loop-holds : tie.Need-loop-holds Inv-loop μ-loop
 loop-holds c = (omega arith, omega arith, omega arith, refl)
 
-sub-left : tie.Need-sub-left Inv-loop μ-loop
-sub-left c = omega arith
-
 returns : tie.Need-returns Inv-loop μ-loop
 returns c =
     let l = c .before .before .loop in
@@ -35,23 +32,8 @@ returns c =
     turn-mask (a .words .now) (a .address) (l .left) (l .o) (l .m) (deeper 0 none (l .best)) (omega arith) (l .inv .0) (c .if1 .taken)
     ∙ l .inv .3
 
-mul-y : tie.Need-mul-y Inv-loop μ-loop
-mul-y c = omega arith
-
-shr-y : tie.Need-shr-y Inv-loop μ-loop
-shr-y c = omega arith
-
 index-requires : tie.Need-index-requires Inv-loop μ-loop
 index-requires c κs = (omega arith, omega arith)
-
-mul-at : tie.Need-mul-at Inv-loop μ-loop
-mul-at c = omega arith
-
-add-at : tie.Need-add-at Inv-loop μ-loop
-add-at c = omega arith
-
-add-if2 : tie.Need-add-if2 Inv-loop μ-loop
-add-if2 c = omega arith
 
 returns-2 : tie.Need-returns-2 Inv-loop μ-loop
 returns-2 c =
@@ -65,12 +47,6 @@ returns-2 c =
     let q = ap (λ (n : ℕ). l .o + 4 * n) (i .index .ensures .0) in
     turn-room ws (a .address) (l .left) (l .o) (l .m) f (omega arith) (l .inv .0) (i .before .if1 .left) w q (c .if2 .taken)
     ∙ l .inv .3
-
-mul-s : tie.Need-mul-s Inv-loop μ-loop
-mul-s c = omega arith
-
-shared-slice-read-s : tie.Need-shared-slice-read-s Inv-loop μ-loop
-shared-slice-read-s c = omega arith
 
 cast-s : tie.Need-cast-s Inv-loop μ-loop
 cast-s c = omega (arith, c .shared-slice-known2 .given (c .before .before .before .before .before .loop .o + 4 * c .before .before .index .result))
@@ -108,15 +84,6 @@ returns-4 c =
     (sym (g .gets .ensures) ∙ not-true (g .gets .result) (c .if4 .taken))
     ∙ l .inv .3
 
-add-own : tie.Need-add-own Inv-loop μ-loop
-add-own c = omega arith
-
-mul-own : tie.Need-mul-own Inv-loop μ-loop
-mul-own c = omega arith
-
-shared-slice-read-own : tie.Need-shared-slice-read-own Inv-loop μ-loop
-shared-slice-read-own c = omega arith
-
 returns-5 : tie.Need-returns-5 Inv-loop μ-loop
 returns-5 c =
     let g = c .before .before .before in
@@ -133,23 +100,8 @@ returns-5 c =
     (sym (g .gets .ensures) ∙ not-false (g .gets .result) (c .before .before .if4 .left)) (c .if5 .taken)
     ∙ l .inv .3
 
-mul-newer : tie.Need-mul-newer Inv-loop μ-loop
-mul-newer c = omega arith
-
-sub-newer : tie.Need-sub-newer Inv-loop μ-loop
-sub-newer c = omega arith
-
 newer-requires : tie.Need-newer-requires Inv-loop μ-loop
 newer-requires c κs = (c .before .before .before .before .before .before .before .before .before .before .loop .inv .2, omega arith, omega arith)
-
-add-o : tie.Need-add-o Inv-loop μ-loop
-add-o c = omega arith
-
-mul-o : tie.Need-mul-o Inv-loop μ-loop
-mul-o c = omega arith
-
-shared-slice-read-o : tie.Need-shared-slice-read-o Inv-loop μ-loop
-shared-slice-read-o c = omega arith
 
 cast-o : tie.Need-cast-o Inv-loop μ-loop
 cast-o c =
@@ -175,18 +127,6 @@ returns-6 c =
     (sym (g .gets .ensures) ∙ not-false (g .gets .result) (c .before .before .before .before .before .if4 .left))
     (c .before .before .before .if5 .left) (c .if6 .taken)
     ∙ l .inv .3
-
-add-m : tie.Need-add-m Inv-loop μ-loop
-add-m c = omega arith
-
-mul-m : tie.Need-mul-m Inv-loop μ-loop
-mul-m c = omega arith
-
-shared-slice-read-m : tie.Need-shared-slice-read-m Inv-loop μ-loop
-shared-slice-read-m c = omega arith
-
-loop-less : tie.Need-loop-less Inv-loop μ-loop
-loop-less c = omega arith
 
 loop-again : tie.Need-loop-again Inv-loop μ-loop
 loop-again c =
@@ -223,36 +163,36 @@ descend-spec =
     Inv-loop
     μ-loop
     loop-holds
-    sub-left
+    (λ c. omega arith)
     returns
-    mul-y
-    shr-y
+    (λ c. omega arith)
+    (λ c. omega arith)
     index-requires
-    mul-at
-    add-at
-    add-if2
+    (λ c. omega arith)
+    (λ c. omega arith)
+    (λ c. omega arith)
     returns-2
-    mul-s
-    shared-slice-read-s
+    (λ c. omega arith)
+    (λ c. omega arith)
     cast-s
     returns-3
     gets-requires
     returns-4
-    add-own
-    mul-own
-    shared-slice-read-own
+    (λ c. omega arith)
+    (λ c. omega arith)
+    (λ c. omega arith)
     returns-5
-    mul-newer
-    sub-newer
+    (λ c. omega arith)
+    (λ c. omega arith)
     newer-requires
-    add-o
-    mul-o
-    shared-slice-read-o
+    (λ c. omega arith)
+    (λ c. omega arith)
+    (λ c. omega arith)
     cast-o
     returns-6
-    add-m
-    mul-m
-    shared-slice-read-m
-    loop-less
+    (λ c. omega arith)
+    (λ c. omega arith)
+    (λ c. omega arith)
+    (λ c. omega arith)
     loop-again
     returns-7)

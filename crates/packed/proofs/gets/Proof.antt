@@ -8,22 +8,10 @@ use Rattle.packed.proofs.gets.Tie as tie
 returns : tie.Need-returns
 returns c = gets-none (c .before .args .y) (c .before .args .s) (c .if1 .taken)
 
-add-result : tie.Need-add-result
-add-result c = search needs
-
-spare-requires : tie.Need-spare-requires
-spare-requires c κs = search needs
-
-shr-result : tie.Need-shr-result
-shr-result c = search needs
-
-cast-result : tie.Need-cast-result
-cast-result c = search needs
-
 returns-2 : tie.Need-returns-2
 returns-2 c =
     let s = c .before .before in
     gets-some (s .args .y) (s .args .s) (c .spare .result) (s .pre .0) (s .pre .1) (c .before .if1 .left) (c .spare .ensures .0)
 
 pub gets-spec : {M : Type 1} → statement M
-gets-spec = tie.close (tie.spec returns add-result spare-requires shr-result cast-result returns-2)
+gets-spec = tie.close (tie.spec returns (λ c. search needs) (λ c κs. search needs) (λ c. search needs) (λ c. search needs) returns-2)

@@ -6,12 +6,6 @@ use borrow.Author.Needs.{needs}
 use Rattle.packed.proofs.newer.Statement.{statement}
 use Rattle.packed.proofs.newer.Tie as tie
 
-mul-result : tie.Need-mul-result
-mul-result c = search needs
-
-add-result : tie.Need-add-result
-add-result c = search needs
-
 returns : tie.Need-returns
 returns c = rw (eq-eqb _ 0 (c .if1 .taken)) (refl, c .before .pre .0)
 
@@ -19,4 +13,4 @@ returns-2 : tie.Need-returns-2
 returns-2 c = rw (ne-eqb _ 0 (c .if1 .left)) (refl, omega arith)
 
 pub newer-spec : {M : Type 1} → statement M
-newer-spec = tie.close (tie.spec mul-result add-result returns returns-2)
+newer-spec = tie.close (tie.spec (λ c. search needs) (λ c. search needs) returns returns-2)

@@ -9,9 +9,6 @@ use borrow.Author.Needs.{needs}
 use Rattle.packed_build.proofs.build.Statement.{statement}
 use Rattle.packed_build.proofs.build.Tie as tie
 
-misfit-requires : tie.Need-misfit-requires
-misfit-requires c κs = search needs
-
 returns : tie.Need-returns
 returns c =
     let b4 = c .before .before .before .before in
@@ -27,9 +24,6 @@ returns-2 c =
     build-foreign (a .table .now) (sym (c .before .before .before .misfit .ensures) ∙ c .before .before .if1 .left)
     (sym (i .ensures) ∙ not-true (i .result) (c .if2 .taken)) (a .words .now)
 
-slice-aggregate-places : tie.Need-slice-aggregate-places
-slice-aggregate-places c = search needs
-
 places-requires : tie.Need-places-requires
 places-requires c κs =
     let b1 = c .before in
@@ -39,12 +33,6 @@ places-requires c κs =
     let o = is-table (b4 .before .before .before .args .table .now) (sym (b4 .misfit .ensures) ∙ b3 .if1 .left)
     (sym (i .ensures) ∙ not-false (i .result) (b1 .if2 .left)) in
     (o, refl)
-
-mul-needed : tie.Need-mul-needed
-mul-needed c = search needs
-
-add-needed : tie.Need-add-needed
-add-needed c = search needs
 
 returns-3 : tie.Need-returns-3
 returns-3 c =
@@ -60,9 +48,6 @@ returns-3 c =
     let p = b2 .places in
     let o = is-table ts (sym (b7 .misfit .ensures) ∙ b6 .if1 .left) (sym (i .ensures) ∙ not-false (i .result) (b4 .if2 .left)) in
     build-short ts o (p .result) (p .ensures .1 .0) (a .words .now) (c .if3 .taken)
-
-slice-aggregate-lay : tie.Need-slice-aggregate-lay
-slice-aggregate-lay c = search needs
 
 lay-requires : tie.Need-lay-requires
 lay-requires c κs =
@@ -89,9 +74,6 @@ shared-slice-read-t18 c =
     let f = no-misfit-fits (length (s .args .table .now)) (sym (b13 .misfit .ensures) ∙ b12 .if1 .left) in
     omega (arith, f .low)
 
-same-length : tie.Need-same-length
-same-length c = search needs
-
 returns-4 : tie.Need-returns-4
 returns-4 c =
     let b3 = c .before .before .before in
@@ -117,17 +99,17 @@ pub build-spec : {M : Type 1} → statement M
 build-spec =
     tie.close
     (tie.spec
-    misfit-requires
+    (λ c κs. search needs)
     returns
     is-table-of-requires
     returns-2
-    slice-aggregate-places
+    (λ c. search needs)
     places-requires
-    mul-needed
-    add-needed
+    (λ c. search needs)
+    (λ c. search needs)
     returns-3
-    slice-aggregate-lay
+    (λ c. search needs)
     lay-requires
     shared-slice-read-t18
-    same-length
+    (λ c. search needs)
     returns-4)

@@ -42,9 +42,6 @@ place-in-requires c κs =
     let b10 = b6 .before .before .before .before in
     let y = b10 .pre in omega (arith, b6 .arrays-in .ensures, y .table .high, y .mapped .size)
 
-cast-fill : tie.Need-cast-fill Inv-loop μ-loop
-cast-fill c = omega arith
-
 mask-in-requires : tie.Need-mask-in-requires Inv-loop μ-loop
 mask-in-requires c κs =
     let b7 = c .before .before .before .before .before .before .before in
@@ -71,12 +68,6 @@ fill-requires c κs =
       rw (l .inv .2 .size) room,
       rw (b3 .page .ensures .0) tells,
     )
-
-add-a : tie.Need-add-a Inv-loop μ-loop
-add-a c = omega arith
-
-loop-less : tie.Need-loop-less Inv-loop μ-loop
-loop-less c = omega arith
 
 loop-again : tie.Need-loop-again Inv-loop μ-loop
 loop-again c =
@@ -118,11 +109,11 @@ lay-spec =
     tag-requires
     page-requires
     place-in-requires
-    cast-fill
+    (λ c. omega arith)
     mask-in-requires
     fill-requires
-    add-a
-    loop-less
+    (λ c. omega arith)
+    (λ c. omega arith)
     loop-again
     same-length
     returns)

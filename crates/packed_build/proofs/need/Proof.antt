@@ -6,9 +6,6 @@ use borrow.Author.Needs.{needs}
 use Rattle.packed_build.proofs.need.Statement.{statement}
 use Rattle.packed_build.proofs.need.Tie as tie
 
-misfit-requires : tie.Need-misfit-requires
-misfit-requires c κs = search needs
-
 returns : tie.Need-returns
 returns c = need-misfit (c .before .before .before .args .table .now) (sym (c .before .misfit .ensures) ∙ c .if1 .taken)
 
@@ -24,9 +21,6 @@ returns-2 c =
     need-foreign (b5 .args .table .now) (sym (b3 .misfit .ensures) ∙ b2 .if1 .left)
     (sym (i .ensures) ∙ not-true (i .result) (c .if2 .taken))
 
-slice-aggregate-places : tie.Need-slice-aggregate-places
-slice-aggregate-places c = search needs
-
 places-requires : tie.Need-places-requires
 places-requires c κs =
     let b1 = c .before in
@@ -36,12 +30,6 @@ places-requires c κs =
     let o = is-table (b4 .before .before .args .table .now) (sym (b4 .misfit .ensures) ∙ b3 .if1 .left)
     (sym (i .ensures) ∙ not-false (i .result) (b1 .if2 .left)) in
     (o, refl)
-
-mul-t5 : tie.Need-mul-t5
-mul-t5 c = search needs
-
-add-t10 : tie.Need-add-t10
-add-t10 c = search needs
 
 returns-3 : tie.Need-returns-3
 returns-3 c =
@@ -59,12 +47,12 @@ pub need-spec : {M : Type 1} → statement M
 need-spec =
     tie.close
     (tie.spec
-    misfit-requires
+    (λ c κs. search needs)
     returns
     is-table-of-requires
     returns-2
-    slice-aggregate-places
+    (λ c. search needs)
     places-requires
-    mul-t5
-    add-t10
+    (λ c. search needs)
+    (λ c. search needs)
     returns-3)

@@ -5,14 +5,8 @@ use borrow.Author.Needs.{needs}
 use Rattle.packing.proofs.toggleash_packed_need.Statement.{statement}
 use Rattle.packing.proofs.toggleash_packed_need.Tie as tie
 
-need-requires : tie.Need-need-requires
-need-requires c κs = search needs
-
-size-requires : tie.Need-size-requires
-size-requires c κs = search needs
-
 returns : tie.Need-returns
 returns c = c .size .ensures ∙ ap needed (c .before .need .ensures)
 
 pub toggleash-packed-need-spec : {M : Type 1} → statement M
-toggleash-packed-need-spec = tie.close (tie.spec need-requires size-requires returns)
+toggleash-packed-need-spec = tie.close (tie.spec (λ c κs. search needs) (λ c κs. search needs) returns)

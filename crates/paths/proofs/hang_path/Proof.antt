@@ -39,9 +39,6 @@ sub-at c =
     let g = l .loop .inv .1 in
     omega (arith, g .low)
 
-mul-f : tie.Need-mul-f Inv-loop μ-loop
-mul-f c = search needs
-
 shared-slice-read-f : tie.Need-shared-slice-read-f Inv-loop μ-loop
 shared-slice-read-f c =
     let l = c .before .before .before in
@@ -69,12 +66,6 @@ gain-requires c κs =
     let q = s .pre in
     let g = l .loop .inv .1 in
     hanging-gains q g (omega arith) (y .byte-at .result) _ (y .byte-at .ensures .0) refl
-
-add-i : tie.Need-add-i Inv-loop μ-loop
-add-i c = search needs
-
-loop-less : tie.Need-loop-less Inv-loop μ-loop
-loop-less c = search needs
 
 loop-again : tie.Need-loop-again Inv-loop μ-loop
 loop-again c =
@@ -112,12 +103,12 @@ hang-path-spec =
     loop-holds
     byte-at-requires
     sub-at
-    mul-f
+    (λ c. search needs)
     shared-slice-read-f
     cast-f
     gain-requires
-    add-i
-    loop-less
+    (λ c. search needs)
+    (λ c. search needs)
     loop-again
     same-length
     returns)

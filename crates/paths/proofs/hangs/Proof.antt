@@ -9,15 +9,6 @@ use Rattle.paths.proofs.hangs.Tie as tie
 returns : tie.Need-returns
 returns c = sym (c .before .before .pre .5 (c .if1 .taken))
 
-cell-requires : tie.Need-cell-requires
-cell-requires c κs = search needs
-
-link-in-requires : tie.Need-link-in-requires
-link-in-requires c κs = search needs
-
-arrays-in-requires : tie.Need-arrays-in-requires
-arrays-in-requires c κs = search needs
-
 returns-2 : tie.Need-returns-2
 returns-2 c =
     let l = c .before .before in
@@ -25,18 +16,6 @@ returns-2 c =
     let a = t .before .before .before .args in
     rung-far (a .words .now) (a .a) (a .y) (a .j) (t .cell .result) (l .link-in .result) (t .cell .ensures) (l .link-in .ensures .0)
     (omega (arith, c .before .arrays-in .ensures))
-
-tag-requires : tie.Need-tag-requires
-tag-requires c κs = search needs
-
-cast-tag-of : tie.Need-cast-tag-of
-cast-tag-of c = search needs
-
-add-tag-of : tie.Need-add-tag-of
-add-tag-of c = search needs
-
-tag-of-requires : tie.Need-tag-of-requires
-tag-of-requires c κs = search needs
 
 returns-3 : tie.Need-returns-3
 returns-3 c =
@@ -48,9 +27,6 @@ returns-3 c =
     rung-other (a .words .now) (a .a) (a .y) (a .j) (t .cell .result) (l .link-in .result) (t .cell .ensures) (l .link-in .ensures .0)
     (omega (arith, l .link-in .ensures .0, g .before .before .arrays-in .ensures)) (g .tag .result) (z .tag-of .result)
     (g .tag .ensures) (z .tag-of .ensures) (c .if3 .taken)
-
-best-in-requires : tie.Need-best-in-requires
-best-in-requires c κs = search needs
 
 returns-4 : tie.Need-returns-4
 returns-4 c =
@@ -68,14 +44,14 @@ hangs-spec =
     tie.close
     (tie.spec
     returns
-    cell-requires
-    link-in-requires
-    arrays-in-requires
+    (λ c κs. search needs)
+    (λ c κs. search needs)
+    (λ c κs. search needs)
     returns-2
-    tag-requires
-    cast-tag-of
-    add-tag-of
-    tag-of-requires
+    (λ c κs. search needs)
+    (λ c. search needs)
+    (λ c. search needs)
+    (λ c κs. search needs)
     returns-3
-    best-in-requires
+    (λ c κs. search needs)
     returns-4)

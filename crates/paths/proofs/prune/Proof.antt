@@ -37,9 +37,6 @@ tag-requires : tie.Need-tag-requires Inv-loop μ-loop
 tag-requires c κs =
     omega (arith, shed-inside (c .before .before .before .before .before .loop .inv))
 
-parent-in-requires : tie.Need-parent-in-requires Inv-loop μ-loop
-parent-in-requires c κs = search needs
-
 release-requires : tie.Need-release-requires Inv-loop μ-loop
 release-requires c κs =
     let b = c .before .before .before .before in
@@ -83,7 +80,7 @@ prune-spec =
     same-length
     returns
     tag-requires
-    parent-in-requires
+    (λ c κs. search needs)
     release-requires
     loop-less
     loop-again

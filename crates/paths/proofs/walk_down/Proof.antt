@@ -17,9 +17,6 @@ Inv-loop words address k known a₀ j₀ a j = (a < 4097) × Going (length addre
 abbrev μ-loop : tie.MeasureT-loop
 μ-loop words address k known a₀ j₀ a j = k - j
 
-tag-requires : tie.Need-tag-requires Inv-loop μ-loop
-tag-requires c κs = search needs
-
 returns : tie.Need-returns Inv-loop μ-loop
 returns c =
     let t = c .before in
@@ -37,9 +34,6 @@ loop-holds c =
       going-first (length (a .address .now)) (a .words .now) (number (a .address .now)) (a .k) (s .pre .2)
           (sym (t .tag .ensures) ∙ c .if1 .left),
     )
-
-byte-at-requires : tie.Need-byte-at-requires Inv-loop μ-loop
-byte-at-requires c κs = search needs
 
 below-requires : tie.Need-below-requires Inv-loop μ-loop
 below-requires c κs =
@@ -86,12 +80,6 @@ returns-3 c =
     (l .loop .inv .1) (omega arith) (y .byte-at .result) (y .byte-at .ensures .0) (λ z. h .before .if2 .left (b .below .ensures .0 ∙ z))
     (sym (h .hangs .ensures) ∙ not-true _ (c .if3 .taken))
 
-add-j : tie.Need-add-j Inv-loop μ-loop
-add-j c = search needs
-
-loop-less : tie.Need-loop-less Inv-loop μ-loop
-loop-less c = search needs
-
 loop-again : tie.Need-loop-again Inv-loop μ-loop
 loop-again c =
     let h = c .before in
@@ -120,15 +108,15 @@ walk-down-spec =
     (tie.spec
     Inv-loop
     μ-loop
-    tag-requires
+    (λ c κs. search needs)
     returns
     loop-holds
-    byte-at-requires
+    (λ c κs. search needs)
     below-requires
     returns-2
     hangs-requires
     returns-3
-    add-j
-    loop-less
+    (λ c. search needs)
+    (λ c. search needs)
     loop-again
     returns-4)

@@ -10,12 +10,6 @@ returns c =
     let a = c .before .before .args in
     rw (ne-eqb (a .s .level) (a .p .level) (c .if1 .taken))
 
-slot-of-requires : tie.Need-slot-of-requires
-slot-of-requires c κs = search needs
-
-word-requires : tie.Need-word-requires
-word-requires c κs = search needs
-
 returns-2 : tie.Need-returns-2
 returns-2 c =
     let a = c .before .before .before .before .args in
@@ -26,6 +20,6 @@ word-at-spec =
     tie.close
     (tie.spec
     returns
-    slot-of-requires
-    word-requires
+    (λ c κs. search needs)
+    (λ c κs. search needs)
     returns-2)

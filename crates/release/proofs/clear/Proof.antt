@@ -5,16 +5,10 @@ use borrow.Author.Needs.{needs}
 use Rattle.release.proofs.clear.Statement.{statement}
 use Rattle.release.proofs.clear.Tie as tie
 
-clear-rows-requires : tie.Need-clear-rows-requires
-clear-rows-requires c κs = search needs
-
-same-length : tie.Need-same-length
-same-length c = search needs
-
 returns : tie.Need-returns
 returns c =
     let c′ = c .before .before .clear-rows in
     cleared-all (c′ .last .0) (rowAt (c .before .before .before .before .before .args .words .now)) (c′ .ensures)
 
 pub clear-spec : {M : Type 1} → statement M
-clear-spec = tie.close (tie.spec clear-rows-requires same-length returns)
+clear-spec = tie.close (tie.spec (λ c κs. search needs) (λ c. search needs) returns)

@@ -20,12 +20,6 @@ loop-holds c = (omega arith, omega arith, clear-begin (c .before .args .words .n
 store-requires : tie.Need-store-requires Inv-loop μ-loop
 store-requires c κs = (c .before .before .loop .inv .2 .size, omega arith)
 
-add-i : tie.Need-add-i Inv-loop μ-loop
-add-i c = omega arith
-
-loop-less : tie.Need-loop-less Inv-loop μ-loop
-loop-less c = omega arith
-
 loop-again : tie.Need-loop-again Inv-loop μ-loop
 loop-again c =
     let t = c .before .before .before .before .before .before .before in
@@ -54,8 +48,8 @@ clear-rows-spec =
     μ-loop
     loop-holds
     store-requires
-    add-i
-    loop-less
+    (λ c. omega arith)
+    (λ c. omega arith)
     loop-again
     same-length
     returns)

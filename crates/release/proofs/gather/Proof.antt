@@ -19,12 +19,6 @@ loop-holds c = (omega arith, gather-none (c .before .args .words .now) (c .befor
 place-row-requires : tie.Need-place-row-requires Inv-loop μ-loop
 place-row-requires c κs = (c .before .before .loop .inv .1 .size, omega arith, c .before .before .loop .inv .1 .order)
 
-add-i : tie.Need-add-i Inv-loop μ-loop
-add-i c = omega arith
-
-loop-less : tie.Need-loop-less Inv-loop μ-loop
-loop-less c = omega arith
-
 loop-again : tie.Need-loop-again Inv-loop μ-loop
 loop-again c =
     let s = c .before .before .before .before .before .loop in
@@ -51,8 +45,8 @@ gather-spec =
     μ-loop
     loop-holds
     place-row-requires
-    add-i
-    loop-less
+    (λ c. omega arith)
+    (λ c. omega arith)
     loop-again
     same-length
     returns)

@@ -4,15 +4,6 @@ use borrow.Author.Needs.{needs}
 use Rattle.release.proofs.settle.Statement.{statement}
 use Rattle.release.proofs.settle.Tie as tie
 
-gather-requires : tie.Need-gather-requires
-gather-requires c κs = search needs
-
-clear-rows-requires : tie.Need-clear-rows-requires
-clear-rows-requires c κs = search needs
-
-same-length : tie.Need-same-length
-same-length c = search needs
-
 returns : tie.Need-returns
 returns c =
     let t = c .before .before .before .before .before .before .before .before .before in
@@ -21,4 +12,4 @@ returns c =
     settle-law (t .args .words .now) (g .last .0) (c′ .last .0) (t .args .n) (g .result) (t .pre) (g .ensures) (c′ .ensures)
 
 pub settle-spec : {M : Type 1} → statement M
-settle-spec = tie.close (tie.spec gather-requires clear-rows-requires same-length returns)
+settle-spec = tie.close (tie.spec (λ c κs. search needs) (λ c κs. search needs) (λ c. search needs) returns)

@@ -19,23 +19,11 @@ Inv-loop words entries address way₀ way =
 abbrev μ-loop : tie.MeasureT-loop
 μ-loop words entries address way₀ way = way .left
 
-begin-requires : tie.Need-begin-requires Inv-loop μ-loop
-begin-requires c κs = search needs
-
 loop-holds : tie.Need-loop-holds Inv-loop μ-loop
 loop-holds c =
     let a = c .before .before .before .args in
     ap (stands (looks (a .words .now)) (leadBy (plainAt (a .entries .now)))) (c .begin .ensures)
     ∙ begun-on (plainAt (a .entries .now)) (length (a .entries .now) / 2) (a .words .now) (a .address)
-
-told-requires : tie.Need-told-requires Inv-loop μ-loop
-told-requires c κs = search needs
-
-plain-at-requires : tie.Need-plain-at-requires Inv-loop μ-loop
-plain-at-requires c κs = search needs
-
-turn-requires : tie.Need-turn-requires Inv-loop μ-loop
-turn-requires c κs = search needs
 
 loop-less : tie.Need-loop-less Inv-loop μ-loop
 loop-less c =
@@ -62,11 +50,11 @@ resolve-plain-spec =
     (tie.spec
     Inv-loop
     μ-loop
-    begin-requires
+    (λ c κs. search needs)
     loop-holds
-    told-requires
-    plain-at-requires
-    turn-requires
+    (λ c κs. search needs)
+    (λ c κs. search needs)
+    (λ c κs. search needs)
     loop-less
     loop-again
     returns)

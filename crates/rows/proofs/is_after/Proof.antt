@@ -8,31 +8,10 @@ use Rattle.rows.proofs.is_after.Tie as tie
 returns : tie.Need-returns
 returns c = after-first (rowAt (c .before .before .args .words .now)) (c .before .before .args .i) (c .if1 .taken)
 
-sub-j : tie.Need-sub-j
-sub-j c = search needs
-
-mul-if2 : tie.Need-mul-if2
-mul-if2 c = search needs
-
-add-if2 : tie.Need-add-if2
-add-if2 c = search needs
-
-mul-if2-2 : tie.Need-mul-if2-2
-mul-if2-2 c = search needs
-
-shared-slice-read-if2 : tie.Need-shared-slice-read-if2
-shared-slice-read-if2 c = search needs
-
 returns-2 : tie.Need-returns-2
 returns-2 c =
     let t = c .before .before .before .before in
     after-unused (rowAt (t .args .words .now)) (t .args .i) (c .before .before .if1 .left) (c .if2 .taken)
-
-key-at-requires : tie.Need-key-at-requires
-key-at-requires c κs = search needs
-
-key-at-requires-2 : tie.Need-key-at-requires-2
-key-at-requires-2 c κs = search needs
 
 returns-3 : tie.Need-returns-3
 returns-3 c =
@@ -47,12 +26,12 @@ is-after-spec =
     tie.close
     (tie.spec
     returns
-    sub-j
-    mul-if2
-    add-if2
-    mul-if2-2
-    shared-slice-read-if2
+    (λ c. search needs)
+    (λ c. search needs)
+    (λ c. search needs)
+    (λ c. search needs)
+    (λ c. search needs)
     returns-2
-    key-at-requires
-    key-at-requires-2
+    (λ c κs. search needs)
+    (λ c κs. search needs)
     returns-3)

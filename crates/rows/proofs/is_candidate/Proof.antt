@@ -7,9 +7,6 @@ use Rattle.rows.proofs.is_candidate.Tie as tie
 returns : tie.Need-returns
 returns c = candidate-long (c .before .args .address) (c .before .args .w) (c .if1 .taken)
 
-stray-requires : tie.Need-stray-requires
-stray-requires c κs = search needs
-
 returns-2 : tie.Need-returns-2
 returns-2 c =
     let t = c .before .before .before in
@@ -31,4 +28,4 @@ returns-4 c =
     (c .before .if2 .left) (c .if3 .left)
 
 pub is-candidate-spec : {M : Type 1} → statement M
-is-candidate-spec = tie.close (tie.spec returns stray-requires returns-2 returns-3 returns-4)
+is-candidate-spec = tie.close (tie.spec returns (λ c κs. search needs) returns-2 returns-3 returns-4)

@@ -33,12 +33,6 @@ returns-2 c =
     (λ i. omega (arith, c .before .before .before .before .before .shared-slice-known .given i)) (c .before .before .before .loop .i) (i .result)
     (c .before .before .before .before .if1 .left) (c .before .before .loop-test .taken) (i .ensures) (not-true (i .result) (c .if2 .taken))
 
-add-i : tie.Need-add-i Inv-loop μ-loop
-add-i c = omega arith
-
-loop-less : tie.Need-loop-less Inv-loop μ-loop
-loop-less c = omega arith
-
 loop-again : tie.Need-loop-again Inv-loop μ-loop
 loop-again c =
     let s = c .before .before .before .loop in
@@ -64,7 +58,7 @@ is-front-spec =
     loop-holds
     is-row-requires
     returns-2
-    add-i
-    loop-less
+    (λ c. omega arith)
+    (λ c. omega arith)
     loop-again
     returns-3)

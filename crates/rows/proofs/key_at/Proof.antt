@@ -5,27 +5,6 @@ use native.Mathlib.Omega.{arith}
 use Rattle.rows.proofs.key_at.Statement.{statement}
 use Rattle.rows.proofs.key_at.Tie as tie
 
-mul-w : tie.Need-mul-w
-mul-w c = search needs
-
-add-w : tie.Need-add-w
-add-w c = search needs
-
-mul-w-2 : tie.Need-mul-w-2
-mul-w-2 c = search needs
-
-shared-slice-read-w : tie.Need-shared-slice-read-w
-shared-slice-read-w c = search needs
-
-mul-result : tie.Need-mul-result
-mul-result c = search needs
-
-mul-result-2 : tie.Need-mul-result-2
-mul-result-2 c = search needs
-
-shared-slice-read-result : tie.Need-shared-slice-read-result
-shared-slice-read-result c = search needs
-
 cast-result : tie.Need-cast-result
 cast-result c =
     let t = c .before .before in
@@ -50,22 +29,19 @@ add-result c =
     let s = c .shared-slice-known2 in
     omega (arith, s .given (4 * t .args .i), s .given (4 * t .args .i + 1))
 
-returns : tie.Need-returns
-returns c = search needs
-
 pub key-at-spec : {M : Type 1} → statement M
 key-at-spec =
     tie.close
     (tie.spec
-    mul-w
-    add-w
-    mul-w-2
-    shared-slice-read-w
-    mul-result
-    mul-result-2
-    shared-slice-read-result
+    (λ c. search needs)
+    (λ c. search needs)
+    (λ c. search needs)
+    (λ c. search needs)
+    (λ c. search needs)
+    (λ c. search needs)
+    (λ c. search needs)
     cast-result
     mul-result-3
     cast-result-2
     add-result
-    returns)
+    (λ c. search needs))

@@ -20,12 +20,6 @@ loop-holds c = (omega arith, halve-begin (c .before .args .words .now) (c .befor
 halve-row-requires : tie.Need-halve-row-requires Inv-loop μ-loop
 halve-row-requires c κs = (c .before .before .loop .inv .1 .size, c .before .loop-test .taken)
 
-add-i : tie.Need-add-i Inv-loop μ-loop
-add-i c = omega arith
-
-loop-less : tie.Need-loop-less Inv-loop μ-loop
-loop-less c = omega arith
-
 loop-again : tie.Need-loop-again Inv-loop μ-loop
 loop-again c =
     let s = c .before .before .before .before .before .loop in
@@ -51,8 +45,8 @@ halve-spec =
     μ-loop
     loop-holds
     halve-row-requires
-    add-i
-    loop-less
+    (λ c. omega arith)
+    (λ c. omega arith)
     loop-again
     same-length
     returns)

@@ -18,17 +18,8 @@ abbrev μ-loop : tie.MeasureT-loop
 loop-holds : tie.Need-loop-holds Inv-loop μ-loop
 loop-holds c = (omega arith, omega arith, lift-begin (c .before .args .words .now) (c .before .pre .0))
 
-sub-copy-row : tie.Need-sub-copy-row Inv-loop μ-loop
-sub-copy-row c = omega arith
-
 copy-row-requires : tie.Need-copy-row-requires Inv-loop μ-loop
 copy-row-requires c κs = (c .before .before .loop .inv .2 .size, omega arith, omega arith)
-
-sub-i : tie.Need-sub-i Inv-loop μ-loop
-sub-i c = omega arith
-
-loop-less : tie.Need-loop-less Inv-loop μ-loop
-loop-less c = omega arith
 
 loop-again : tie.Need-loop-again Inv-loop μ-loop
 loop-again c =
@@ -62,10 +53,10 @@ insert-spec =
     Inv-loop
     μ-loop
     loop-holds
-    sub-copy-row
+    (λ c. omega arith)
     copy-row-requires
-    sub-i
-    loop-less
+    (λ c. omega arith)
+    (λ c. omega arith)
     loop-again
     store-requires
     same-length

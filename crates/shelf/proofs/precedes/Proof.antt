@@ -5,25 +5,10 @@ use borrow.Author.Needs.{needs}
 use Rattle.shelf.proofs.precedes.Statement.{statement}
 use Rattle.shelf.proofs.precedes.Tie as tie
 
-mul-if1 : tie.Need-mul-if1
-mul-if1 c = search needs
-
-add-if1 : tie.Need-add-if1
-add-if1 c = search needs
-
-mul-if1-2 : tie.Need-mul-if1-2
-mul-if1-2 c = search needs
-
-shared-slice-read-if1 : tie.Need-shared-slice-read-if1
-shared-slice-read-if1 c = search needs
-
 returns : tie.Need-returns
 returns c =
     let t = c .before .before .before in
     before-unused (rowAt (t .args .words .now)) (t .args .k) (t .args .i) (c .if1 .taken)
-
-key-at-requires : tie.Need-key-at-requires
-key-at-requires c κs = search needs
 
 returns-2 : tie.Need-returns-2
 returns-2 c =
@@ -34,4 +19,4 @@ returns-2 c =
 pub precedes-spec : {M : Type 1} → statement M
 precedes-spec =
     tie.close
-    (tie.spec mul-if1 add-if1 mul-if1-2 shared-slice-read-if1 returns key-at-requires returns-2)
+    (tie.spec (λ c. search needs) (λ c. search needs) (λ c. search needs) (λ c. search needs) returns (λ c κs. search needs) returns-2)

@@ -15,17 +15,8 @@ abbrev μ-loop : tie.MeasureT-loop
 loop-holds : tie.Need-loop-holds Inv-loop μ-loop
 loop-holds c = between-all (rowAt (c .before .args .words .now)) (c .before .args .k)
 
-add-mid : tie.Need-add-mid Inv-loop μ-loop
-add-mid c = omega arith
-
 precedes-requires : tie.Need-precedes-requires Inv-loop μ-loop
 precedes-requires c κs = (c .before .before .before .pre .size, omega arith)
-
-add-lo : tie.Need-add-lo Inv-loop μ-loop
-add-lo c = omega arith
-
-loop-less : tie.Need-loop-less Inv-loop μ-loop
-loop-less c = omega arith
 
 loop-again : tie.Need-loop-again Inv-loop μ-loop
 loop-again c =
@@ -34,9 +25,6 @@ loop-again c =
     let p = c .before .precedes in
     between-up (rowAt (t .args .words .now)) (t .args .k) (s .lo) (s .hi) (p .result) (falls (t .args .words .now) (t .args .k) (t .pre)) (s .inv)
     (c .before .before .loop-test .taken) (p .ensures) (c .if1 .taken)
-
-loop-less-2 : tie.Need-loop-less-2 Inv-loop μ-loop
-loop-less-2 c = omega arith
 
 loop-again-2 : tie.Need-loop-again-2 Inv-loop μ-loop
 loop-again-2 c =
@@ -59,11 +47,11 @@ rank-of-spec =
     Inv-loop
     μ-loop
     loop-holds
-    add-mid
+    (λ c. omega arith)
     precedes-requires
-    add-lo
-    loop-less
+    (λ c. omega arith)
+    (λ c. omega arith)
     loop-again
-    loop-less-2
+    (λ c. omega arith)
     loop-again-2
     returns)

@@ -6,9 +6,6 @@ use borrow.Author.Needs.{needs}
 use Rattle.shorten.proofs.count.Statement.{statement}
 use Rattle.shorten.proofs.count.Tie as tie
 
-refusal-requires : tie.Need-refusal-requires
-refusal-requires c κs = search needs
-
 returns : tie.Need-returns
 returns c =
     let r = c .before in
@@ -35,17 +32,11 @@ add-bytes c =
     let k = c .before .before .before in
     omega (arith, cost-small (known (k .before .before)) (k .keep-sets .ensures))
 
-same-length : tie.Need-same-length
-same-length c = search needs
-
 returns-2 : tie.Need-returns-2
 returns-2 c =
     let k = c .before .before .before .before in
     let e = k .before .before in
     count-short (known e) (k .keep-sets .ensures) (e .before .before .before .before .args .room) (c .if2 .taken)
-
-same-length-2 : tie.Need-same-length-2
-same-length-2 c = search needs
 
 returns-3 : tie.Need-returns-3
 returns-3 c =
@@ -57,12 +48,12 @@ pub count-spec : {M : Type 1} → statement M
 count-spec =
     tie.close
     (tie.spec
-    refusal-requires
+    (λ c κs. search needs)
     returns
     keep-sets-requires
     mul-bytes
     add-bytes
-    same-length
+    (λ c. search needs)
     returns-2
-    same-length-2
+    (λ c. search needs)
     returns-3)

@@ -12,12 +12,6 @@ returns c =
     let a = c .before .before .args in
     refusal-less (seen 4 (a .words .now)) (a .scratch) (length (a .words .now)) (c .if1 .taken)
 
-check-requires : tie.Need-check-requires
-check-requires c κs = search needs
-
-enum-told : tie.Need-enum-told
-enum-told c = search needs
-
 -- the words are a table where the check counts
 seated : (c : tie.After-enum-told) → Seated (c .before .before .before .before .before .args .words .now)
 seated c =
@@ -46,9 +40,6 @@ returns-3 c =
     refusal-none (seated (h .before)) (e .before .before .args .scratch) (e .if1 .left) (h .hop-at .result) (h .hop-at .ensures .0)
     (s .before .if2 .left) (s .small-hops .result) (s .small-hops .ensures) (c .if3 .taken)
 
-enum-known-checked : tie.Need-enum-known-checked
-enum-known-checked c = search needs
-
 returns-4 : tie.Need-returns-4
 returns-4 c =
     let s = c .before in
@@ -70,12 +61,12 @@ refusal-spec =
     tie.close
     (tie.spec
     returns
-    check-requires
-    enum-told
+    (λ c κs. search needs)
+    (λ c. search needs)
     hop-at-requires
     returns-2
     small-hops-requires
     returns-3
-    enum-known-checked
+    (λ c. search needs)
     returns-4
     returns-5)

@@ -5,12 +5,6 @@ use borrow.Author.Needs.{needs}
 use Rattle.shorten.proofs.shorten.Statement.{statement}
 use Rattle.shorten.proofs.shorten.Tie as tie
 
-count-requires : tie.Need-count-requires
-count-requires c κs = search needs
-
-enum-known-counted : tie.Need-enum-known-counted
-enum-known-counted c = search needs
-
 -- what is known where the bytes are counted
 known : (c : tie.After-counted)
     → (let k = c .before .before .before .before in
@@ -33,22 +27,10 @@ slice-write-buffer c =
     let p = c .before .before in
     omega (arith, end-room (known (p .before .before .before .before)) (p .put-routes .ensures), p .put-routes .kept .1 .1 .1 .1 .1 .1 .0)
 
-enum-known-counted-2 : tie.Need-enum-known-counted-2
-enum-known-counted-2 c = search needs
-
-same-length : tie.Need-same-length
-same-length c = search needs
-
-same-length-2 : tie.Need-same-length-2
-same-length-2 c = search needs
-
 returns : tie.Need-returns
 returns c =
     let p = c .before .before in
     short-done (known (p .before .before .before .before)) (p .put-routes .ensures)
-
-same-length-3 : tie.Need-same-length-3
-same-length-3 c = search needs
 
 returns-2 : tie.Need-returns-2
 returns-2 c =
@@ -63,13 +45,13 @@ pub shorten-spec : {M : Type 1} → statement M
 shorten-spec =
     tie.close
     (tie.spec
-    count-requires
-    enum-known-counted
+    (λ c κs. search needs)
+    (λ c. search needs)
     put-routes-requires
     slice-write-buffer
-    enum-known-counted-2
-    same-length
-    same-length-2
+    (λ c. search needs)
+    (λ c. search needs)
+    (λ c. search needs)
     returns
-    same-length-3
+    (λ c. search needs)
     returns-2)

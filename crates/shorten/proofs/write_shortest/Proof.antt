@@ -8,12 +8,6 @@ use borrow.Author.Needs.{needs}
 use Rattle.shorten.proofs.write_shortest.Statement.{statement}
 use Rattle.shorten.proofs.write_shortest.Tie as tie
 
-shorten-requires : tie.Need-shorten-requires
-shorten-requires c κs = search needs
-
-bytes-in-requires : tie.Need-bytes-in-requires
-bytes-in-requires c κs = search needs
-
 slice-aggregate-result : tie.Need-slice-aggregate-result
 slice-aggregate-result c =
     let n = c .before in
@@ -22,9 +16,6 @@ slice-aggregate-result c =
     let x = shortIn (a .words .now) (a .scratch .now) (length (a .buffer .now)) in
     let k : n .bytes-in .result ≡ countIn (bytesIn x) = n .bytes-in .ensures ∙ ap countIn (s .shorten .ensures .answer) in
     k ∙ front-length x ∙ sym (ap length (front-is x (a .buffer .now) _ (n .bytes-in .result) k (s .shorten .ensures .buffer)))
-
-same-length : tie.Need-same-length
-same-length c = search needs
 
 returns : tie.Need-returns
 returns c =
@@ -36,4 +27,4 @@ returns c =
     (refl, (front-is x (a .buffer .now) _ (n .bytes-in .result) k (s .shorten .ensures .buffer), s .shorten .ensures .scratch))
 
 pub write-shortest-spec : {M : Type 1} → statement M
-write-shortest-spec = tie.close (tie.spec shorten-requires bytes-in-requires slice-aggregate-result same-length returns)
+write-shortest-spec = tie.close (tie.spec (λ c κs. search needs) (λ c κs. search needs) slice-aggregate-result (λ c. search needs) returns)

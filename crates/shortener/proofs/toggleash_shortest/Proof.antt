@@ -5,22 +5,10 @@ use Rattle.shortener.specs.Face.{wrote}
 use Rattle.shortener.proofs.toggleash_shortest.Statement.{statement}
 use Rattle.shortener.proofs.toggleash_shortest.Tie as tie
 
-shorten-requires : tie.Need-shorten-requires
-shorten-requires c κs = search needs
-
-told-requires : tie.Need-told-requires
-told-requires c κs = search needs
-
-same-length : tie.Need-same-length
-same-length c = search needs
-
-same-length-2 : tie.Need-same-length-2
-same-length-2 c = search needs
-
 returns : tie.Need-returns
 returns c =
     let s = c .before .before .before .before .before .shorten .ensures in
     record { answer = c .told .ensures ∙ ap wrote (s .answer); scratch = s .scratch; buffer = s .buffer }
 
 pub toggleash-shortest-spec : {M : Type 1} → statement M
-toggleash-shortest-spec = tie.close (tie.spec shorten-requires told-requires same-length same-length-2 returns)
+toggleash-shortest-spec = tie.close (tie.spec (λ c κs. search needs) (λ c κs. search needs) (λ c. search needs) (λ c. search needs) returns)

@@ -3,18 +3,6 @@ use borrow.Author.Needs.{needs}
 use Rattle.toggleash.proofs.change.Statement.{statement}
 use Rattle.toggleash.proofs.change.Tie as tie
 
-enum-known-answer : tie.Need-enum-known-answer
-enum-known-answer c = search needs
-
-enum-told : tie.Need-enum-told
-enum-told c = search needs
-
-enum-told-2 : tie.Need-enum-told-2
-enum-told-2 c = search needs
-
-enum-known-answer-2 : tie.Need-enum-known-answer-2
-enum-known-answer-2 c = search needs
-
 returns : tie.Need-returns
 returns c = rw (c .before .answer .given .1)
 
@@ -31,10 +19,10 @@ pub change-spec : {M : Type 1} → statement M
 change-spec =
     tie.close
     (tie.spec
-    enum-known-answer
-    enum-told
-    enum-told-2
-    enum-known-answer-2
+    (λ c. search needs)
+    (λ c. search needs)
+    (λ c. search needs)
+    (λ c. search needs)
     returns
     returns-2
     returns-3

@@ -7,14 +7,8 @@ use Rattle.toggleash.proofs.Laws.{once, looked-refused, looked-end}
 use Rattle.toggleash.proofs.finding.Statement.{statement}
 use Rattle.toggleash.proofs.finding.Tie as tie
 
-sub-t5 : tie.Need-sub-t5
-sub-t5 c = search needs
-
 returns : tie.Need-returns
 returns c = looked-refused (c .before .before .before .args .end) (c .before .if1 .taken)
-
-some-requires : tie.Need-some-requires
-some-requires c κs = search needs
 
 mul-t7 : tie.Need-mul-t7
 mul-t7 c =
@@ -28,4 +22,4 @@ returns-2 c =
     looked-end (c .before .before .before .before .before .args .end) (f .result) (f .ensures .0) (c .before .before .before .if1 .left)
 
 pub finding-spec : {M : Type 1} → statement M
-finding-spec = tie.close (tie.spec sub-t5 returns some-requires mul-t7 returns-2)
+finding-spec = tie.close (tie.spec (λ c. search needs) returns (λ c κs. search needs) mul-t7 returns-2)

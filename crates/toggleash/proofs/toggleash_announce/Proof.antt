@@ -5,18 +5,9 @@ use borrow.Author.Needs.{needs}
 use Rattle.toggleash.proofs.toggleash_announce.Statement.{statement}
 use Rattle.toggleash.proofs.toggleash_announce.Tie as tie
 
-announce-requires : tie.Need-announce-requires
-announce-requires c κs = search needs
-
-change-requires : tie.Need-change-requires
-change-requires c κs = search needs
-
-same-length : tie.Need-same-length
-same-length c = search needs
-
 returns : tie.Need-returns
 returns c = made v4 _ _ _ (c .before .before .before .announce .result) _ (c .before .before .before .announce .ensures) (c .change .ensures)
 
 pub toggleash-announce-spec : {M : Type 1} → statement M
 toggleash-announce-spec =
-    tie.close (tie.spec announce-requires change-requires same-length returns)
+    tie.close (tie.spec (λ c κs. search needs) (λ c κs. search needs) (λ c. search needs) returns)

@@ -5,14 +5,8 @@ use borrow.Author.Needs.{needs}
 use Rattle.toggleash.proofs.toggleash_check.Statement.{statement}
 use Rattle.toggleash.proofs.toggleash_check.Tie as tie
 
-check-requires : tie.Need-check-requires
-check-requires c κs = search needs
-
-counts-requires : tie.Need-counts-requires
-counts-requires c κs = search needs
-
 returns : tie.Need-returns
 returns c = c .counts .ensures ∙ ap counted (c .before .check .ensures)
 
 pub toggleash-check-spec : {M : Type 1} → statement M
-toggleash-check-spec = tie.close (tie.spec check-requires counts-requires returns)
+toggleash-check-spec = tie.close (tie.spec (λ c κs. search needs) (λ c κs. search needs) returns)

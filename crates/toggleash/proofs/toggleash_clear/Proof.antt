@@ -5,17 +5,8 @@ use borrow.Author.Needs.{needs}
 use Rattle.toggleash.proofs.toggleash_clear.Statement.{statement}
 use Rattle.toggleash.proofs.toggleash_clear.Tie as tie
 
-clear-requires : tie.Need-clear-requires
-clear-requires c κs = search needs
-
-number-requires : tie.Need-number-requires
-number-requires c κs = search needs
-
-same-length : tie.Need-same-length
-same-length c = search needs
-
 returns : tie.Need-returns
 returns c = cleared v4 _ _ (c .before .before .before .clear .result) _ (c .before .before .before .clear .ensures) (c .number .ensures)
 
 pub toggleash-clear-spec : {M : Type 1} → statement M
-toggleash-clear-spec = tie.close (tie.spec clear-requires number-requires same-length returns)
+toggleash-clear-spec = tie.close (tie.spec (λ c κs. search needs) (λ c κs. search needs) (λ c. search needs) returns)

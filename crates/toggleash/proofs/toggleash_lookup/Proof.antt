@@ -5,14 +5,8 @@ use borrow.Author.Needs.{needs}
 use Rattle.toggleash.proofs.toggleash_lookup.Statement.{statement}
 use Rattle.toggleash.proofs.toggleash_lookup.Tie as tie
 
-walk-of-requires : tie.Need-walk-of-requires
-walk-of-requires c κs = search needs
-
-finding-requires : tie.Need-finding-requires
-finding-requires c κs = search needs
-
 returns : tie.Need-returns
 returns c = c .finding .ensures ∙ ap looked (c .before .walk-of .ensures .0)
 
 pub toggleash-lookup-spec : {M : Type 1} → statement M
-toggleash-lookup-spec = tie.close (tie.spec walk-of-requires finding-requires returns)
+toggleash-lookup-spec = tie.close (tie.spec (λ c κs. search needs) (λ c κs. search needs) returns)

@@ -5,18 +5,9 @@ use borrow.Author.Needs.{needs}
 use Rattle.toggleash.proofs.toggleash_withdraw.Statement.{statement}
 use Rattle.toggleash.proofs.toggleash_withdraw.Tie as tie
 
-withdraw-requires : tie.Need-withdraw-requires
-withdraw-requires c κs = search needs
-
-change-requires : tie.Need-change-requires
-change-requires c κs = search needs
-
-same-length : tie.Need-same-length
-same-length c = search needs
-
 returns : tie.Need-returns
 returns c = made v4 _ _ _ (c .before .before .before .withdraw .result) _ (c .before .before .before .withdraw .ensures) (c .change .ensures)
 
 pub toggleash-withdraw-spec : {M : Type 1} → statement M
 toggleash-withdraw-spec =
-    tie.close (tie.spec withdraw-requires change-requires same-length returns)
+    tie.close (tie.spec (λ c κs. search needs) (λ c κs. search needs) (λ c. search needs) returns)

@@ -6,25 +6,10 @@ use borrow.Author.Needs.{needs}
 use Rattle.toggleash.proofs.write_out.Statement.{statement}
 use Rattle.toggleash.proofs.write_out.Tie as tie
 
-fill-of-requires : tie.Need-fill-of-requires
-fill-of-requires c κs = search needs
-
-same-length : tie.Need-same-length
-same-length c = search needs
-
 returns : tie.Need-returns
 returns c =
     let fill = c .before .before .before in
     written-some (saidFamily (fill .before .before .before .before .args .family)) _ _ _ _ (fill .fill-of .ensures) (c .if1 .taken)
-
-count-of-requires : tie.Need-count-of-requires
-count-of-requires c κs = search needs
-
-size-requires : tie.Need-size-requires
-size-requires c κs = search needs
-
-same-length-2 : tie.Need-same-length-2
-same-length-2 c = search needs
 
 returns-2 : tie.Need-returns-2
 returns-2 c =
@@ -38,10 +23,10 @@ pub write-out-spec : {M : Type 1} → statement M
 write-out-spec =
     tie.close
     (tie.spec
-    fill-of-requires
-    same-length
+    (λ c κs. search needs)
+    (λ c. search needs)
     returns
-    count-of-requires
-    size-requires
-    same-length-2
+    (λ c κs. search needs)
+    (λ c κs. search needs)
+    (λ c. search needs)
     returns-2)

@@ -10,9 +10,6 @@ use Rattle.update.specs.Fault.{announce-prefix, announce-hop, announce-f
 use Rattle.update.proofs.announce_fault.Statement.{statement}
 use Rattle.update.proofs.announce_fault.Tie as tie
 
-prefix-fault-requires : tie.Need-prefix-fault-requires
-prefix-fault-requires c κs = search needs
-
 returns : tie.Need-returns
 returns c =
     let p = c .before in
@@ -38,9 +35,6 @@ returns-3 c =
     (sym (p .prefix-fault .ensures) ∙ c .before .before .if1 .left)
     (rw (ne-eqb (a .hop) 0 (c .before .if2 .left), lt-ltb 65535 (a .hop) (omega (arith, c .if3 .taken)))) (λ z. omega arith)
 
-feed-fault-requires : tie.Need-feed-fault-requires
-feed-fault-requires c κs = search needs
-
 returns-4 : tie.Need-returns-4
 returns-4 c =
     let high = c .before in
@@ -54,4 +48,4 @@ returns-4 c =
 
 pub announce-fault-spec : {M : Type 1} → statement M
 announce-fault-spec =
-    tie.close (tie.spec prefix-fault-requires returns returns-2 returns-3 feed-fault-requires returns-4)
+    tie.close (tie.spec (λ c κs. search needs) returns returns-2 returns-3 (λ c κs. search needs) returns-4)

@@ -8,16 +8,10 @@ use Rattle.update.specs.Local.{local-two, local-same, local-full, local-
 use Rattle.update.proofs.announce_in.Statement.{statement}
 use Rattle.update.proofs.announce_in.Tie as tie
 
-word-of-requires : tie.Need-word-of-requires
-word-of-requires c κs = search needs
-
 find-requires : tie.Need-find-requires
 find-requires c κs =
     let t = c .before .before .before .before in
     (t .pre .0 .0, t .pre .0 .1, t .pre .0 .2, t .pre .1 .prefix .fits, t .pre .1 .feed, t .pre .0 .3)
-
-same-length : tie.Need-same-length
-same-length c = search needs
 
 returns : tie.Need-returns
 returns c =
@@ -27,9 +21,6 @@ returns c =
     let s = f .find .ensures in
     let q = t .pre .1 in
     (local-two (q .prefix) (q .feed) s _ refl refl (c .if1 .taken))
-
-same-length-2 : tie.Need-same-length-2
-same-length-2 c = search needs
 
 returns-2 : tie.Need-returns-2
 returns-2 c =
@@ -50,9 +41,6 @@ extend-requires c κs =
     let q = t .pre .1 in
     (t .pre .0 .0, t .pre .0 .1, t .pre .0 .2, s .stands .top, s .walked .some (c .before .before .before .if1 .left), t .pre .0 .3)
 
-same-length-3 : tie.Need-same-length-3
-same-length-3 c = search needs
-
 returns-3 : tie.Need-returns-3
 returns-3 c =
     let x = c .before .before .before .extend in
@@ -65,9 +53,6 @@ returns-3 c =
     let q = t .pre .1 in
     (local-full (q .prefix) (q .feed) s (there .if1 .left) (t .args .hop) (t .args .preference) (q .low) (q .high)
     (λ z. other .if2 .left (z ∙ sym (word .word-of .ensures))) (x .last .0) (x .result) (x .ensures) (c .if3 .taken))
-
-same-length-4 : tie.Need-same-length-4
-same-length-4 c = search needs
 
 returns-4 : tie.Need-returns-4
 returns-4 c =
@@ -98,9 +83,6 @@ reseat-requires c κs =
     (λ z. other .if2 .left (z ∙ sym (word .word-of .ensures))) (x .last .0) (x .result) (x .ensures) (c .before .before .if3 .left) (c .before .if4 .left) in
     (o, rw z (t .pre .0 .1), q .feed)
 
-same-length-5 : tie.Need-same-length-5
-same-length-5 c = search needs
-
 returns-5 : tie.Need-returns-5
 returns-5 c =
     let y = c .before .before .reseat in
@@ -122,17 +104,17 @@ pub announce-in-spec : {M : Type 1} → statement M
 announce-in-spec =
     tie.close
     (tie.spec
-    word-of-requires
+    (λ c κs. search needs)
     find-requires
-    same-length
+    (λ c. search needs)
     returns
-    same-length-2
+    (λ c. search needs)
     returns-2
     extend-requires
-    same-length-3
+    (λ c. search needs)
     returns-3
-    same-length-4
+    (λ c. search needs)
     returns-4
     reseat-requires
-    same-length-5
+    (λ c. search needs)
     returns-5)

@@ -5,18 +5,6 @@ use Rattle.numbers.specs.Four.{four-number}
 use Rattle.update.proofs.announce_local.Statement.{statement}
 use Rattle.update.proofs.announce_local.Tie as tie
 
-four-of-requires : tie.Need-four-of-requires
-four-of-requires c κs = search needs
-
-slice-aggregate-announce-local-of : tie.Need-slice-aggregate-announce-local-of
-slice-aggregate-announce-local-of c = search needs
-
-announce-local-of-requires : tie.Need-announce-local-of-requires
-announce-local-of-requires c κs = search needs
-
-same-length : tie.Need-same-length
-same-length c = search needs
-
 returns : tie.Need-returns
 returns c =
     let b = c .before .before .before .before .before in
@@ -25,4 +13,4 @@ returns c =
 
 pub announce-local-spec : {M : Type 1} → statement M
 announce-local-spec =
-    tie.close (tie.spec four-of-requires slice-aggregate-announce-local-of announce-local-of-requires same-length returns)
+    tie.close (tie.spec (λ c κs. search needs) (λ c. search needs) (λ c κs. search needs) (λ c. search needs) returns)

@@ -5,15 +5,6 @@ use borrow.Author.Needs.{needs}
 use Rattle.update.proofs.announce_local_v6.Statement.{statement}
 use Rattle.update.proofs.announce_local_v6.Tie as tie
 
-slice-aggregate-announce-local-of : tie.Need-slice-aggregate-announce-local-of
-slice-aggregate-announce-local-of c = search needs
-
-announce-local-of-requires : tie.Need-announce-local-of-requires
-announce-local-of-requires c κs = search needs
-
-same-length : tie.Need-same-length
-same-length c = search needs
-
 returns : tie.Need-returns
 returns c =
     let u = c .before .before in
@@ -21,4 +12,4 @@ returns c =
     rw e at (u .announce-local-of .ensures)
 
 pub announce-local-v6-spec : {M : Type 1} → statement M
-announce-local-v6-spec = tie.close (tie.spec slice-aggregate-announce-local-of announce-local-of-requires same-length returns)
+announce-local-v6-spec = tie.close (tie.spec (λ c. search needs) (λ c κs. search needs) (λ c. search needs) returns)

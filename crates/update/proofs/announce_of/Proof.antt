@@ -33,18 +33,6 @@ clear c =
     let t = c .before .before .before .before .before .before in
     passed (size (t .args .address .now)) (t .args .words .now) (t .pre .some) (t .pre .levels) _ (sym (first (c .before)) ∙ c .if1 .left)
 
-announce-fault-requires : tie.Need-announce-fault-requires
-announce-fault-requires c κs = search needs
-
-cast-refusal : tie.Need-cast-refusal
-cast-refusal c = search needs
-
-refusal-requires : tie.Need-refusal-requires
-refusal-requires c κs = search needs
-
-same-length : tie.Need-same-length
-same-length c = search needs
-
 returns : tie.Need-returns
 returns c =
     let t = c .before .before .before .before .before .before in
@@ -56,9 +44,6 @@ announce-in-requires c κs =
     let b = t .args .address .now in
     let p = clear (c .before) in
     ((p .0 .low, p .0 .high, t .pre, λ _. p .0), sound-route (size b) (number b) (t .args .length) (t .args .hop) (t .args .feed) (t .args .preference) (p .1))
-
-same-length-2 : tie.Need-same-length-2
-same-length-2 c = search needs
 
 returns-2 : tie.Need-returns-2
 returns-2 c =
@@ -72,11 +57,11 @@ pub announce-of-spec : {M : Type 1} → statement M
 announce-of-spec =
     tie.close
     (tie.spec
-    announce-fault-requires
-    cast-refusal
-    refusal-requires
-    same-length
+    (λ c κs. search needs)
+    (λ c. search needs)
+    (λ c κs. search needs)
+    (λ c. search needs)
     returns
     announce-in-requires
-    same-length-2
+    (λ c. search needs)
     returns-2)

@@ -13,9 +13,6 @@ use Rattle.update.proofs.refusal.Tie as tie
 fits : (c : tie.Else1) → misfits (size (c .before .before .before .args .words .now)) ≡ false
 fits c = sym (c .before .misfit .ensures) ∙ c .if1 .left
 
-misfit-requires : tie.Need-misfit-requires
-misfit-requires c κs = search needs
-
 returns : tie.Need-returns
 returns c = let a = c .before .before .before .args in refusal-size (a .levels) (a .words .now) (a .fault) (sym (c .before .misfit .ensures) ∙ c .if1 .taken)
 
@@ -41,4 +38,4 @@ returns-4 c =
 
 pub refusal-spec : {M : Type 1} → statement M
 refusal-spec =
-    tie.close (tie.spec misfit-requires returns returns-2 is-table-of-requires returns-3 returns-4)
+    tie.close (tie.spec (λ c κs. search needs) returns returns-2 is-table-of-requires returns-3 returns-4)

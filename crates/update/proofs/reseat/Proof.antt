@@ -9,18 +9,12 @@ reslot-requires c κs =
     let t = c .before .before in
     (sits-spot _ _ _ _ (t .pre .0), t .pre .2)
 
-slot-of-requires : tie.Need-slot-of-requires
-slot-of-requires c κs = search needs
-
 retotal-requires : tie.Need-retotal-requires
 retotal-requires c κs =
     let slot = c .before in
     let r = slot .before .before .before in
     let t = r .before .before .before in
     (seated-climbs (t .pre .0) (r .reslot .ensures), rw (r .reslot .ensures .size) (t .pre .1), slot .slot-of .ensures .1)
-
-same-length : tie.Need-same-length
-same-length c = search needs
 
 returns : tie.Need-returns
 returns c =
@@ -32,4 +26,4 @@ returns c =
     (rw (slot .slot-of .ensures .0) at (slot .slot-of .ensures .1)) (rw (slot .slot-of .ensures .0) at (total .retotal .ensures))
 
 pub reseat-spec : {M : Type 1} → statement M
-reseat-spec = tie.close (tie.spec reslot-requires slot-of-requires retotal-requires same-length returns)
+reseat-spec = tie.close (tie.spec reslot-requires (λ c κs. search needs) retotal-requires (λ c. search needs) returns)

@@ -8,27 +8,6 @@ use borrow.Author.Needs.{needs}
 use Rattle.update.proofs.reslot.Statement.{statement}
 use Rattle.update.proofs.reslot.Tie as tie
 
-array-at-requires : tie.Need-array-at-requires
-array-at-requires c κs = search needs
-
-add-array-at : tie.Need-add-array-at
-add-array-at c = search needs
-
-array-at-requires-2 : tie.Need-array-at-requires-2
-array-at-requires-2 c κs = search needs
-
-mul-reslot : tie.Need-mul-reslot
-mul-reslot c = search needs
-
-sub-reslot : tie.Need-sub-reslot
-sub-reslot c = search needs
-
-part-reslot-start : tie.Need-part-reslot-start
-part-reslot-start c = search needs
-
-part-reslot-end : tie.Need-part-reslot-end
-part-reslot-end c = search needs
-
 reslot-requires : tie.Need-reslot-requires
 reslot-requires c κs =
     let t = c .before .before .before .before in
@@ -39,9 +18,6 @@ reslot-requires c κs =
       spot-in (t .args .words .now) a (p .depth) (p .value) (t .pre .0),
       t .pre .1,
     )
-
-same-length : tie.Need-same-length
-same-length c = search needs
 
 returns : tie.Need-returns
 returns c =
@@ -60,13 +36,13 @@ pub reslot-spec : {M : Type 1} → statement M
 reslot-spec =
     tie.close
     (tie.spec
-    array-at-requires
-    add-array-at
-    array-at-requires-2
-    mul-reslot
-    sub-reslot
-    part-reslot-start
-    part-reslot-end
+    (λ c κs. search needs)
+    (λ c. search needs)
+    (λ c κs. search needs)
+    (λ c. search needs)
+    (λ c. search needs)
+    (λ c. search needs)
+    (λ c. search needs)
     reslot-requires
-    same-length
+    (λ c. search needs)
     returns)

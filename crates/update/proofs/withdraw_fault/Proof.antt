@@ -8,18 +8,12 @@ use Rattle.update.specs.Fault.{withdraw-prefix, withdraw-feed}
 use Rattle.update.proofs.withdraw_fault.Statement.{statement}
 use Rattle.update.proofs.withdraw_fault.Tie as tie
 
-prefix-fault-requires : tie.Need-prefix-fault-requires
-prefix-fault-requires c κs = search needs
-
 returns : tie.Need-returns
 returns c =
     let p = c .before in
     let a = p .before .before .args in
     let b = a .address .now in
     withdraw-prefix (8 * size b) (number b) (a .length) (a .feed) (p .prefix-fault .result) (p .prefix-fault .ensures) (c .if1 .taken)
-
-feed-fault-requires : tie.Need-feed-fault-requires
-feed-fault-requires c κs = search needs
 
 returns-2 : tie.Need-returns-2
 returns-2 c =
@@ -30,4 +24,4 @@ returns-2 c =
     (sym (p .prefix-fault .ensures) ∙ c .before .if1 .left) (c .feed-fault .ensures)
 
 pub withdraw-fault-spec : {M : Type 1} → statement M
-withdraw-fault-spec = tie.close (tie.spec prefix-fault-requires returns feed-fault-requires returns-2)
+withdraw-fault-spec = tie.close (tie.spec (λ c κs. search needs) returns (λ c κs. search needs) returns-2)

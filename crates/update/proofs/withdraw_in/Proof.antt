@@ -11,18 +11,12 @@ find-requires c κs =
     let t = c .before .before .before in
     (t .pre .0 .0, t .pre .0 .1, t .pre .0 .2, t .pre .1 .0 .fits, t .pre .1 .1, t .pre .0 .3)
 
-same-length : tie.Need-same-length
-same-length c = search needs
-
 returns : tie.Need-returns
 returns c =
     let f = c .before .before in
     let t = f .before .before .before .before in
     let s = f .find .ensures in
     (local-two (t .pre .1 .0) (t .pre .1 .1) s _ refl refl (c .if1 .taken))
-
-same-length-2 : tie.Need-same-length-2
-same-length-2 c = search needs
 
 returns-2 : tie.Need-returns-2
 returns-2 c =
@@ -53,12 +47,6 @@ prune-requires c κs =
       rw (r .reseat .ensures .same _ (way .rises) .size) (t .pre .0 .1),
     )
 
-hop-in-requires : tie.Need-hop-in-requires
-hop-in-requires c κs = search needs
-
-same-length-3 : tie.Need-same-length-3
-same-length-3 c = search needs
-
 returns-3 : tie.Need-returns-3
 returns-3 c =
     let p = c .before .before .before in
@@ -76,12 +64,12 @@ withdraw-in-spec =
     tie.close
     (tie.spec
     find-requires
-    same-length
+    (λ c. search needs)
     returns
-    same-length-2
+    (λ c. search needs)
     returns-2
     reseat-requires
     prune-requires
-    hop-in-requires
-    same-length-3
+    (λ c κs. search needs)
+    (λ c. search needs)
     returns-3)

@@ -5,18 +5,6 @@ use Rattle.numbers.specs.Four.{four-number}
 use Rattle.update.proofs.withdraw_local.Statement.{statement}
 use Rattle.update.proofs.withdraw_local.Tie as tie
 
-four-of-requires : tie.Need-four-of-requires
-four-of-requires c κs = search needs
-
-slice-aggregate-withdraw-local-of : tie.Need-slice-aggregate-withdraw-local-of
-slice-aggregate-withdraw-local-of c = search needs
-
-withdraw-local-of-requires : tie.Need-withdraw-local-of-requires
-withdraw-local-of-requires c κs = search needs
-
-same-length : tie.Need-same-length
-same-length c = search needs
-
 returns : tie.Need-returns
 returns c =
     let b = c .before .before .before .before .before in
@@ -25,4 +13,4 @@ returns c =
 
 pub withdraw-local-spec : {M : Type 1} → statement M
 withdraw-local-spec =
-    tie.close (tie.spec four-of-requires slice-aggregate-withdraw-local-of withdraw-local-of-requires same-length returns)
+    tie.close (tie.spec (λ c κs. search needs) (λ c. search needs) (λ c κs. search needs) (λ c. search needs) returns)

@@ -31,18 +31,6 @@ clear c =
     let t = c .before .before .before .before .before .before in
     passed (size (t .args .address .now)) (t .args .words .now) (t .pre .some) (t .pre .levels) _ (sym (first (c .before)) ∙ c .if1 .left)
 
-withdraw-fault-requires : tie.Need-withdraw-fault-requires
-withdraw-fault-requires c κs = search needs
-
-cast-refusal : tie.Need-cast-refusal
-cast-refusal c = search needs
-
-refusal-requires : tie.Need-refusal-requires
-refusal-requires c κs = search needs
-
-same-length : tie.Need-same-length
-same-length c = search needs
-
 returns : tie.Need-returns
 returns c =
     let t = c .before .before .before .before .before .before in
@@ -54,9 +42,6 @@ withdraw-in-requires c κs =
     let b = t .args .address .now in
     let p = clear (c .before) in
     ((p .0 .low, p .0 .high, t .pre, λ _. p .0), sound-prefix (size b) (number b) (t .args .length) (t .args .feed) (p .1))
-
-same-length-2 : tie.Need-same-length-2
-same-length-2 c = search needs
 
 returns-2 : tie.Need-returns-2
 returns-2 c =
@@ -70,11 +55,11 @@ pub withdraw-of-spec : {M : Type 1} → statement M
 withdraw-of-spec =
     tie.close
     (tie.spec
-    withdraw-fault-requires
-    cast-refusal
-    refusal-requires
-    same-length
+    (λ c κs. search needs)
+    (λ c. search needs)
+    (λ c κs. search needs)
+    (λ c. search needs)
     returns
     withdraw-in-requires
-    same-length-2
+    (λ c. search needs)
     returns-2)

@@ -20,17 +20,11 @@ Inv-loop words address k s arrays a₀ j₀ a j =
 abbrev μ-loop : tie.MeasureT-loop
 μ-loop words address k s arrays a₀ j₀ a j = k - j
 
-arrays-in-requires : tie.Need-arrays-in-requires Inv-loop μ-loop
-arrays-in-requires c κs = search needs
-
 loop-holds : tie.Need-loop-holds Inv-loop μ-loop
 loop-holds c =
     let k = c .before .before .before .args .k in
     let e : k - 0 ≡ k = omega arith in
     (omega arith, omega arith, omega arith, rw e)
-
-byte-at-requires : tie.Need-byte-at-requires Inv-loop μ-loop
-byte-at-requires c κs = search needs
 
 below-requires : tie.Need-below-requires Inv-loop μ-loop
 below-requires c κs =
@@ -64,12 +58,6 @@ returns-2 c =
     walk-bad L (s .words .now) x (s .s) (s .k) (l .loop .j) (l .loop .a) (y .result) (omega arith) (y .ensures .0)
     (n .result) (n .ensures) (λ z. c .before .if1 .left (e ∙ z)) (omega (arith, e))
     ∙ l .loop .inv .3
-
-add-j : tie.Need-add-j Inv-loop μ-loop
-add-j c = search needs
-
-loop-less : tie.Need-loop-less Inv-loop μ-loop
-loop-less c = search needs
 
 loop-again : tie.Need-loop-again Inv-loop μ-loop
 loop-again c =
@@ -106,14 +94,14 @@ descend-spec =
     (tie.spec
     Inv-loop
     μ-loop
-    arrays-in-requires
+    (λ c κs. search needs)
     loop-holds
-    byte-at-requires
+    (λ c κs. search needs)
     below-requires
     returns
     returns-2
-    add-j
-    loop-less
+    (λ c. search needs)
+    (λ c. search needs)
     loop-again
     read-requires
     returns-3)

@@ -5,15 +5,6 @@ use borrow.Author.Needs.{needs}
 use Rattle.within.proofs.read.Statement.{statement}
 use Rattle.within.proofs.read.Tie as tie
 
-total-requires : tie.Need-total-requires
-total-requires c κs = search needs
-
-cast-if1 : tie.Need-cast-if1
-cast-if1 c = search needs
-
-mul-if1 : tie.Need-mul-if1
-mul-if1 c = search needs
-
 returns : tie.Need-returns
 returns c =
     let t = c .before in
@@ -29,4 +20,4 @@ returns-2 c =
     read-in (a .words .now) (a .s) (a .a) (t .total .result) (a .arrays) (t .total .ensures) (s .pre .1) (omega arith)
 
 pub read-spec : {M : Type 1} → statement M
-read-spec = tie.close (tie.spec total-requires cast-if1 mul-if1 returns returns-2)
+read-spec = tie.close (tie.spec (λ c κs. search needs) (λ c. search needs) (λ c. search needs) returns returns-2)

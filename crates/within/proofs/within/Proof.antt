@@ -8,15 +8,6 @@ use borrow.Author.Needs.{needs}
 use Rattle.within.proofs.within.Statement.{statement}
 use Rattle.within.proofs.within.Tie as tie
 
-four-of-requires : tie.Need-four-of-requires
-four-of-requires c κs = search needs
-
-slice-aggregate-within-of : tie.Need-slice-aggregate-within-of
-slice-aggregate-within-of c = search needs
-
-within-of-requires : tie.Need-within-of-requires
-within-of-requires c κs = search needs
-
 returns : tie.Need-returns
 returns c =
     let f = c .before .before in
@@ -27,4 +18,4 @@ returns c =
 
 pub within-spec : {M : Type 1} → statement M
 within-spec =
-    tie.close (tie.spec four-of-requires slice-aggregate-within-of within-of-requires returns)
+    tie.close (tie.spec (λ c κs. search needs) (λ c. search needs) (λ c κs. search needs) returns)

@@ -26,9 +26,6 @@ seen-too c r =
     both (length b) (s .args .words .now) (number b) (s .args .length) r (s .pre .0) (s .pre .1)
     (number-lt b (λ i. omega (arith, c .shared-slice-known2 .given i)))
 
-misfit-requires : tie.Need-misfit-requires
-misfit-requires c κs = search needs
-
 returns : tie.Need-returns
 returns c =
     let m = c .before in
@@ -36,9 +33,6 @@ returns c =
     seen-too (m .before) _
     (asked-misfit (length (a .address .now)) (a .words .now) (number (a .address .now)) (a .length)
     (sym (m .misfit .ensures) ∙ c .if1 .taken))
-
-prefix-fault-requires : tie.Need-prefix-fault-requires
-prefix-fault-requires c κs = search needs
 
 returns-2 : tie.Need-returns-2
 returns-2 c =
@@ -87,9 +81,9 @@ pub within-of-spec : {M : Type 1} → statement M
 within-of-spec =
     tie.close
     (tie.spec
-    misfit-requires
+    (λ c κs. search needs)
     returns
-    prefix-fault-requires
+    (λ c κs. search needs)
     returns-2
     place-of-requires
     slot-of-requires

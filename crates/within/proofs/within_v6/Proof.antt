@@ -5,16 +5,10 @@ use borrow.Author.Needs.{needs}
 use Rattle.within.proofs.within_v6.Statement.{statement}
 use Rattle.within.proofs.within_v6.Tie as tie
 
-slice-aggregate-within-of : tie.Need-slice-aggregate-within-of
-slice-aggregate-within-of c = search needs
-
-within-of-requires : tie.Need-within-of-requires
-within-of-requires c κs = search needs
-
 returns : tie.Need-returns
 returns c =
     let e : length (c .before .before .before .args .t2) ≡ 16 = search needs in
     rw e at (c .within-of .ensures)
 
 pub within-v6-spec : {M : Type 1} → statement M
-within-v6-spec = tie.close (tie.spec slice-aggregate-within-of within-of-requires returns)
+within-v6-spec = tie.close (tie.spec (λ c. search needs) (λ c κs. search needs) returns)

@@ -5,14 +5,8 @@ use borrow.Author.Needs.{needs}
 use Rattle.words.proofs.below.Statement.{statement}
 use Rattle.words.proofs.below.Tie as tie
 
-cell-requires : tie.Need-cell-requires
-cell-requires c κs = search needs
-
-link-in-requires : tie.Need-link-in-requires
-link-in-requires c κs = search needs
-
 returns : tie.Need-returns
 returns c = (c .link-in .ensures .0 ∙ ap linkIn (c .before .cell .ensures), c .link-in .ensures .1)
 
 pub below-spec : {M : Type 1} → statement M
-below-spec = tie.close (tie.spec cell-requires link-in-requires returns)
+below-spec = tie.close (tie.spec (λ c κs. search needs) (λ c κs. search needs) returns)

@@ -4,9 +4,6 @@ use borrow.Author.Needs.{needs}
 use Rattle.words.proofs.clean.Statement.{statement}
 use Rattle.words.proofs.clean.Tie as tie
 
-blank-requires : tie.Need-blank-requires
-blank-requires c κs = search needs
-
 returns : tie.Need-returns
 returns c = c .if1 .taken ∙ sym (c .before .before .pre .2 (c .if1 .taken))
 
@@ -14,4 +11,4 @@ returns-2 : tie.Need-returns-2
 returns-2 c = c .blank .ensures
 
 pub clean-spec : {M : Type 1} → statement M
-clean-spec = tie.close (tie.spec blank-requires returns returns-2)
+clean-spec = tie.close (tie.spec (λ c κs. search needs) returns returns-2)

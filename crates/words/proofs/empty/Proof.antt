@@ -5,9 +5,6 @@ use borrow.Author.Needs.{needs}
 use Rattle.words.proofs.empty.Statement.{statement}
 use Rattle.words.proofs.empty.Tie as tie
 
-page-requires : tie.Need-page-requires
-page-requires c κs = search needs
-
 empty-requires : tie.Need-empty-requires
 empty-requires c κs = c .page .ensures .1
 
@@ -21,4 +18,4 @@ returns c =
     )
 
 pub empty-spec : {M : Type 1} → statement M
-empty-spec = tie.close (tie.spec page-requires empty-requires returns)
+empty-spec = tie.close (tie.spec (λ c κs. search needs) empty-requires returns)

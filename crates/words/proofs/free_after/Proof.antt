@@ -8,9 +8,6 @@ use Rattle.words.specs.Frees.{passed-first}
 use Rattle.words.proofs.free_after.Statement.{statement}
 use Rattle.words.proofs.free_after.Tie as tie
 
-passed-requires : tie.Need-passed-requires
-passed-requires c κs = search needs
-
 free-past-requires : tie.Need-free-past-requires
 free-past-requires c κs = let t = c .before .before .before in (t .pre .0, t .pre .1, c .passed .ensures .fits)
 
@@ -20,24 +17,6 @@ returns c =
     let a = p .before .before .before .args in
     rw (p .before .if1 .taken) (passed-first (a .words .now) (p .passed .result) (c .free-past .result) (p .passed .ensures) (c .free-past .ensures))
 
-arrays-in-requires : tie.Need-arrays-in-requires
-arrays-in-requires c κs = search needs
-
-add-g : tie.Need-add-g
-add-g c = search needs
-
-mul-e : tie.Need-mul-e
-mul-e c = search needs
-
-add-first-free : tie.Need-add-first-free
-add-first-free c = search needs
-
-add-first-free-2 : tie.Need-add-first-free-2
-add-first-free-2 c = search needs
-
-first-free-requires : tie.Need-first-free-requires
-first-free-requires c κs = search needs
-
 returns-2 : tie.Need-returns-2
 returns-2 c =
     let n = c .before .before in
@@ -45,15 +24,6 @@ returns-2 c =
     let a = s .args in
     after-all (a .words .now) (a .f) (s .pre .3 (n .before .if1 .left)) (n .before .if1 .left) (c .first-free .result) (n .arrays-in .result)
     (n .arrays-in .ensures) (omega (arith, n .arrays-in .ensures, s .pre .2)) (omega arith) (c .first-free .ensures)
-
-add-first-free-3 : tie.Need-add-first-free-3
-add-first-free-3 c = search needs
-
-add-first-free-4 : tie.Need-add-first-free-4
-add-first-free-4 c = search needs
-
-first-free-requires-2 : tie.Need-first-free-requires-2
-first-free-requires-2 c κs = search needs
 
 returns-3 : tie.Need-returns-3
 returns-3 c =
@@ -63,9 +33,6 @@ returns-3 c =
     let a = s .args in
     after-near (a .words .now) (a .f) (s .pre .3 (n .before .if1 .left)) (n .before .if1 .left) (n .arrays-in .result) _ (r .result) refl
     (n .arrays-in .ensures) (omega arith) (r .ensures) (c .if3 .taken)
-
-free-past-requires-2 : tie.Need-free-past-requires-2
-free-past-requires-2 c κs = search needs
 
 returns-4 : tie.Need-returns-4
 returns-4 c =
@@ -80,19 +47,19 @@ pub free-after-spec : {M : Type 1} → statement M
 free-after-spec =
     tie.close
     (tie.spec
-    passed-requires
+    (λ c κs. search needs)
     free-past-requires
     returns
-    arrays-in-requires
-    add-g
-    mul-e
-    add-first-free
-    add-first-free-2
-    first-free-requires
+    (λ c κs. search needs)
+    (λ c. search needs)
+    (λ c. search needs)
+    (λ c. search needs)
+    (λ c. search needs)
+    (λ c κs. search needs)
     returns-2
-    add-first-free-3
-    add-first-free-4
-    first-free-requires-2
+    (λ c. search needs)
+    (λ c. search needs)
+    (λ c κs. search needs)
     returns-3
-    free-past-requires-2
+    (λ c κs. search needs)
     returns-4)

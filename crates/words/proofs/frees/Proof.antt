@@ -73,9 +73,6 @@ cast-all c =
           (g .free-after .ensures) (z .before .if1 .left) .1,
     )
 
-mul-all : tie.Need-mul-all Inv-loop μ-loop
-mul-all c = search needs
-
 array-write-all : tie.Need-array-write-all Inv-loop μ-loop
 array-write-all c =
     let g = c .before .before .before in
@@ -84,12 +81,6 @@ array-write-all c =
     let a = s .args in
     let ws = a .words .now in
     omega (arith, l .loop .inv .1 .size)
-
-add-i : tie.Need-add-i Inv-loop μ-loop
-add-i c = search needs
-
-loop-less : tie.Need-loop-less Inv-loop μ-loop
-loop-less c = search needs
 
 loop-again : tie.Need-loop-again Inv-loop μ-loop
 loop-again c =
@@ -123,9 +114,9 @@ frees-spec =
     clean-requires
     returns-2
     cast-all
-    mul-all
+    (λ c. search needs)
     array-write-all
-    add-i
-    loop-less
+    (λ c. search needs)
+    (λ c. search needs)
     loop-again
     returns-3)

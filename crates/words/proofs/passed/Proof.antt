@@ -17,17 +17,8 @@ Inv-loop words n g₀ g = Passed words g
 abbrev μ-loop : tie.MeasureT-loop
 μ-loop words n g₀ g = n - perGroup * g
 
-arrays-in-requires : tie.Need-arrays-in-requires Inv-loop μ-loop
-arrays-in-requires c κs = omega arith
-
 loop-holds : tie.Need-loop-holds Inv-loop μ-loop
 loop-holds c = record { fits = omega arith; none = refl }
-
-mul-loop : tie.Need-mul-loop Inv-loop μ-loop
-mul-loop c = omega arith
-
-add-loop : tie.Need-add-loop Inv-loop μ-loop
-add-loop c = omega arith
 
 full-from-requires : tie.Need-full-from-requires Inv-loop μ-loop
 full-from-requires c κs =
@@ -36,12 +27,6 @@ full-from-requires c κs =
 
 returns : tie.Need-returns Inv-loop μ-loop
 returns c = c .before .before .before .loop .inv
-
-add-g : tie.Need-add-g Inv-loop μ-loop
-add-g c = omega arith
-
-loop-less : tie.Need-loop-less Inv-loop μ-loop
-loop-less c = omega arith
 
 loop-again : tie.Need-loop-again Inv-loop μ-loop
 loop-again c =
@@ -64,13 +49,13 @@ passed-spec =
     (tie.spec
     Inv-loop
     μ-loop
-    arrays-in-requires
+    (λ c κs. omega arith)
     loop-holds
-    mul-loop
-    add-loop
+    (λ c. omega arith)
+    (λ c. omega arith)
     full-from-requires
     returns
-    add-g
-    loop-less
+    (λ c. omega arith)
+    (λ c. omega arith)
     loop-again
     returns-2)

@@ -13,48 +13,6 @@ use borrow.Author.Needs.{needs}
 use Rattle.words.proofs.release.Statement.{statement}
 use Rattle.words.proofs.release.Tie as tie
 
-tag-requires : tie.Need-tag-requires
-tag-requires c κs = search needs
-
-parent-in-requires : tie.Need-parent-in-requires
-parent-in-requires c κs = search needs
-
-cell-in-requires : tie.Need-cell-in-requires
-cell-in-requires c κs = search needs
-
-mul-from : tie.Need-mul-from
-mul-from c = search needs
-
-add-to : tie.Need-add-to
-add-to c = search needs
-
-sub-group : tie.Need-sub-group
-sub-group c = search needs
-
-add-group : tie.Need-add-group
-add-group c = search needs
-
-slice-read-n : tie.Need-slice-read-n
-slice-read-n c = search needs
-
-mul-m : tie.Need-mul-m
-mul-m c = search needs
-
-slice-read-m : tie.Need-slice-read-m
-slice-read-m c = search needs
-
-mul-cut-link : tie.Need-mul-cut-link
-mul-cut-link c = search needs
-
-sub-cut-link : tie.Need-sub-cut-link
-sub-cut-link c = search needs
-
-part-cut-link-start : tie.Need-part-cut-link-start
-part-cut-link-start c = search needs
-
-part-cut-link-end : tie.Need-part-cut-link-end
-part-cut-link-end c = search needs
-
 cut-link-requires : tie.Need-cut-link-requires
 cut-link-requires c κs =
     let cell = c .before .before .before in
@@ -68,18 +26,6 @@ cut-link-requires c κs =
       g .cells,
       rw (lent-best ws (parentIn x) (cellIn x) (g .cells)) (g .small),
     )
-
-wrapping-add-u32-requires : tie.Need-wrapping-add-u32-requires
-wrapping-add-u32-requires c κs = search needs
-
-wrapping-add-u32-requires-2 : tie.Need-wrapping-add-u32-requires-2
-wrapping-add-u32-requires-2 c κs = search needs
-
-retag-requires : tie.Need-retag-requires
-retag-requires c κs = search needs
-
-same-length : tie.Need-same-length
-same-length c = search needs
 
 returns : tie.Need-returns
 returns c =
@@ -101,23 +47,23 @@ pub release-spec : {M : Type 1} → statement M
 release-spec =
     tie.close
     (tie.spec
-    tag-requires
-    parent-in-requires
-    cell-in-requires
-    mul-from
-    add-to
-    sub-group
-    add-group
-    slice-read-n
-    mul-m
-    slice-read-m
-    mul-cut-link
-    sub-cut-link
-    part-cut-link-start
-    part-cut-link-end
+    (λ c κs. search needs)
+    (λ c κs. search needs)
+    (λ c κs. search needs)
+    (λ c. search needs)
+    (λ c. search needs)
+    (λ c. search needs)
+    (λ c. search needs)
+    (λ c. search needs)
+    (λ c. search needs)
+    (λ c. search needs)
+    (λ c. search needs)
+    (λ c. search needs)
+    (λ c. search needs)
+    (λ c. search needs)
     cut-link-requires
-    wrapping-add-u32-requires
-    wrapping-add-u32-requires-2
-    retag-requires
-    same-length
+    (λ c κs. search needs)
+    (λ c κs. search needs)
+    (λ c κs. search needs)
+    (λ c. search needs)
     returns)

@@ -7,32 +7,11 @@ use borrow.Author.Needs.{needs}
 use Rattle.words.proofs.retag.Statement.{statement}
 use Rattle.words.proofs.retag.Tie as tie
 
-mul-to : tie.Need-mul-to
-mul-to c = search needs
-
-sub-group : tie.Need-sub-group
-sub-group c = search needs
-
-add-group : tie.Need-add-group
-add-group c = search needs
-
-mul-words : tie.Need-mul-words
-mul-words c = search needs
-
-slice-write-words : tie.Need-slice-write-words
-slice-write-words c = search needs
-
 slice-write-words-2 : tie.Need-slice-write-words-2
 slice-write-words-2 c = simp length-set (omega arith)
 
-mul-words-2 : tie.Need-mul-words-2
-mul-words-2 c = search needs
-
 slice-write-words-3 : tie.Need-slice-write-words-3
 slice-write-words-3 c = simp length-set (omega arith)
-
-same-length : tie.Need-same-length
-same-length c = search needs
 
 returns : tie.Need-returns
 unfolding retagged
@@ -42,13 +21,13 @@ pub retag-spec : {M : Type 1} → statement M
 retag-spec =
     tie.close
     (tie.spec
-    mul-to
-    sub-group
-    add-group
-    mul-words
-    slice-write-words
+    (λ c. search needs)
+    (λ c. search needs)
+    (λ c. search needs)
+    (λ c. search needs)
+    (λ c. search needs)
     slice-write-words-2
-    mul-words-2
+    (λ c. search needs)
     slice-write-words-3
-    same-length
+    (λ c. search needs)
     returns)

@@ -5,9 +5,6 @@ use borrow.Author.Needs.{needs}
 use Rattle.writing.proofs.byte_of.Statement.{statement}
 use Rattle.writing.proofs.byte_of.Tie as tie
 
-shared-slice-read-y : tie.Need-shared-slice-read-y
-shared-slice-read-y c = search needs
-
 returns : tie.Need-returns
 returns c =
     let s = c .before .before in
@@ -19,4 +16,4 @@ returns-2 c =
     sym (filled-zero (s .args .address .now) (s .args .reach) (s .pre .0) (s .args .i) (c .if1 .left))
 
 pub byte-of-spec : {M : Type 1} → statement M
-byte-of-spec = tie.close (tie.spec shared-slice-read-y returns returns-2)
+byte-of-spec = tie.close (tie.spec (λ c. search needs) returns returns-2)

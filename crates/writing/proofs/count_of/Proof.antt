@@ -19,24 +19,6 @@ told : (c : tie.After-check-of)
     checkAnswer (c .check-of .result) ≡ checkOn (width F) (seen (levels F) (a .words .now)))
 told c = rw (c .before .levels .ensures .0) at (c .check-of .ensures)
 
-levels-requires : tie.Need-levels-requires
-levels-requires c κs = search needs
-
-cast-check-of : tie.Need-cast-check-of
-cast-check-of c = search needs
-
-check-of-requires : tie.Need-check-of-requires
-check-of-requires c κs = search needs
-
-enum-known-checked : tie.Need-enum-known-checked
-enum-known-checked c = search needs
-
-add-bytes : tie.Need-add-bytes
-add-bytes c = search needs
-
-cast-bytes : tie.Need-cast-bytes
-cast-bytes c = search needs
-
 mul-bytes : tie.Need-mul-bytes
 mul-bytes c =
     let l = c .before .before .before .before .levels in
@@ -56,9 +38,6 @@ returns c =
     let w = c .before .before .checked .given in
     count-short F (seen (levels F) (a .words .now)) (a .room) (r .check-of .result) (told r) (w .0 .0) (w .0 .1 .0) _ (w .1)
     (ap (λ (n : ℕ). (n + 6) * w .0 .0 + 1) (l .levels .ensures .0)) (c .if1 .taken)
-
-enum-known-checked-2 : tie.Need-enum-known-checked-2
-enum-known-checked-2 c = search needs
 
 returns-2 : tie.Need-returns-2
 returns-2 c =
@@ -82,15 +61,15 @@ pub count-of-spec : {M : Type 1} → statement M
 count-of-spec =
     tie.close
     (tie.spec
-    levels-requires
-    cast-check-of
-    check-of-requires
-    enum-known-checked
-    add-bytes
-    cast-bytes
+    (λ c κs. search needs)
+    (λ c. search needs)
+    (λ c κs. search needs)
+    (λ c. search needs)
+    (λ c. search needs)
+    (λ c. search needs)
     mul-bytes
     add-bytes-2
     returns
-    enum-known-checked-2
+    (λ c. search needs)
     returns-2
     returns-3)

@@ -7,14 +7,8 @@ use Rattle.writing.proofs.Laws.{ask-root, ask-below-root, end-room, end
 use Rattle.writing.proofs.dump_from.Statement.{statement}
 use Rattle.writing.proofs.dump_from.Tie as tie
 
-mul-bits : tie.Need-mul-bits
-mul-bits c = search needs
-
 put-slot-requires : tie.Need-put-slot-requires
 put-slot-requires c κs = let b = c .before .before .before .before .before in ask-root (b .pre .0) (b .pre .1)
-
-add-low : tie.Need-add-low
-add-low c = search needs
 
 halves-requires : tie.Need-halves-requires
 halves-requires c κs =
@@ -41,9 +35,6 @@ add-result c =
     let b = s .before .before .before .before .before .before in
     omega (arith, end-room (b .pre .0) (b .pre .1) (s .put-slot .ensures) (q .ensures .1), b .good)
 
-same-length : tie.Need-same-length
-same-length c = search needs
-
 same-length-2 : tie.Need-same-length-2
 same-length-2 c =
     let q = c .before .before .before .before .halves in
@@ -60,12 +51,12 @@ pub dump-from-spec : {M : Type 1} → statement M
 dump-from-spec =
     tie.close
     (tie.spec
-    mul-bits
+    (λ c. search needs)
     put-slot-requires
-    add-low
+    (λ c. search needs)
     halves-requires
     slice-write-buffer
     add-result
-    same-length
+    (λ c. search needs)
     same-length-2
     returns)

@@ -7,15 +7,6 @@ use Rattle.writing.proofs.Calls.{fill-none, fill-some, ask-dump}
 use Rattle.writing.proofs.fill_of.Statement.{statement}
 use Rattle.writing.proofs.fill_of.Tie as tie
 
-count-of-requires : tie.Need-count-of-requires
-count-of-requires c κs = search needs
-
-enum-told : tie.Need-enum-told
-enum-told c = search needs
-
-enum-told-2 : tie.Need-enum-told-2
-enum-told-2 c = search needs
-
 returns : tie.Need-returns
 returns c =
     let a = c .before .before .before .before .before .args in
@@ -31,9 +22,6 @@ dump-requires c κs =
     let w = c .before .enum-told .given in
     ask-dump (saidFamily (a .family)) (a .words .now) (a .buffer .now) (r .result) (r .ensures) (w .0 .0) (w .1)
 
-same-length : tie.Need-same-length
-same-length c = search needs
-
 returns-2 : tie.Need-returns-2
 returns-2 c =
     let a = c .before .before .before .before .before .before .before .before .before .args in
@@ -44,4 +32,4 @@ returns-2 c =
     (d .last .1 .1 .0) (d .ensures)
 
 pub fill-of-spec : {M : Type 1} → statement M
-fill-of-spec = tie.close (tie.spec count-of-requires enum-told enum-told-2 returns dump-requires same-length returns-2)
+fill-of-spec = tie.close (tie.spec (λ c κs. search needs) (λ c. search needs) (λ c. search needs) returns dump-requires (λ c. search needs) returns-2)

@@ -25,18 +25,6 @@ loop-holds c = (omega arith, refl, rw add-zero)
 byte-of-requires : tie.Need-byte-of-requires Inv-loop μ-loop
 byte-of-requires c κs = (c .before .before .before .before .pre .0, search needs)
 
-add-buffer : tie.Need-add-buffer Inv-loop μ-loop
-add-buffer c = search needs
-
-slice-write-buffer : tie.Need-slice-write-buffer Inv-loop μ-loop
-slice-write-buffer c = search needs
-
-add-i : tie.Need-add-i Inv-loop μ-loop
-add-i c = search needs
-
-loop-less : tie.Need-loop-less Inv-loop μ-loop
-loop-less c = search needs
-
 loop-again : tie.Need-loop-again Inv-loop μ-loop
 loop-again c =
     let l = c .before .before in
@@ -48,9 +36,6 @@ loop-again c =
       length-set (l .loop .buffer) (a .at + l .loop .i) (c .byte-of .result) ∙ l .loop .inv .1,
       copy-turn (a .buffer .now) h (a .at) (l .loop .buffer) (l .loop .i) (l .loop .inv .2) (omega (arith, e)) _ (c .byte-of .ensures),
     )
-
-add-result : tie.Need-add-result Inv-loop μ-loop
-add-result c = search needs
 
 same-length : tie.Need-same-length Inv-loop μ-loop
 same-length c = c .before .loop .inv .1
@@ -72,11 +57,11 @@ put-bytes-spec =
     μ-loop
     loop-holds
     byte-of-requires
-    add-buffer
-    slice-write-buffer
-    add-i
-    loop-less
+    (λ c. search needs)
+    (λ c. search needs)
+    (λ c. search needs)
+    (λ c. search needs)
     loop-again
-    add-result
+    (λ c. search needs)
     same-length
     returns)

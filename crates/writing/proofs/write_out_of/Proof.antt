@@ -6,9 +6,6 @@ use borrow.Author.Needs.{needs}
 use Rattle.writing.proofs.write_out_of.Statement.{statement}
 use Rattle.writing.proofs.write_out_of.Tie as tie
 
-fill-of-requires : tie.Need-fill-of-requires
-fill-of-requires c κs = search needs
-
 slice-aggregate-result : tie.Need-slice-aggregate-result
 slice-aggregate-result c =
     c .before .before .before .fill-of .ensures .count ∙ sym (ap length (front-is (c .before .before .before .fill-of .ensures)))
@@ -17,4 +14,4 @@ returns : tie.Need-returns
 returns c = (refl, front-is (c .before .before .before .fill-of .ensures))
 
 pub write-out-of-spec : {M : Type 1} → statement M
-write-out-of-spec = tie.close (tie.spec fill-of-requires slice-aggregate-result returns)
+write-out-of-spec = tie.close (tie.spec (λ c κs. search needs) slice-aggregate-result returns)

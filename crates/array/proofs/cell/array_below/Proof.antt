@@ -6,16 +6,10 @@ use Rattle.array.specs.Cell.{link-none, link-some}
 use Rattle.array.proofs.cell.array_below.Statement.{statement}
 use Rattle.array.proofs.cell.array_below.Tie as tie
 
-cast-result : tie.Need-cast-result
-cast-result c = search needs
-
-add-result : tie.Need-add-result
-add-result c = search needs
-
 returns : tie.Need-returns
 returns c =
     let w = c .args .word in
     (sym (link-some w (λ e. c .pre (link-none w e))), omega arith)
 
 pub array-below-spec : {M : Type 1} → statement M
-array-below-spec = tie.close (tie.spec cast-result add-result returns)
+array-below-spec = tie.close (tie.spec (λ c. search needs) (λ c. search needs) returns)

@@ -6,12 +6,6 @@ use Rattle.array.specs.Cell.{mark, unmarked, length-none}
 use Rattle.array.proofs.cell.best_plain.Statement.{statement}
 use Rattle.array.proofs.cell.best_plain.Tie as tie
 
-mul-result : tie.Need-mul-result
-mul-result c = search needs
-
-add-result : tie.Need-add-result
-add-result c = search needs
-
 returns : tie.Need-returns
 returns c =
     let m : mark (c .args .word) ≡ 0 = unmarked (c .args .word) (c .pre) in
@@ -19,4 +13,4 @@ returns c =
     (omega arith, omega arith)
 
 pub best-plain-spec : {M : Type 1} → statement M
-best-plain-spec = tie.close (tie.spec mul-result add-result returns)
+best-plain-spec = tie.close (tie.spec (λ c. search needs) (λ c. search needs) returns)

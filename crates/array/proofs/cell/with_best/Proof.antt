@@ -6,18 +6,6 @@ use Rattle.array.specs.With.{best-plain, best-linked}
 use Rattle.array.proofs.cell.with_best.Statement.{statement}
 use Rattle.array.proofs.cell.with_best.Tie as tie
 
-has-link-requires : tie.Need-has-link-requires
-has-link-requires c κs = search needs
-
-add-linked : tie.Need-add-linked
-add-linked c = search needs
-
-linked-requires : tie.Need-linked-requires
-linked-requires c κs = search needs
-
-plain-requires : tie.Need-plain-requires
-plain-requires c κs = search needs
-
 returns : tie.Need-returns
 returns c =
     let u = c .before in
@@ -32,4 +20,4 @@ returns-2 c =
     c .plain .ensures ∙ best-plain w _ (unmarked w (unlinked-by _ _ (u .before .has-link .ensures) (u .if1 .left)))
 
 pub with-best-spec : {M : Type 1} → statement M
-with-best-spec = tie.close (tie.spec has-link-requires add-linked linked-requires plain-requires returns returns-2)
+with-best-spec = tie.close (tie.spec (λ c κs. search needs) (λ c. search needs) (λ c κs. search needs) (λ c κs. search needs) returns returns-2)

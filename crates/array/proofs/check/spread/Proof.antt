@@ -17,81 +17,24 @@ Inv-loop won all₀ m d s₀ s-end all s = (m ≤ s) × (s ≤ s-end) × (s-end 
 abbrev μ-loop : tie.MeasureT-loop
 μ-loop won all₀ m d s₀ s-end all s = s-end - s
 
-mul-s-end : tie.Need-mul-s-end Inv-loop μ-loop
-mul-s-end c = search needs
-
 loop-holds : tie.Need-loop-holds Inv-loop μ-loop
 loop-holds c = let p = c .pre in (omega arith, omega arith, omega arith, p .0, p .5, p .6)
-
-mul-above : tie.Need-mul-above Inv-loop μ-loop
-mul-above c = search needs
-
-element-copy-out-above : tie.Need-element-copy-out-above Inv-loop μ-loop
-element-copy-out-above c = search needs
-
-mul-or-above : tie.Need-mul-or-above Inv-loop μ-loop
-mul-or-above c = search needs
-
-mul-or-above-2 : tie.Need-mul-or-above-2 Inv-loop μ-loop
-mul-or-above-2 c = search needs
-
-element-copy-out-or-above : tie.Need-element-copy-out-or-above Inv-loop μ-loop
-element-copy-out-or-above c = search needs
-
-add-or-above : tie.Need-add-or-above Inv-loop μ-loop
-add-or-above c = search needs
 
 or-above-requires : tie.Need-or-above-requires Inv-loop μ-loop
 or-above-requires c κs =
     let l = c .before .before .before .loop in
     (c .before .before .before .before .pre .1 (2 * l .s) (omega arith) (omega arith), omega arith)
 
-mul-or-above-3 : tie.Need-mul-or-above-3 Inv-loop μ-loop
-mul-or-above-3 c = search needs
-
-add-or-above-2 : tie.Need-add-or-above-2 Inv-loop μ-loop
-add-or-above-2 c = search needs
-
-mul-or-above-4 : tie.Need-mul-or-above-4 Inv-loop μ-loop
-mul-or-above-4 c = search needs
-
-element-copy-out-or-above-2 : tie.Need-element-copy-out-or-above-2 Inv-loop μ-loop
-element-copy-out-or-above-2 c = search needs
-
-add-or-above-3 : tie.Need-add-or-above-3 Inv-loop μ-loop
-add-or-above-3 c = search needs
-
 or-above-requires-2 : tie.Need-or-above-requires-2 Inv-loop μ-loop
 or-above-requires-2 c κs =
     let l = c .before .before .before .before .before .loop in
     (c .before .before .before .before .before .before .pre .1 (2 * l .s + 1) (omega arith) (omega arith), omega arith)
 
-mul-all : tie.Need-mul-all Inv-loop μ-loop
-mul-all c = search needs
-
-mul-all-2 : tie.Need-mul-all-2 Inv-loop μ-loop
-mul-all-2 c = search needs
-
 element-write-all : tie.Need-element-write-all Inv-loop μ-loop
 element-write-all c = let l = c .before .before .before .before .before .before .loop in omega arith
 
-mul-all-3 : tie.Need-mul-all-3 Inv-loop μ-loop
-mul-all-3 c = search needs
-
-add-all : tie.Need-add-all Inv-loop μ-loop
-add-all c = search needs
-
-mul-all-4 : tie.Need-mul-all-4 Inv-loop μ-loop
-mul-all-4 c = search needs
-
 element-write-all-2 : tie.Need-element-write-all-2 Inv-loop μ-loop
 element-write-all-2 c = let l = c .before .before .before .before .before .before .loop in omega arith
-
-add-s : tie.Need-add-s Inv-loop μ-loop
-add-s c = search needs
-
-loop-less : tie.Need-loop-less Inv-loop μ-loop
-loop-less c = search needs
 
 loop-again : tie.Need-loop-again Inv-loop μ-loop
 loop-again c =
@@ -122,29 +65,29 @@ spread-spec =
     (tie.spec
     Inv-loop
     μ-loop
-    mul-s-end
+    (λ c. search needs)
     loop-holds
-    mul-above
-    element-copy-out-above
-    mul-or-above
-    mul-or-above-2
-    element-copy-out-or-above
-    add-or-above
+    (λ c. search needs)
+    (λ c. search needs)
+    (λ c. search needs)
+    (λ c. search needs)
+    (λ c. search needs)
+    (λ c. search needs)
     or-above-requires
-    mul-or-above-3
-    add-or-above-2
-    mul-or-above-4
-    element-copy-out-or-above-2
-    add-or-above-3
+    (λ c. search needs)
+    (λ c. search needs)
+    (λ c. search needs)
+    (λ c. search needs)
+    (λ c. search needs)
     or-above-requires-2
-    mul-all
-    mul-all-2
+    (λ c. search needs)
+    (λ c. search needs)
     element-write-all
-    mul-all-3
-    add-all
-    mul-all-4
+    (λ c. search needs)
+    (λ c. search needs)
+    (λ c. search needs)
     element-write-all-2
-    add-s
-    loop-less
+    (λ c. search needs)
+    (λ c. search needs)
     loop-again
     returns)

@@ -11,9 +11,6 @@ use borrow.Author.Needs.{needs}
 use Rattle.audit.proofs.rows.link_ok.Statement.{statement}
 use Rattle.audit.proofs.rows.link_ok.Tie as tie
 
-below-requires : tie.Need-below-requires
-below-requires c κs = search needs
-
 returns : tie.Need-returns
 returns c =
     let a = c .before .before .before .args in
@@ -24,12 +21,6 @@ returns-2 c =
     let a = c .before .before .before .before .args in
     let e = c .before .before .below .ensures .0 in
     link-far (a .n) (a .top) (arraysOf (a .words .now)) (a .a) (a .i) (λ z. c .before .if1 .left (e ∙ z)) (omega (arith, e))
-
-tag-requires : tie.Need-tag-requires
-tag-requires c κs = search needs
-
-level-in-requires : tie.Need-level-in-requires
-level-in-requires c κs = search needs
 
 returns-3 : tie.Need-returns-3
 returns-3 c =
@@ -51,15 +42,6 @@ returns-4 c =
     link-deep (a .n) (a .top) (arraysOf (a .words .now)) (a .a) (a .i) (λ z. b .if1 .left (e ∙ z))
     (omega (arith, e)) (omega (arith, k)) (omega (arith, k))
 
-tag-requires-2 : tie.Need-tag-requires-2
-tag-requires-2 c κs = search needs
-
-add-tag-of : tie.Need-add-tag-of
-add-tag-of c = search needs
-
-tag-of-requires : tie.Need-tag-of-requires
-tag-of-requires c κs = search needs
-
 returns-5 : tie.Need-returns-5
 returns-5 c =
     let l = c .before .before .before .before in
@@ -76,14 +58,14 @@ pub link-ok-spec : {M : Type 1} → statement M
 link-ok-spec =
     tie.close
     (tie.spec
-    below-requires
+    (λ c κs. search needs)
     returns
     returns-2
-    tag-requires
-    level-in-requires
+    (λ c κs. search needs)
+    (λ c κs. search needs)
     returns-3
     returns-4
-    tag-requires-2
-    add-tag-of
-    tag-of-requires
+    (λ c κs. search needs)
+    (λ c. search needs)
+    (λ c κs. search needs)
     returns-5)

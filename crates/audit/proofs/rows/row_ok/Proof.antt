@@ -19,12 +19,6 @@ Inv-loop words won n top a from j₀ j = (j ≤ rowCells) × (allB (λ k. tiedB 
 abbrev μ-loop : tie.MeasureT-loop
 μ-loop words won n top a from j₀ j = rowCells - j
 
-unlinked-requires : tie.Need-unlinked-requires Inv-loop μ-loop
-unlinked-requires c κs = search needs
-
-plains-in-requires : tie.Need-plains-in-requires Inv-loop μ-loop
-plains-in-requires c κs = search needs
-
 returns : tie.Need-returns Inv-loop μ-loop
 returns c =
     let u = c .before .before in
@@ -35,9 +29,6 @@ returns c =
 
 loop-holds : tie.Need-loop-holds Inv-loop μ-loop
 loop-holds c = (omega arith, all-none _)
-
-add-tied : tie.Need-add-tied Inv-loop μ-loop
-add-tied c = search needs
 
 tied-requires : tie.Need-tied-requires Inv-loop μ-loop
 tied-requires c κs =
@@ -50,12 +41,6 @@ returns-2 c =
     let a = c .before .before .before .before .before .before .before .args in
     all-stop (λ k. tiedB (a .n) (a .top) (a .words .now) (a .a) (a .from + k)) rowCells (l .j) (omega arith)
     (sym (c .before .tied .ensures) ∙ not-true _ (c .if2 .taken))
-
-add-j : tie.Need-add-j Inv-loop μ-loop
-add-j c = search needs
-
-loop-less : tie.Need-loop-less Inv-loop μ-loop
-loop-less c = search needs
 
 loop-again : tie.Need-loop-again Inv-loop μ-loop
 loop-again c =
@@ -78,14 +63,14 @@ row-ok-spec =
     (tie.spec
     Inv-loop
     μ-loop
-    unlinked-requires
-    plains-in-requires
+    (λ c κs. search needs)
+    (λ c κs. search needs)
     returns
     loop-holds
-    add-tied
+    (λ c. search needs)
     tied-requires
     returns-2
-    add-j
-    loop-less
+    (λ c. search needs)
+    (λ c. search needs)
     loop-again
     returns-3)

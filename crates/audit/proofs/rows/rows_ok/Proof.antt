@@ -32,12 +32,6 @@ returns c =
     row-stop (tiedB (a .n) (a .top) (a .words .now) (a .a)) (l .i) rowCells cellCount (omega arith)
     (sym (c .before .row-ok .ensures) ∙ not-true _ (c .if1 .taken))
 
-add-i : tie.Need-add-i Inv-loop μ-loop
-add-i c = omega arith
-
-loop-less : tie.Need-loop-less Inv-loop μ-loop
-loop-less c = omega arith
-
 loop-again : tie.Need-loop-again Inv-loop μ-loop
 loop-again c =
     let l = c .before .before .before .loop in
@@ -63,7 +57,7 @@ rows-ok-spec =
     loop-holds
     row-ok-requires
     returns
-    add-i
-    loop-less
+    (λ c. omega arith)
+    (λ c. omega arith)
     loop-again
     returns-2)

@@ -25,19 +25,10 @@ abbrev μ-loop : tie.MeasureT-loop
 loop-holds : tie.Need-loop-holds Inv-loop μ-loop
 loop-holds c = (omega arith, sym (all-none _))
 
-add-cell : tie.Need-add-cell Inv-loop μ-loop
-add-cell c = search needs
-
 cell-requires : tie.Need-cell-requires Inv-loop μ-loop
 cell-requires c κs =
     let s = c .before .before .before in
     (omega (arith, s .pre .0 .whole), omega arith)
-
-add-j : tie.Need-add-j Inv-loop μ-loop
-add-j c = search needs
-
-loop-less : tie.Need-loop-less Inv-loop μ-loop
-loop-less c = search needs
 
 loop-again : tie.Need-loop-again Inv-loop μ-loop
 loop-again c =
@@ -59,4 +50,4 @@ returns c =
 pub unlinked-spec : {M : Type 1} → statement M
 unlinked-spec =
     tie.close
-    (tie.spec Inv-loop μ-loop loop-holds add-cell cell-requires add-j loop-less loop-again returns)
+    (tie.spec Inv-loop μ-loop loop-holds (λ c. search needs) cell-requires (λ c. search needs) (λ c. search needs) loop-again returns)

@@ -26,12 +26,6 @@ inner-ok-requires c κs =
     let p = c .before .before .before .pre in
     (p .0, p .1, p .2, omega arith)
 
-add-s : tie.Need-add-s Inv-loop μ-loop
-add-s c = search needs
-
-loop-less : tie.Need-loop-less Inv-loop μ-loop
-loop-less c = search needs
-
 loop-again : tie.Need-loop-again Inv-loop μ-loop
 loop-again c =
     let l = c .before .before .loop in
@@ -52,4 +46,4 @@ returns c =
 pub inners-ok-spec : {M : Type 1} → statement M
 inners-ok-spec =
     tie.close
-    (tie.spec Inv-loop μ-loop loop-holds inner-ok-requires add-s loop-less loop-again returns)
+    (tie.spec Inv-loop μ-loop loop-holds inner-ok-requires (λ c. search needs) (λ c. search needs) loop-again returns)

@@ -10,27 +10,6 @@ use borrow.Author.Needs.{needs}
 use Rattle.audit.proofs.sums.outer_ok.Statement.{statement}
 use Rattle.audit.proofs.sums.outer_ok.Tie as tie
 
-add-held : tie.Need-add-held
-add-held c = search needs
-
-held-requires : tie.Need-held-requires
-held-requires c κs = search needs
-
-below-requires : tie.Need-below-requires
-below-requires c κs = search needs
-
-total-below-requires : tie.Need-total-below-requires
-total-below-requires c κs = search needs
-
-add-total : tie.Need-add-total
-add-total c = search needs
-
-total-requires : tie.Need-total-requires
-total-requires c κs = search needs
-
-add-result : tie.Need-add-result
-add-result c = search needs
-
 returns : tie.Need-returns
 returns c =
     let below = c .before in
@@ -47,11 +26,11 @@ pub outer-ok-spec : {M : Type 1} → statement M
 outer-ok-spec =
     tie.close
     (tie.spec
-    add-held
-    held-requires
-    below-requires
-    total-below-requires
-    add-total
-    total-requires
-    add-result
+    (λ c. search needs)
+    (λ c κs. search needs)
+    (λ c κs. search needs)
+    (λ c κs. search needs)
+    (λ c. search needs)
+    (λ c κs. search needs)
+    (λ c. search needs)
     returns)

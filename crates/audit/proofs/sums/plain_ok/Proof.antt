@@ -9,18 +9,6 @@ use borrow.Author.Needs.{needs}
 use Rattle.audit.proofs.sums.plain_ok.Statement.{statement}
 use Rattle.audit.proofs.sums.plain_ok.Tie as tie
 
-add-held : tie.Need-add-held
-add-held c = search needs
-
-held-requires : tie.Need-held-requires
-held-requires c κs = search needs
-
-add-total : tie.Need-add-total
-add-total c = search needs
-
-total-requires : tie.Need-total-requires
-total-requires c κs = search needs
-
 returns : tie.Need-returns
 returns c =
     let own = c .before in
@@ -29,4 +17,4 @@ returns c =
     ap₂ eqb (c .total .ensures .0) (own .held .ensures .0 ∙ ap some (s .pre .2 (cellSlots + a .i) (omega arith) (omega arith)))
 
 pub plain-ok-spec : {M : Type 1} → statement M
-plain-ok-spec = tie.close (tie.spec add-held held-requires add-total total-requires returns)
+plain-ok-spec = tie.close (tie.spec (λ c. search needs) (λ c κs. search needs) (λ c. search needs) (λ c κs. search needs) returns)

@@ -21,19 +21,10 @@ abbrev μ-loop : tie.MeasureT-loop
 loop-holds : tie.Need-loop-holds Inv-loop μ-loop
 loop-holds c = (omega arith, sym (all-none _))
 
-add-plain-ok : tie.Need-add-plain-ok Inv-loop μ-loop
-add-plain-ok c = search needs
-
 plain-ok-requires : tie.Need-plain-ok-requires Inv-loop μ-loop
 plain-ok-requires c κs =
     let p = c .before .before .before .pre in
     (p .0, p .1, p .2, omega arith)
-
-add-j : tie.Need-add-j Inv-loop μ-loop
-add-j c = search needs
-
-loop-less : tie.Need-loop-less Inv-loop μ-loop
-loop-less c = search needs
 
 loop-again : tie.Need-loop-again Inv-loop μ-loop
 loop-again c =
@@ -59,9 +50,9 @@ plains-in-spec =
     Inv-loop
     μ-loop
     loop-holds
-    add-plain-ok
+    (λ c. search needs)
     plain-ok-requires
-    add-j
-    loop-less
+    (λ c. search needs)
+    (λ c. search needs)
     loop-again
     returns)

@@ -17,9 +17,6 @@ returns-2 c =
     let a = s .args in
     (below-far (a .words .now) (a .n) (a .b) (s .pre .0) (c .if2 .taken), omega arith)
 
-total-requires : tie.Need-total-requires
-total-requires c κs = search needs
-
 returns-3 : tie.Need-returns-3
 returns-3 c =
     let s = c .before .before .before .before in
@@ -27,4 +24,4 @@ returns-3 c =
     (below-there (a .words .now) (a .n) (a .b) (c .total .result) (c .before .before .if1 .left) (c .total .ensures .0), c .total .ensures .1)
 
 pub total-below-spec : {M : Type 1} → statement M
-total-below-spec = tie.close (tie.spec returns returns-2 total-requires returns-3)
+total-below-spec = tie.close (tie.spec returns returns-2 (λ c κs. search needs) returns-3)

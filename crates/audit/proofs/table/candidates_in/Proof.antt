@@ -6,12 +6,6 @@ use Rattle.audit.proofs.Laws.{array-blank, array-unblank, array-unplace
 use Rattle.audit.proofs.table.candidates_in.Statement.{statement}
 use Rattle.audit.proofs.table.candidates_in.Tie as tie
 
-tag-requires : tie.Need-tag-requires
-tag-requires c κs = search needs
-
-blank-requires : tie.Need-blank-requires
-blank-requires c κs = search needs
-
 returns : tie.Need-returns
 returns c =
     let t = c .before .before .before in
@@ -28,9 +22,6 @@ returns-2 c =
     array-unblank (a .n) (a .top) (a .words .now) (a .a) (s .pre .0 .whole) (sym (t .tag .ensures) ∙ c .before .before .if1 .taken)
     (sym (c .before .blank .ensures) ∙ c .if2 .left)
 
-placed-requires : tie.Need-placed-requires
-placed-requires c κs = search needs
-
 returns-3 : tie.Need-returns-3
 returns-3 c =
     let t = c .before .before .before in
@@ -39,9 +30,6 @@ returns-3 c =
     array-unplaced (a .n) (a .top) (a .words .now) (a .a) (s .pre .0 .whole)
     (λ z. c .before .before .if1 .left (t .tag .ensures ∙ z))
     (sym (c .before .placed .ensures) ∙ not-true _ (c .if3 .taken))
-
-content-requires : tie.Need-content-requires
-content-requires c κs = search needs
 
 returns-4 : tie.Need-returns-4
 returns-4 c =
@@ -57,11 +45,11 @@ pub candidates-in-spec : {M : Type 1} → statement M
 candidates-in-spec =
     tie.close
     (tie.spec
-    tag-requires
-    blank-requires
+    (λ c κs. search needs)
+    (λ c κs. search needs)
     returns
     returns-2
-    placed-requires
+    (λ c κs. search needs)
     returns-3
-    content-requires
+    (λ c κs. search needs)
     returns-4)

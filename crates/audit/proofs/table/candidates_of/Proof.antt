@@ -23,9 +23,6 @@ loop-holds : tie.Need-loop-holds Inv-loop μ-loop
 unfolding candidatesOf
 loop-holds c = (omega arith, all-none _, refl)
 
-add-candidates-in : tie.Need-add-candidates-in Inv-loop μ-loop
-add-candidates-in c = omega arith
-
 candidates-in-requires : tie.Need-candidates-in-requires Inv-loop μ-loop
 candidates-in-requires c κs = (c .before .before .before .pre, omega arith)
 
@@ -46,12 +43,6 @@ add-m c =
           (c .if1 .left),
       s .pre .most,
     )
-
-add-j : tie.Need-add-j Inv-loop μ-loop
-add-j c = omega arith
-
-loop-less : tie.Need-loop-less Inv-loop μ-loop
-loop-less c = omega arith
 
 loop-again : tie.Need-loop-again Inv-loop μ-loop
 loop-again c =
@@ -74,11 +65,11 @@ candidates-of-spec =
     Inv-loop
     μ-loop
     loop-holds
-    add-candidates-in
+    (λ c. omega arith)
     candidates-in-requires
     returns
     add-m
-    add-j
-    loop-less
+    (λ c. omega arith)
+    (λ c. omega arith)
     loop-again
     returns-2)

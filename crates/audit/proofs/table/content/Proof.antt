@@ -9,9 +9,6 @@ use Rattle.audit.proofs.Laws.{content-tied, content-all}
 use Rattle.audit.proofs.table.content.Statement.{statement}
 use Rattle.audit.proofs.table.content.Tie as tie
 
-page-requires : tie.Need-page-requires
-page-requires c κs = search needs
-
 read-requires : tie.Need-read-requires
 read-requires c κs = (omega (arith, c .before .page .ensures .1), read-start _)
 
@@ -102,7 +99,7 @@ pub content-spec : {M : Type 1} → statement M
 content-spec =
     tie.close
     (tie.spec
-    page-requires
+    (λ c κs. search needs)
     read-requires
     returns
     page-ok-requires

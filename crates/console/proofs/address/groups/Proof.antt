@@ -15,30 +15,6 @@ abbrev μ-loop : tie.MeasureT-loop
 loop-holds : tie.Need-loop-holds Inv-loop μ-loop
 loop-holds c = (search needs, refl, search needs)
 
-colon-requires : tie.Need-colon-requires Inv-loop μ-loop
-colon-requires c κs = search needs
-
-group-requires : tie.Need-group-requires Inv-loop μ-loop
-group-requires c κs = search needs
-
-hex-requires : tie.Need-hex-requires Inv-loop μ-loop
-hex-requires c κs = search needs
-
-add-i : tie.Need-add-i Inv-loop μ-loop
-add-i c = search needs
-
-loop-less : tie.Need-loop-less Inv-loop μ-loop
-loop-less c = search needs
-
-loop-again : tie.Need-loop-again Inv-loop μ-loop
-loop-again c = search needs
-
-same-length : tie.Need-same-length Inv-loop μ-loop
-same-length c = search needs
-
-returns : tie.Need-returns Inv-loop μ-loop
-returns c = search needs
-
 pub groups-spec : {M : Type 1} → statement M
 groups-spec =
     tie.close
@@ -46,11 +22,11 @@ groups-spec =
     Inv-loop
     μ-loop
     loop-holds
-    colon-requires
-    group-requires
-    hex-requires
-    add-i
-    loop-less
-    loop-again
-    same-length
-    returns)
+    (λ c κs. search needs)
+    (λ c κs. search needs)
+    (λ c κs. search needs)
+    (λ c. search needs)
+    (λ c. search needs)
+    (λ c. search needs)
+    (λ c. search needs)
+    (λ c. search needs))

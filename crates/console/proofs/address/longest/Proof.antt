@@ -15,23 +15,11 @@ abbrev μ-loop : tie.MeasureT-loop
 loop-holds : tie.Need-loop-holds Inv-loop μ-loop
 loop-holds c = none-yet _
 
-group-requires : tie.Need-group-requires Inv-loop μ-loop
-group-requires c κs = search needs
-
-start-requires : tie.Need-start-requires Inv-loop μ-loop
-start-requires c κs = search needs
-
-add-i : tie.Need-add-i Inv-loop μ-loop
-add-i c = search needs
-
 or-requires : tie.Need-or-requires Inv-loop μ-loop
 or-requires c κs =
     let l = c .before .before .before .loop in
     let n = current _ _ _ _ _ (l .inv .running) (c .before .group .ensures) (c .start .ensures) in
     (l .inv .longest .ordered, n .below)
-
-loop-less : tie.Need-loop-less Inv-loop μ-loop
-loop-less c = search needs
 
 loop-again : tie.Need-loop-again Inv-loop μ-loop
 loop-again c =
@@ -51,10 +39,10 @@ longest-spec =
     Inv-loop
     μ-loop
     loop-holds
-    group-requires
-    start-requires
-    add-i
+    (λ c κs. search needs)
+    (λ c κs. search needs)
+    (λ c. search needs)
     or-requires
-    loop-less
+    (λ c. search needs)
     loop-again
     returns)

@@ -6,9 +6,6 @@ use borrow.Author.Needs.{needs}
 use Rattle.console.proofs.address.start.Statement.{statement}
 use Rattle.console.proofs.address.start.Tie as tie
 
-add-result : tie.Need-add-result
-add-result c = search needs
-
 returns : tie.Need-returns
 returns c = inl (omega arith, refl)
 
@@ -16,4 +13,4 @@ returns-2 : tie.Need-returns-2
 returns-2 c = inr (c .if1 .left, refl)
 
 pub start-spec : {M : Type 1} → statement M
-start-spec = tie.close (tie.spec add-result returns returns-2)
+start-spec = tie.close (tie.spec (λ c. search needs) returns returns-2)

@@ -20,24 +20,6 @@ loop-holds c = (refl, omega arith)
 line-requires : tie.Need-line-requires Inv-loop μ-loop
 line-requires c κs = (omega arith, omega (arith, ltb-true), omega arith)
 
-loop-less : tie.Need-loop-less Inv-loop μ-loop
-loop-less c = search needs
-
-loop-again : tie.Need-loop-again Inv-loop μ-loop
-loop-again c = search needs
-
-same-length : tie.Need-same-length Inv-loop μ-loop
-same-length c = search needs
-
-returns : tie.Need-returns Inv-loop μ-loop
-returns c = search needs
-
-same-length-2 : tie.Need-same-length-2 Inv-loop μ-loop
-same-length-2 c = search needs
-
-returns-2 : tie.Need-returns-2 Inv-loop μ-loop
-returns-2 c = search needs
-
 pub lines-spec : {M : Type 1} → statement M
 lines-spec =
     tie.close
@@ -46,9 +28,9 @@ lines-spec =
     μ-loop
     loop-holds
     line-requires
-    loop-less
-    loop-again
-    same-length
-    returns
-    same-length-2
-    returns-2)
+    (λ c. search needs)
+    (λ c. search needs)
+    (λ c. search needs)
+    (λ c. search needs)
+    (λ c. search needs)
+    (λ c. search needs))

@@ -21,27 +21,6 @@ Inv-loop front₀ words₀ feed reply₀ out₀ n room to₀ p₀ stop₀ front 
 abbrev μ-loop : tie.MeasureT-loop
 μ-loop front₀ words₀ feed reply₀ out₀ n room to₀ p₀ stop₀ front words reply out to p stop = length feed - p .at
 
-refusal-requires : tie.Need-refusal-requires Inv-loop μ-loop
-refusal-requires c κs = search needs
-
-refused-requires : tie.Need-refused-requires Inv-loop μ-loop
-refused-requires c κs = search needs
-
-same-length : tie.Need-same-length Inv-loop μ-loop
-same-length c = search needs
-
-same-length-2 : tie.Need-same-length-2 Inv-loop μ-loop
-same-length-2 c = search needs
-
-same-length-3 : tie.Need-same-length-3 Inv-loop μ-loop
-same-length-3 c = search needs
-
-returns : tie.Need-returns Inv-loop μ-loop
-returns c = search needs
-
-start-requires : tie.Need-start-requires Inv-loop μ-loop
-start-requires c κs = search needs
-
 halt-requires : tie.Need-halt-requires Inv-loop μ-loop
 halt-requires c κs = rw (c .start .ensures) (omega arith, omega arith)
 
@@ -93,29 +72,8 @@ loop-again c =
       w .line .ensures,
     )
 
-holds-requires : tie.Need-holds-requires Inv-loop μ-loop
-holds-requires c κs = search needs
-
 report-requires : tie.Need-report-requires Inv-loop μ-loop
 report-requires c κs = omega (arith, c .before .before .before .before .before .before .loop .inv .0 .placed .at)
-
-ended-requires : tie.Need-ended-requires Inv-loop μ-loop
-ended-requires c κs = search needs
-
-same-length-4 : tie.Need-same-length-4 Inv-loop μ-loop
-same-length-4 c = search needs
-
-same-length-5 : tie.Need-same-length-5 Inv-loop μ-loop
-same-length-5 c = search needs
-
-same-length-6 : tie.Need-same-length-6 Inv-loop μ-loop
-same-length-6 c = search needs
-
-same-length-7 : tie.Need-same-length-7 Inv-loop μ-loop
-same-length-7 c = search needs
-
-returns-2 : tie.Need-returns-2 Inv-loop μ-loop
-returns-2 c = search needs
 
 pub output-spec : {M : Type 1} → statement M
 output-spec =
@@ -123,13 +81,13 @@ output-spec =
     (tie.spec
     Inv-loop
     μ-loop
-    refusal-requires
-    refused-requires
-    same-length
-    same-length-2
-    same-length-3
-    returns
-    start-requires
+    (λ c κs. search needs)
+    (λ c κs. search needs)
+    (λ c. search needs)
+    (λ c. search needs)
+    (λ c. search needs)
+    (λ c. search needs)
+    (λ c κs. search needs)
     halt-requires
     loop-holds
     answer-next-requires
@@ -137,11 +95,11 @@ output-spec =
     halt-requires-2
     loop-less
     loop-again
-    holds-requires
+    (λ c κs. search needs)
     report-requires
-    ended-requires
-    same-length-4
-    same-length-5
-    same-length-6
-    same-length-7
-    returns-2)
+    (λ c κs. search needs)
+    (λ c. search needs)
+    (λ c. search needs)
+    (λ c. search needs)
+    (λ c. search needs)
+    (λ c. search needs))

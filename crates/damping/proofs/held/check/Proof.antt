@@ -10,9 +10,6 @@ use borrow.Author.Needs.{needs}
 use Rattle.damping.proofs.held.check.Statement.{statement}
 use Rattle.damping.proofs.held.check.Tie as tie
 
-is-front-requires : tie.Need-is-front-requires
-is-front-requires c κs = search needs
-
 returns : tie.Need-returns
 returns c =
     let a = c .before .before .before .args in
@@ -32,4 +29,4 @@ returns-2 c =
     (r .ensures .to (not-false (r .result) (c .before .if1 .left))) (c .held-in .ensures)
 
 pub check-spec : {M : Type 1} → statement M
-check-spec = tie.close (tie.spec is-front-requires returns held-in-requires returns-2)
+check-spec = tie.close (tie.spec (λ c κs. search needs) returns held-in-requires returns-2)

@@ -8,14 +8,8 @@ use Rattle.damping.proofs.held.clear.Tie as tie
 returns : tie.Need-returns
 returns c = cleared-not (c .before .before .args .front .now) (c .if1 .taken)
 
-clear-requires : tie.Need-clear-requires
-clear-requires c κs = search needs
-
-same-length : tie.Need-same-length
-same-length c = search needs
-
 returns-2 : tie.Need-returns-2
 returns-2 c = cleared-done (c .before .before .before .before .before .before .args .front .now) _ (omega arith) (c .before .before .clear .ensures)
 
 pub clear-spec : {M : Type 1} → statement M
-clear-spec = tie.close (tie.spec returns clear-requires same-length returns-2)
+clear-spec = tie.close (tie.spec returns (λ c κs. search needs) (λ c. search needs) returns-2)

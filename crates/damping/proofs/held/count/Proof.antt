@@ -5,11 +5,8 @@ use borrow.Author.Needs.{needs}
 use Rattle.damping.proofs.held.count.Statement.{statement}
 use Rattle.damping.proofs.held.count.Tie as tie
 
-rank-of-requires : tie.Need-rank-of-requires
-rank-of-requires c κs = search needs
-
 returns : tie.Need-returns
 returns c = (c .rank-of .ensures .0 ∙ counted (c .before .before .args .front .now) (c .before .before .pre), c .rank-of .ensures .1)
 
 pub count-spec : {M : Type 1} → statement M
-count-spec = tie.close (tie.spec rank-of-requires returns)
+count-spec = tie.close (tie.spec (λ c κs. search needs) returns)

@@ -4,9 +4,6 @@ use Rattle.damping.specs.Tick.{tick-begin, tick-settles, ticked}
 use Rattle.damping.proofs.tick.tick_with.Statement.{statement}
 use Rattle.damping.proofs.tick.tick_with.Tie as tie
 
-count-requires : tie.Need-count-requires
-count-requires c κs = search needs
-
 halve-requires : tie.Need-halve-requires
 halve-requires c κs = c .before .before .before .before .before .pre .0 .size
 
@@ -30,12 +27,6 @@ settle-requires c κs =
     tick-settles (t .args .front .now) (c10 .halve .last .0) (t .args .words .now) (r .last .0) (r .last .1 .0) (t .pre .0)
     (n .result) (n .ensures .0) (c10 .halve .ensures) (r .ensures)
 
-same-length : tie.Need-same-length
-same-length c = search needs
-
-same-length-2 : tie.Need-same-length-2
-same-length-2 c = search needs
-
 returns : tie.Need-returns
 returns c =
     let c2 = c .before .before in
@@ -51,4 +42,4 @@ returns c =
 
 pub tick-with-spec : {M : Type 1} → statement M
 tick-with-spec =
-    tie.close (tie.spec count-requires halve-requires try-rows-requires settle-requires same-length same-length-2 returns)
+    tie.close (tie.spec (λ c κs. search needs) halve-requires try-rows-requires settle-requires (λ c. search needs) (λ c. search needs) returns)

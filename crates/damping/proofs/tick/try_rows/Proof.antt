@@ -22,12 +22,6 @@ try-row-requires c κs =
     trying-row (t .args .front .now) (t .args .words .now) (s .front) (s .words) (s .i) (omega (arith, t .pre .few)) (s .inv .1)
     (t .args .n) (t .args .known) (t .pre)
 
-add-i : tie.Need-add-i Inv-loop μ-loop
-add-i c = omega arith
-
-loop-less : tie.Need-loop-less Inv-loop μ-loop
-loop-less c = omega arith
-
 loop-again : tie.Need-loop-again Inv-loop μ-loop
 loop-again c =
     let t = c .before .before .before .before .before .before .before .before .before .before .before in
@@ -58,8 +52,8 @@ try-rows-spec =
     μ-loop
     loop-holds
     try-row-requires
-    add-i
-    loop-less
+    (λ c. omega arith)
+    (λ c. omega arith)
     loop-again
     same-length
     same-length-2

@@ -11,23 +11,8 @@ use Rattle.damping_run.proofs.Progress.answer_next.Tie as tie
 shared-slice-read-kind : tie.Need-shared-slice-read-kind
 shared-slice-read-kind c = takes-answers _ _ _ _ _ _ (c .before .before .before .before .before .pre) .there
 
-size-of-requires : tie.Need-size-of-requires
-size-of-requires c κs = search needs
-
 answer-requires : tie.Need-answer-requires
 answer-requires c κs = takes-answers _ _ _ _ _ _ (c .before .before .before .before .before .before .before .before .pre)
-
-put-requires : tie.Need-put-requires
-put-requires c κs = search needs
-
-accepts-requires : tie.Need-accepts-requires
-accepts-requires c κs = search needs
-
-add-accepted : tie.Need-add-accepted
-add-accepted c = search needs
-
-refuses-requires : tie.Need-refuses-requires
-refuses-requires c κs = search needs
 
 add-refused : tie.Need-add-refused
 add-refused c =
@@ -40,15 +25,6 @@ add-t23 c =
     let a = c .before .before .before .before .before .before .before .before .before .before .before .before in
     let s = a .before .before .before .before .before .before .before .before .before in
     omega (arith, a .before .before .before .size-of .ensures .1, s .pre .placed .at)
-
-same-length : tie.Need-same-length
-same-length c = search needs
-
-same-length-2 : tie.Need-same-length-2
-same-length-2 c = search needs
-
-same-length-3 : tie.Need-same-length-3
-same-length-3 c = search needs
 
 returns : tie.Need-returns
 returns c =
@@ -65,15 +41,15 @@ answer-next-spec =
     tie.close
     (tie.spec
     shared-slice-read-kind
-    size-of-requires
+    (λ c κs. search needs)
     answer-requires
-    put-requires
-    accepts-requires
-    add-accepted
-    refuses-requires
+    (λ c κs. search needs)
+    (λ c κs. search needs)
+    (λ c. search needs)
+    (λ c κs. search needs)
     add-refused
     add-t23
-    same-length
-    same-length-2
-    same-length-3
+    (λ c. search needs)
+    (λ c. search needs)
+    (λ c. search needs)
     returns)

@@ -12,19 +12,10 @@ returns c =
     let s = c .before .before .args in
     sym (halts-none (s .feed .now) (s .room) (s .self .at) (s .self .out) (omega arith))
 
-shared-slice-read-kind : tie.Need-shared-slice-read-kind
-shared-slice-read-kind c = search needs
-
-size-of-requires : tie.Need-size-of-requires
-size-of-requires c κs = search needs
-
 returns-2 : tie.Need-returns-2
 returns-2 c =
     let s = c .before .before .before .before .before .args in
     sym (stop-2 (s .feed .now) (s .room) (s .self .at) (s .self .out) _ (c .before .size-of .ensures .0) (omega arith) (omega arith))
-
-sub-if3 : tie.Need-sub-if3
-sub-if3 c = search needs
 
 returns-3 : tie.Need-returns-3
 returns-3 c =
@@ -36,9 +27,6 @@ returns-4 : tie.Need-returns-4
 returns-4 c =
     let s = c .before .before .before .before .before .before .before .args in
     sym (stop-0 (s .feed .now) (s .room) (s .self .at) (s .self .out) _ (c .before .before .before .size-of .ensures .0) (omega arith) (omega arith))
-
-sub-if5 : tie.Need-sub-if5
-sub-if5 c = search needs
 
 returns-5 : tie.Need-returns-5
 returns-5 c =
@@ -57,12 +45,12 @@ halt-spec =
     tie.close
     (tie.spec
     returns
-    shared-slice-read-kind
-    size-of-requires
+    (λ c. search needs)
+    (λ c κs. search needs)
     returns-2
-    sub-if3
+    (λ c. search needs)
     returns-3
     returns-4
-    sub-if5
+    (λ c. search needs)
     returns-5
     returns-6)

@@ -8,17 +8,8 @@ use Rattle.damping_run.proofs.ask.size_of.Tie as tie
 returns : tie.Need-returns
 returns c = size-tick _ (c .if1 .taken)
 
-role-of-requires : tie.Need-role-of-requires
-role-of-requires c κs = search needs
-
-is-unknown-requires : tie.Need-is-unknown-requires
-is-unknown-requires c κs = search needs
-
 returns-2 : tie.Need-returns-2
 returns-2 c = size-none _ _ (c .before .before .before .if1 .left) (c .before .before .role-of .ensures) (sym (c .before .is-unknown .ensures) ∙ c .if2 .taken)
-
-size-requires : tie.Need-size-requires
-size-requires c κs = search needs
 
 returns-3 : tie.Need-returns-3
 returns-3 c =
@@ -28,4 +19,4 @@ returns-3 c =
 pub size-of-spec : {M : Type 1} → statement M
 size-of-spec =
     tie.close
-    (tie.spec returns role-of-requires is-unknown-requires returns-2 size-requires returns-3)
+    (tie.spec returns (λ c κs. search needs) (λ c κs. search needs) returns-2 (λ c κs. search needs) returns-3)

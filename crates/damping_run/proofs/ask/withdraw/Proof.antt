@@ -7,34 +7,10 @@ use borrow.Author.Needs.{needs}
 use Rattle.damping_run.proofs.ask.withdraw.Statement.{statement}
 use Rattle.damping_run.proofs.ask.withdraw.Tie as tie
 
-add-four-at : tie.Need-add-four-at
-add-four-at c = search needs
-
-four-at-requires : tie.Need-four-at-requires
-four-at-requires c κs = search needs
-
-add-length : tie.Need-add-length
-add-length c = search needs
-
-add-length-2 : tie.Need-add-length-2
-add-length-2 c = search needs
-
-shared-slice-read-length : tie.Need-shared-slice-read-length
-shared-slice-read-length c = search needs
-
 cast-length : tie.Need-cast-length
 cast-length c =
     let a = c .before .before .before .before .before .args in
     omega (arith, c .shared-slice-known2 .given (a .at + 1 + 4))
-
-withdraw-with-requires : tie.Need-withdraw-with-requires
-withdraw-with-requires c κs = search needs
-
-same-length : tie.Need-same-length
-same-length c = search needs
-
-same-length-2 : tie.Need-same-length-2
-same-length-2 c = search needs
 
 returns : tie.Need-returns
 returns c =
@@ -48,13 +24,13 @@ pub withdraw-spec : {M : Type 1} → statement M
 withdraw-spec =
     tie.close
     (tie.spec
-    add-four-at
-    four-at-requires
-    add-length
-    add-length-2
-    shared-slice-read-length
+    (λ c. search needs)
+    (λ c κs. search needs)
+    (λ c. search needs)
+    (λ c. search needs)
+    (λ c. search needs)
     cast-length
-    withdraw-with-requires
-    same-length
-    same-length-2
+    (λ c κs. search needs)
+    (λ c. search needs)
+    (λ c. search needs)
     returns)

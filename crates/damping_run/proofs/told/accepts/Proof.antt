@@ -8,18 +8,6 @@ use Rattle.damping_run.proofs.told.accepts.Tie as tie
 returns : tie.Need-returns
 returns c = count-tick _ _ (c .if1 .taken)
 
-enum-told : tie.Need-enum-told
-enum-told c = search needs
-
-enum-told-2 : tie.Need-enum-told-2
-enum-told-2 c = search needs
-
-enum-told-3 : tie.Need-enum-told-3
-enum-told-3 c = search needs
-
-enum-told-4 : tie.Need-enum-told-4
-enum-told-4 c = search needs
-
 returns-2 : tie.Need-returns-2
 returns-2 c = count-other _ 1 (c .before .before .before .args .r) (c .before .before .if1 .left) (rw (c .enum-told .given .1)) (omega arith)
 
@@ -37,10 +25,10 @@ accepts-spec =
     tie.close
     (tie.spec
     returns
-    enum-told
-    enum-told-2
-    enum-told-3
-    enum-told-4
+    (λ c. search needs)
+    (λ c. search needs)
+    (λ c. search needs)
+    (λ c. search needs)
     returns-2
     returns-3
     returns-4

@@ -17,40 +17,10 @@ shared-slice-read-role-of c =
     let F = saidFamily (s .args .family) in
     omega (arith, s .pre .0 .clear .body, size-pos F (roleAt F (s .args .feed .now) (s .args .self .at)))
 
-role-of-requires : tie.Need-role-of-requires
-role-of-requires c κs = search needs
-
-size-requires : tie.Need-size-requires
-size-requires c κs = search needs
-
 ask-requires : tie.Need-ask-requires
 ask-requires c κs =
     let s = c .before .before .before .before .before .before .before in
     (takes-asks _ _ _ _ _ (s .pre .0) _ (c .before .before .role-of .ensures), s .pre .1)
-
-put-requires : tie.Need-put-requires
-put-requires c κs = search needs
-
-accepts-requires : tie.Need-accepts-requires
-accepts-requires c κs = search needs
-
-add-accepted : tie.Need-add-accepted
-add-accepted c = search needs
-
-refuses-requires : tie.Need-refuses-requires
-refuses-requires c κs = search needs
-
-add-refused : tie.Need-add-refused
-add-refused c = search needs
-
-add-t21 : tie.Need-add-t21
-add-t21 c = search needs
-
-same-length : tie.Need-same-length
-same-length c = search needs
-
-same-length-2 : tie.Need-same-length-2
-same-length-2 c = search needs
 
 returns : tie.Need-returns
 returns c =
@@ -68,15 +38,15 @@ answer-next-spec =
     tie.close
     (tie.spec
     shared-slice-read-role-of
-    role-of-requires
-    size-requires
+    (λ c κs. search needs)
+    (λ c κs. search needs)
     ask-requires
-    put-requires
-    accepts-requires
-    add-accepted
-    refuses-requires
-    add-refused
-    add-t21
-    same-length
-    same-length-2
+    (λ c κs. search needs)
+    (λ c κs. search needs)
+    (λ c. search needs)
+    (λ c κs. search needs)
+    (λ c. search needs)
+    (λ c. search needs)
+    (λ c. search needs)
+    (λ c. search needs)
     returns)

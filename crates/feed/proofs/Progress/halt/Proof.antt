@@ -28,26 +28,11 @@ returns c =
     let s = c .before .before .args in
     sym (halts-1 (saidFamily (s .family)) (s .feed .now) (s .room) (s .self .at) (s .self .out) (omega arith))
 
-shared-slice-read-kind : tie.Need-shared-slice-read-kind
-shared-slice-read-kind c = search needs
-
-role-of-requires : tie.Need-role-of-requires
-role-of-requires c κs = search needs
-
-is-unknown-requires : tie.Need-is-unknown-requires
-is-unknown-requires c κs = search needs
-
 returns-2 : tie.Need-returns-2
 returns-2 c =
     let s = c .before .before .before .before .before .before .args in
     sym (halts-2 (saidFamily (s .family)) (s .feed .now) (s .room) (s .self .at) (s .self .out) (omega arith)
     (sym (ap isUnknown (c .before .before .role-of .ensures)) ∙ sym (c .before .is-unknown .ensures) ∙ c .if2 .taken))
-
-size-requires : tie.Need-size-requires
-size-requires c κs = search needs
-
-sub-if3 : tie.Need-sub-if3
-sub-if3 c = search needs
 
 returns-3 : tie.Need-returns-3
 returns-3 c =
@@ -59,9 +44,6 @@ returns-4 : tie.Need-returns-4
 returns-4 c =
     let s = c .before .before .before .before .before .before .before .before .before .args in
     sym (halts-0 (saidFamily (s .family)) (s .feed .now) (s .room) (s .self .at) (s .self .out) (omega arith) (omega arith))
-
-sub-if5 : tie.Need-sub-if5
-sub-if5 c = search needs
 
 returns-5 : tie.Need-returns-5
 returns-5 c =
@@ -82,14 +64,14 @@ halt-spec =
     tie.close
     (tie.spec
     returns
-    shared-slice-read-kind
-    role-of-requires
-    is-unknown-requires
+    (λ c. search needs)
+    (λ c κs. search needs)
+    (λ c κs. search needs)
     returns-2
-    size-requires
-    sub-if3
+    (λ c κs. search needs)
+    (λ c. search needs)
     returns-3
     returns-4
-    sub-if5
+    (λ c. search needs)
     returns-5
     returns-6)

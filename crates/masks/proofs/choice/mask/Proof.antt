@@ -17,9 +17,6 @@ Inv-loop held xs y best₀ m₀ best m = (m ≤ 255) × (best ≡ pick (freeB (h
 abbrev μ-loop : tie.MeasureT-loop
 μ-loop held xs y best₀ m₀ best m = 255 - m
 
-slice-aggregate-products : tie.Need-slice-aggregate-products Inv-loop μ-loop
-slice-aggregate-products c = omega arith
-
 products-requires : tie.Need-products-requires Inv-loop μ-loop
 products-requires c κs = (c .before .before .pre, refl)
 
@@ -29,17 +26,8 @@ loop-holds c =
     let h = heldIn (c .before .before .before .before .args .held .now) in
     (omega arith, pick-start (freeB h), sieved _ (p .result) (freeB h) (p .ensures), p .ensures .size)
 
-slice-aggregate-passes : tie.Need-slice-aggregate-passes Inv-loop μ-loop
-slice-aggregate-passes c = omega arith
-
 passes-requires : tie.Need-passes-requires Inv-loop μ-loop
 passes-requires c κs = c .before .before .before .loop .inv .3
-
-add-m : tie.Need-add-m Inv-loop μ-loop
-add-m c = omega arith
-
-loop-less : tie.Need-loop-less Inv-loop μ-loop
-loop-less c = omega arith
 
 loop-again : tie.Need-loop-again Inv-loop μ-loop
 loop-again c =
@@ -69,12 +57,12 @@ mask-spec =
     (tie.spec
     Inv-loop
     μ-loop
-    slice-aggregate-products
+    (λ c. omega arith)
     products-requires
     loop-holds
-    slice-aggregate-passes
+    (λ c. omega arith)
     passes-requires
-    add-m
-    loop-less
+    (λ c. omega arith)
+    (λ c. omega arith)
     loop-again
     returns)

@@ -21,15 +21,6 @@ loop-holds c =
     let a = c .before .args in
     (omega arith, omega arith, seek-start (heldIn (a .held .now)) (a .m) (a .y))
 
-sub-s : tie.Need-sub-s Inv-loop μ-loop
-sub-s c = omega arith
-
-mul-if1 : tie.Need-mul-if1 Inv-loop μ-loop
-mul-if1 c = omega arith
-
-shared-slice-read-if1 : tie.Need-shared-slice-read-if1 Inv-loop μ-loop
-shared-slice-read-if1 c = omega arith
-
 fits-requires : tie.Need-fits-requires Inv-loop μ-loop
 fits-requires c κs = (omega arith, omega arith)
 
@@ -44,9 +35,6 @@ returns c =
     (is-mapped h (a .m) (a .y) s yes (sym (c .before .fits2 .ensures) ∙ c .if2 .taken)) in
     (e, omega arith)
 
-loop-less : tie.Need-loop-less Inv-loop μ-loop
-loop-less c = omega arith
-
 loop-again : tie.Need-loop-again Inv-loop μ-loop
 loop-again c =
     let l = c .before .before .before .before .before .loop in
@@ -59,9 +47,6 @@ loop-again c =
       seek-on (mapped h (a .m) (a .y)) (l .s) (entry h (a .m) (a .y)) (omega arith) (l .inv .2)
           (not-fitting h (a .m) (a .y) s yes (sym (c .before .fits2 .ensures) ∙ c .if2 .left)),
     )
-
-loop-less-2 : tie.Need-loop-less-2 Inv-loop μ-loop
-loop-less-2 c = omega arith
 
 loop-again-2 : tie.Need-loop-again-2 Inv-loop μ-loop
 loop-again-2 c =
@@ -91,13 +76,13 @@ entry-spec =
     Inv-loop
     μ-loop
     loop-holds
-    sub-s
-    mul-if1
-    shared-slice-read-if1
+    (λ c. omega arith)
+    (λ c. omega arith)
+    (λ c. omega arith)
     fits-requires
     returns
-    loop-less
+    (λ c. omega arith)
     loop-again
-    loop-less-2
+    (λ c. omega arith)
     loop-again-2
     returns-2)

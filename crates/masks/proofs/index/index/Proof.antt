@@ -18,12 +18,6 @@ returns c = index-whole (c .before .args .m) (c .before .args .y) (c .if1 .taken
 loop-holds : tie.Need-loop-holds Inv-loop μ-loop
 loop-holds c = stepped-start (c .before .args .m) (c .before .args .y) (c .before .pre .0)
 
-sub-rest : tie.Need-sub-rest Inv-loop μ-loop
-sub-rest c = omega arith
-
-placed-requires : tie.Need-placed-requires Inv-loop μ-loop
-placed-requires c κs = search needs
-
 add-r : tie.Need-add-r Inv-loop μ-loop
 add-r c =
     let l = c .before .before .loop in
@@ -61,8 +55,8 @@ index-spec =
     μ-loop
     returns
     loop-holds
-    sub-rest
-    placed-requires
+    (λ c. omega arith)
+    (λ c κs. search needs)
     add-r
     mul-p
     loop-less

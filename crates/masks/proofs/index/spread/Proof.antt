@@ -17,9 +17,6 @@ abbrev μ-loop : tie.MeasureT-loop
 loop-holds : tie.Need-loop-holds Inv-loop μ-loop
 loop-holds c = (omega arith, refl, spread-start (c .args .mask) (c .args .index))
 
-sub-k : tie.Need-sub-k Inv-loop μ-loop
-sub-k c = omega arith
-
 low-requires : tie.Need-low-requires Inv-loop μ-loop
 low-requires c κs = tt
 
@@ -40,9 +37,6 @@ left-requires c κs = tt
 
 mul-p : tie.Need-mul-p Inv-loop μ-loop
 mul-p c = let l = c .before .before .before .loop in omega (arith, spread-places (l .k) (l .p) (l .inv .1))
-
-loop-less : tie.Need-loop-less Inv-loop μ-loop
-loop-less c = omega arith
 
 loop-again : tie.Need-loop-again Inv-loop μ-loop
 loop-again c =
@@ -65,12 +59,12 @@ spread-spec =
     Inv-loop
     μ-loop
     loop-holds
-    sub-k
+    (λ c. omega arith)
     low-requires
     mul-r
     add-r
     left-requires
     mul-p
-    loop-less
+    (λ c. omega arith)
     loop-again
     returns)

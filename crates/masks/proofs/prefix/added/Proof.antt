@@ -5,16 +5,10 @@ use borrow.Author.Needs.{needs}
 use Rattle.masks.proofs.prefix.added.Statement.{statement}
 use Rattle.masks.proofs.prefix.added.Tie as tie
 
-reach-requires : tie.Need-reach-requires
-reach-requires c κs = search needs
-
-reach-requires-2 : tie.Need-reach-requires-2
-reach-requires-2 c κs = search needs
-
 returns : tie.Need-returns
 returns c =
     let a = c .before .before .args in
     rw (c .before .reach .ensures .0, c .reach2 .ensures .0) (refl, added-lt (a .s) (a .t))
 
 pub added-spec : {M : Type 1} → statement M
-added-spec = tie.close (tie.spec reach-requires reach-requires-2 returns)
+added-spec = tie.close (tie.spec (λ c κs. search needs) (λ c κs. search needs) returns)

@@ -5,18 +5,6 @@ use borrow.Author.Needs.{needs}
 use Rattle.masks.proofs.prefix.parted.Statement.{statement}
 use Rattle.masks.proofs.prefix.parted.Tie as tie
 
-value-requires : tie.Need-value-requires
-value-requires c κs = search needs
-
-value-requires-2 : tie.Need-value-requires-2
-value-requires-2 c κs = search needs
-
-reach-requires : tie.Need-reach-requires
-reach-requires c κs = search needs
-
-reach-requires-2 : tie.Need-reach-requires-2
-reach-requires-2 c κs = search needs
-
 returns : tie.Need-returns
 returns c =
     let v = c .before .before .before in
@@ -26,4 +14,4 @@ returns c =
 
 pub parted-spec : {M : Type 1} → statement M
 parted-spec =
-    tie.close (tie.spec value-requires value-requires-2 reach-requires reach-requires-2 returns)
+    tie.close (tie.spec (λ c κs. search needs) (λ c κs. search needs) (λ c κs. search needs) (λ c κs. search needs) returns)

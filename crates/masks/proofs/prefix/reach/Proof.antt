@@ -4,12 +4,6 @@ use borrow.Author.Needs.{needs}
 use Rattle.masks.proofs.prefix.reach.Statement.{statement}
 use Rattle.masks.proofs.prefix.reach.Tie as tie
 
-spare-requires : tie.Need-spare-requires
-spare-requires c κs = search needs
-
-shl-result : tie.Need-shl-result
-shl-result c = search needs
-
 sub-result : tie.Need-sub-result
 sub-result c = reach-least (c .spare .result) (c .spare .ensures .1)
 
@@ -17,4 +11,4 @@ returns : tie.Need-returns
 returns c = reach-is (c .before .args .s) (c .spare .result) (c .spare .ensures .1) (c .spare .ensures .0)
 
 pub reach-spec : {M : Type 1} → statement M
-reach-spec = tie.close (tie.spec spare-requires shl-result sub-result returns)
+reach-spec = tie.close (tie.spec (λ c κs. search needs) (λ c. search needs) sub-result returns)

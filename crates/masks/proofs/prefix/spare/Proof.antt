@@ -4,9 +4,6 @@ use borrow.Author.Needs.{needs}
 use Rattle.masks.proofs.prefix.spare.Statement.{statement}
 use Rattle.masks.proofs.prefix.spare.Tie as tie
 
-cast-result : tie.Need-cast-result
-cast-result c = search needs
-
 sub-result : tie.Need-sub-result
 sub-result c = spare-least (c .args .s) (c .pre .0) (c .pre .1)
 
@@ -14,4 +11,4 @@ returns : tie.Need-returns
 returns c = spare-is (c .args .s) (c .pre .0) (c .pre .1)
 
 pub spare-spec : {M : Type 1} → statement M
-spare-spec = tie.close (tie.spec cast-result sub-result returns)
+spare-spec = tie.close (tie.spec (λ c. search needs) sub-result returns)

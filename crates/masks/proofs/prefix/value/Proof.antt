@@ -4,15 +4,6 @@ use borrow.Author.Needs.{needs}
 use Rattle.masks.proofs.prefix.value.Statement.{statement}
 use Rattle.masks.proofs.prefix.value.Tie as tie
 
-spare-requires : tie.Need-spare-requires
-spare-requires c κs = search needs
-
-cast-result : tie.Need-cast-result
-cast-result c = search needs
-
-shl-result : tie.Need-shl-result
-shl-result c = search needs
-
 sub-result : tie.Need-sub-result
 sub-result c = value-least (c .before .args .s) (c .before .pre .0) (c .before .pre .1) (c .spare .result) (c .spare .ensures .0)
 
@@ -20,4 +11,4 @@ returns : tie.Need-returns
 returns c = value-is (c .before .args .s) (c .before .pre .0) (c .before .pre .1) (c .spare .result) (c .spare .ensures .0)
 
 pub value-spec : {M : Type 1} → statement M
-value-spec = tie.close (tie.spec spare-requires cast-result shl-result sub-result returns)
+value-spec = tie.close (tie.spec (λ c κs. search needs) (λ c. search needs) (λ c. search needs) sub-result returns)

@@ -5,12 +5,6 @@ use borrow.Author.Needs.{needs}
 use Rattle.masks.proofs.sieve.mark.Statement.{statement}
 use Rattle.masks.proofs.sieve.mark.Tie as tie
 
-parted-requires : tie.Need-parted-requires
-parted-requires c κs = search needs
-
-added-requires : tie.Need-added-requires
-added-requires c κs = search needs
-
 returns : tie.Need-returns
 returns c =
     let p = c .before .before in
@@ -18,18 +12,6 @@ returns c =
     let a = s .args in
     rw (c .added .ensures .0)
     (mark-nested (a .xs .now) (a .y) (a .s) (a .t) (s .pre .1) (sym (p .parted .ensures .0) ∙ c .before .if1 .taken))
-
-cast-xs : tie.Need-cast-xs
-cast-xs c = search needs
-
-mul-xs : tie.Need-mul-xs
-mul-xs c = search needs
-
-slice-write-xs : tie.Need-slice-write-xs
-slice-write-xs c = search needs
-
-same-length : tie.Need-same-length
-same-length c = search needs
 
 returns-2 : tie.Need-returns-2
 returns-2 c =
@@ -43,11 +25,11 @@ pub mark-spec : {M : Type 1} → statement M
 mark-spec =
     tie.close
     (tie.spec
-    parted-requires
-    added-requires
+    (λ c κs. search needs)
+    (λ c κs. search needs)
     returns
-    cast-xs
-    mul-xs
-    slice-write-xs
-    same-length
+    (λ c. search needs)
+    (λ c. search needs)
+    (λ c. search needs)
+    (λ c. search needs)
     returns-2)

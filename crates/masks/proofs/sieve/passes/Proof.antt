@@ -23,15 +23,6 @@ returns c = let a = c .before .before .args in pass-not (a .xs .now) (a .y) (a .
 loop-holds : tie.Need-loop-holds Inv-loop μ-loop
 loop-holds c = (omega arith, all-none (meets (c .before .before .args .xs .now) (c .before .before .args .m)))
 
-mul-met : tie.Need-mul-met Inv-loop μ-loop
-mul-met c = omega arith
-
-shared-slice-read-met : tie.Need-shared-slice-read-met Inv-loop μ-loop
-shared-slice-read-met c = omega arith
-
-cast-met : tie.Need-cast-met Inv-loop μ-loop
-cast-met c = omega arith
-
 met-requires : tie.Need-met-requires Inv-loop μ-loop
 met-requires c κs = tt
 
@@ -40,12 +31,6 @@ returns-2 c =
     let a = c .before .before .before .before .before .before .before .args in
     pass-miss (a .xs .now) (a .y) (a .m) (c .before .before .before .before .loop .x) (c .before .before .before .loop-test .taken)
     (sym (c .before .met .ensures) ∙ not-true (c .before .met .result) (c .if2 .taken))
-
-add-x : tie.Need-add-x Inv-loop μ-loop
-add-x c = omega arith
-
-loop-less : tie.Need-loop-less Inv-loop μ-loop
-loop-less c = omega arith
 
 loop-again : tie.Need-loop-again Inv-loop μ-loop
 loop-again c =
@@ -70,12 +55,12 @@ passes-spec =
     μ-loop
     returns
     loop-holds
-    mul-met
-    shared-slice-read-met
-    cast-met
+    (λ c. omega arith)
+    (λ c. omega arith)
+    (λ c. omega arith)
     met-requires
     returns-2
-    add-x
-    loop-less
+    (λ c. omega arith)
+    (λ c. omega arith)
     loop-again
     returns-3)

@@ -8,16 +8,10 @@ use Rattle.numbers.proofs.agree.stray.Tie as tie
 returns : tie.Need-returns
 returns c = rw (c .if1 .taken) (stray-zero 32 (c .before .args .l))
 
-sub-bits : tie.Need-sub-bits
-sub-bits c = search needs
-
-bits-requires : tie.Need-bits-requires
-bits-requires c κs = search needs
-
 returns-2 : tie.Need-returns-2
 returns-2 c =
     let s = c .before .before in
     rw (c .bits .ensures .0) (stray-some 32 (s .args .a) (s .args .l) (omega arith) (s .fits .a .fits) (s .pre))
 
 pub stray-spec : {M : Type 1} → statement M
-stray-spec = tie.close (tie.spec returns sub-bits bits-requires returns-2)
+stray-spec = tie.close (tie.spec returns (λ c. search needs) (λ c κs. search needs) returns-2)

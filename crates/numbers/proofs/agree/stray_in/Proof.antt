@@ -8,13 +8,10 @@ use Rattle.numbers.proofs.agree.stray_in.Tie as tie
 returns : tie.Need-returns
 returns c = rw (c .if1 .taken) (stray-zero 8 (c .before .args .l))
 
-sub-result : tie.Need-sub-result
-sub-result c = search needs
-
 returns-2 : tie.Need-returns-2
 returns-2 c =
     let s = c .before in
     stray-some 8 (s .args .y) (s .args .l) (omega arith) (s .fits .y .fits) (s .pre)
 
 pub stray-in-spec : {M : Type 1} → statement M
-stray-in-spec = tie.close (tie.spec returns sub-result returns-2)
+stray-in-spec = tie.close (tie.spec returns (λ c. search needs) returns-2)

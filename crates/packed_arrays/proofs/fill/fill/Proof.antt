@@ -13,9 +13,6 @@ Inv-loop page map words₀ o m held n v₀ words v = (v ≤ n) × Filled page ma
 abbrev μ-loop : tie.MeasureT-loop
 μ-loop page map words₀ o m held n v₀ words v = n - v
 
-slice-aggregate-flag-all : tie.Need-slice-aggregate-flag-all Inv-loop μ-loop
-slice-aggregate-flag-all c = omega arith
-
 flag-all-requires : tie.Need-flag-all-requires Inv-loop μ-loop
 flag-all-requires c κs = let p = c .before .before .before .before .pre in (p .0, refl, p .4)
 
@@ -26,9 +23,6 @@ loop-holds : tie.Need-loop-holds Inv-loop μ-loop
 loop-holds c =
     let a = c .before .before .before .before .before .before .before .args in
     (omega arith, filled-none (a .page .now) (a .map .now) (a .words .now) (a .o) (a .m))
-
-slice-aggregate-entry : tie.Need-slice-aggregate-entry Inv-loop μ-loop
-slice-aggregate-entry c = omega arith
 
 cast-spread : tie.Need-cast-spread Inv-loop μ-loop
 cast-spread c = omega (arith, c .before .before .before .entries .ensures .2)
@@ -85,12 +79,6 @@ put-requires c κs =
     let b17 = b10 .before .before .before .before .before .before .before in
     omega (arith, b17 .pre .3, b10 .entries .ensures .0, b9 .loop .inv .1 .size, b8 .loop-test .taken)
 
-add-v : tie.Need-add-v Inv-loop μ-loop
-add-v c = omega arith
-
-loop-less : tie.Need-loop-less Inv-loop μ-loop
-loop-less c = omega arith
-
 loop-again : tie.Need-loop-again Inv-loop μ-loop
 loop-again c =
     let b2 = c .before .before in
@@ -134,11 +122,11 @@ fill-spec =
     (tie.spec
     Inv-loop
     μ-loop
-    slice-aggregate-flag-all
+    (λ c. omega arith)
     flag-all-requires
     entries-requires
     loop-holds
-    slice-aggregate-entry
+    (λ c. omega arith)
     cast-spread
     spread-requires
     entry-requires
@@ -150,8 +138,8 @@ fill-spec =
     place-in-requires
     mask-in-requires
     put-requires
-    add-v
-    loop-less
+    (λ c. omega arith)
+    (λ c. omega arith)
     loop-again
     same-length
     returns)

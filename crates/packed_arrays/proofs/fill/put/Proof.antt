@@ -7,41 +7,14 @@ use borrow.Author.Needs.{needs}
 use Rattle.packed_arrays.proofs.fill.put.Statement.{statement}
 use Rattle.packed_arrays.proofs.fill.put.Tie as tie
 
-mul-words : tie.Need-mul-words
-mul-words c = search needs
-
-slice-write-words : tie.Need-slice-write-words
-slice-write-words c = search needs
-
-add-words : tie.Need-add-words
-add-words c = search needs
-
-mul-words-2 : tie.Need-mul-words-2
-mul-words-2 c = search needs
-
 slice-write-words-2 : tie.Need-slice-write-words-2
 slice-write-words-2 c = simp length-set (omega arith)
-
-add-words-2 : tie.Need-add-words-2
-add-words-2 c = search needs
-
-mul-words-3 : tie.Need-mul-words-3
-mul-words-3 c = search needs
 
 slice-write-words-3 : tie.Need-slice-write-words-3
 slice-write-words-3 c = simp length-set (omega arith)
 
-add-words-3 : tie.Need-add-words-3
-add-words-3 c = search needs
-
-mul-words-4 : tie.Need-mul-words-4
-mul-words-4 c = search needs
-
 slice-write-words-4 : tie.Need-slice-write-words-4
 slice-write-words-4 c = simp length-set (omega arith)
-
-same-length : tie.Need-same-length
-same-length c = search needs
 
 returns : tie.Need-returns
 unfolding putTo
@@ -51,16 +24,16 @@ pub put-spec : {M : Type 1} → statement M
 put-spec =
     tie.close
     (tie.spec
-    mul-words
-    slice-write-words
-    add-words
-    mul-words-2
+    (λ c. search needs)
+    (λ c. search needs)
+    (λ c. search needs)
+    (λ c. search needs)
     slice-write-words-2
-    add-words-2
-    mul-words-3
+    (λ c. search needs)
+    (λ c. search needs)
     slice-write-words-3
-    add-words-3
-    mul-words-4
+    (λ c. search needs)
+    (λ c. search needs)
     slice-write-words-4
-    same-length
+    (λ c. search needs)
     returns)

@@ -19,18 +19,6 @@ returns-2 c =
     let h = c .before .before .routed in
     flag-short (s .args .page .now) (s .args .s) (s .pre .1) (h .result) (h .ensures) (c .before .if1 .left) (c .if2 .taken)
 
-add-has-link : tie.Need-add-has-link
-add-has-link c = search needs
-
-mul-has-link : tie.Need-mul-has-link
-mul-has-link c = search needs
-
-shared-slice-read-has-link : tie.Need-shared-slice-read-has-link
-shared-slice-read-has-link c = search needs
-
-has-link-requires : tie.Need-has-link-requires
-has-link-requires c κs = search needs
-
 returns-3 : tie.Need-returns-3
 returns-3 c =
     let b3 = c .before .before .before in
@@ -58,9 +46,9 @@ flag-spec =
     routed-requires
     returns
     returns-2
-    add-has-link
-    mul-has-link
-    shared-slice-read-has-link
-    has-link-requires
+    (λ c. search needs)
+    (λ c. search needs)
+    (λ c. search needs)
+    (λ c κs. search needs)
     returns-3
     returns-4)

@@ -20,17 +20,8 @@ loop-holds c =
 flag-requires : tie.Need-flag-requires Inv-loop μ-loop
 flag-requires c κs = let p = c .before .before .before .before .pre in (p .0, omega arith, omega arith, p .2)
 
-mul-held : tie.Need-mul-held Inv-loop μ-loop
-mul-held c = omega arith
-
 slice-write-held : tie.Need-slice-write-held Inv-loop μ-loop
 slice-write-held c = omega (arith, c .before .before .loop .inv .2 .size)
-
-add-s : tie.Need-add-s Inv-loop μ-loop
-add-s c = omega arith
-
-loop-less : tie.Need-loop-less Inv-loop μ-loop
-loop-less c = omega arith
 
 loop-again : tie.Need-loop-again Inv-loop μ-loop
 loop-again c =
@@ -55,10 +46,10 @@ flag-all-spec =
     μ-loop
     loop-holds
     flag-requires
-    mul-held
+    (λ c. omega arith)
     slice-write-held
-    add-s
-    loop-less
+    (λ c. omega arith)
+    (λ c. omega arith)
     loop-again
     same-length
     returns)

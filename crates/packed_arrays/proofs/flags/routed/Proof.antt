@@ -8,27 +8,15 @@ use borrow.Author.Needs.{needs}
 use Rattle.packed_arrays.proofs.flags.routed.Statement.{statement}
 use Rattle.packed_arrays.proofs.flags.routed.Tie as tie
 
-add-if1 : tie.Need-add-if1
-add-if1 c = search needs
-
-mul-if1 : tie.Need-mul-if1
-mul-if1 c = search needs
-
-shared-slice-read-if1 : tie.Need-shared-slice-read-if1
-shared-slice-read-if1 c = search needs
-
 returns : tie.Need-returns
 returns c =
     let s = c .before .before .before in
     let p = s .pre in
     route-none (s .args .page .now) (s .args .s) (p .3 (s .args .s) (p .1) (p .2) (c .if1 .taken))
 
-hop-of-requires : tie.Need-hop-of-requires
-hop-of-requires c κs = search needs
-
 returns-2 : tie.Need-returns-2
 returns-2 c = ap (λ (h : ℕ). not (eqb h 0)) (c .hop-of .ensures .0)
 
 pub routed-spec : {M : Type 1} → statement M
 routed-spec =
-    tie.close (tie.spec add-if1 mul-if1 shared-slice-read-if1 returns hop-of-requires returns-2)
+    tie.close (tie.spec (λ c. search needs) (λ c. search needs) (λ c. search needs) returns (λ c κs. search needs) returns-2)

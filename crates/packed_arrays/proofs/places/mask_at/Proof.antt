@@ -9,19 +9,10 @@ use Rattle.packed_arrays.proofs.places.mask_at.Tie as tie
 returns : tie.Need-returns
 returns c = mask-one (arraysOf (c .before .before .args .table .now)) (c .before .before .args .a) (c .if1 .taken)
 
-page-requires : tie.Need-page-requires
-page-requires c κs = search needs
-
-slice-aggregate-flag-all : tie.Need-slice-aggregate-flag-all
-slice-aggregate-flag-all c = search needs
-
 flag-all-requires : tie.Need-flag-all-requires
 flag-all-requires c κs =
     let p = c .before .page .ensures in
     (p .1, refl, rw (p .0) (c .before .before .before .before .pre .2))
-
-slice-aggregate-mask : tie.Need-slice-aggregate-mask
-slice-aggregate-mask c = search needs
 
 mask-requires : tie.Need-mask-requires
 mask-requires c κs = c .before .before .flag-all .ensures .size
@@ -43,9 +34,9 @@ mask-at-spec =
     tie.close
     (tie.spec
     returns
-    page-requires
-    slice-aggregate-flag-all
+    (λ c κs. search needs)
+    (λ c. search needs)
     flag-all-requires
-    slice-aggregate-mask
+    (λ c. search needs)
     mask-requires
     returns-2)

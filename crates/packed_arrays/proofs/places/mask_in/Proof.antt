@@ -7,14 +7,8 @@ use Rattle.packed_arrays.proofs.places.mask_in.Tie as tie
 returns : tie.Need-returns
 returns c = mask-none (c .before .args .map .now) (c .before .args .b) (c .if1 .taken)
 
-mul-result : tie.Need-mul-result
-mul-result c = search needs
-
-shared-slice-read-result : tie.Need-shared-slice-read-result
-shared-slice-read-result c = search needs
-
 returns-2 : tie.Need-returns-2
 returns-2 c = mask-some (c .before .before .args .map .now) (c .before .before .args .b) (c .before .if1 .left)
 
 pub mask-in-spec : {M : Type 1} → statement M
-mask-in-spec = tie.close (tie.spec returns mul-result shared-slice-read-result returns-2)
+mask-in-spec = tie.close (tie.spec returns (λ c. search needs) (λ c. search needs) returns-2)

@@ -8,18 +8,6 @@ use Rattle.packed_arrays.proofs.places.place_in.Tie as tie
 returns : tie.Need-returns
 returns c = place-none (c .before .args .map .now) (c .before .args .b) (c .if1 .taken)
 
-cast-result : tie.Need-cast-result
-cast-result c = search needs
-
-cast-result-2 : tie.Need-cast-result-2
-cast-result-2 c = search needs
-
-mul-result : tie.Need-mul-result
-mul-result c = search needs
-
-shared-slice-read-result : tie.Need-shared-slice-read-result
-shared-slice-read-result c = search needs
-
 mul-result-2 : tie.Need-mul-result-2
 mul-result-2 c = omega (arith, c .shared-slice-known .given (c .before .before .args .b))
 
@@ -34,10 +22,10 @@ place-in-spec =
     tie.close
     (tie.spec
     returns
-    cast-result
-    cast-result-2
-    mul-result
-    shared-slice-read-result
+    (λ c. search needs)
+    (λ c. search needs)
+    (λ c. search needs)
+    (λ c. search needs)
     mul-result-2
     add-result
     returns-2)

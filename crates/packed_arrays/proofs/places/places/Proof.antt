@@ -61,9 +61,6 @@ add-map c =
     let b8 = b5 .before .before .before in
     let f = b8 .pre .0 in omega (arith, b5 .arrays-in .ensures, f .high, b4 .loop .inv .2 .most, c .mask-at .ensures .1)
 
-mul-map-2 : tie.Need-mul-map-2 Inv-loop μ-loop
-mul-map-2 c = omega arith
-
 slice-write-map : tie.Need-slice-write-map Inv-loop μ-loop
 slice-write-map c =
     let b4 = c .before .before .before .before in
@@ -80,12 +77,6 @@ add-n c =
     let b6 = b5 .before in
     let b9 = b6 .before .before .before in
     let f = b9 .pre .0 in omega (arith, b6 .arrays-in .ensures, f .high, b5 .loop .inv .2 .most, c .entries .ensures .2)
-
-add-a : tie.Need-add-a Inv-loop μ-loop
-add-a c = omega arith
-
-loop-less : tie.Need-loop-less Inv-loop μ-loop
-loop-less c = omega arith
 
 loop-again : tie.Need-loop-again Inv-loop μ-loop
 loop-again c =
@@ -130,12 +121,12 @@ places-spec =
     cast-map
     mul-map
     add-map
-    mul-map-2
+    (λ c. omega arith)
     slice-write-map
     entries-requires
     add-n
-    add-a
-    loop-less
+    (λ c. omega arith)
+    (λ c. omega arith)
     loop-again
     same-length
     returns)

@@ -5,28 +5,13 @@ use borrow.Author.Needs.{needs}
 use Rattle.resolver.proofs.way.begin.Statement.{statement}
 use Rattle.resolver.proofs.way.begin.Tie as tie
 
-misfit-requires : tie.Need-misfit-requires
-misfit-requires c κs = search needs
-
-refused-requires : tie.Need-refused-requires
-refused-requires c κs = search needs
-
 returns : tie.Need-returns
 returns c = rw (sym (c .before .before .misfit .ensures) ∙ c .before .if1 .taken) (c .refused .ensures)
-
-refused-requires-2 : tie.Need-refused-requires-2
-refused-requires-2 c κs = search needs
 
 returns-2 : tie.Need-returns-2
 returns-2 c =
     let m = c .before .before in
     rw (sym (m .before .misfit .ensures) ∙ m .if1 .left, lt-ltb _ _ (c .before .if2 .taken)) (c .refused2 .ensures)
-
-lookup-requires : tie.Need-lookup-requires
-lookup-requires c κs = search needs
-
-asked-requires : tie.Need-asked-requires
-asked-requires c κs = search needs
 
 returns-3 : tie.Need-returns-3
 returns-3 c =
@@ -38,11 +23,11 @@ pub begin-spec : {M : Type 1} → statement M
 begin-spec =
     tie.close
     (tie.spec
-    misfit-requires
-    refused-requires
+    (λ c κs. search needs)
+    (λ c κs. search needs)
     returns
-    refused-requires-2
+    (λ c κs. search needs)
     returns-2
-    lookup-requires
-    asked-requires
+    (λ c κs. search needs)
+    (λ c κs. search needs)
     returns-3)

@@ -4,14 +4,8 @@ use borrow.Author.Needs.{needs}
 use Rattle.resolver.proofs.way.turn.Statement.{statement}
 use Rattle.resolver.proofs.way.turn.Tie as tie
 
-onward-requires : tie.Need-onward-requires
-onward-requires c κs = search needs
-
 returns : tie.Need-returns
 returns c = rw (eq-eqb _ _ (c .before .if1 .taken)) (c .onward .ensures)
-
-refused-requires : tie.Need-refused-requires
-refused-requires c κs = search needs
 
 returns-2 : tie.Need-returns-2
 returns-2 c = rw (ne-eqb _ _ (c .before .before .before .if1 .left), lt-ltb _ _ (c .before .if2 .taken)) (c .refused .ensures)
@@ -20,4 +14,4 @@ returns-3 : tie.Need-returns-3
 returns-3 c = rw (ne-eqb _ _ (c .before .before .if1 .left), le-ltb _ _ (c .if2 .left))
 
 pub turn-spec : {M : Type 1} → statement M
-turn-spec = tie.close (tie.spec onward-requires returns refused-requires returns-2 returns-3)
+turn-spec = tie.close (tie.spec (λ c κs. search needs) returns (λ c κs. search needs) returns-2 returns-3)

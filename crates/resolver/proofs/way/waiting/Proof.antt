@@ -5,17 +5,11 @@ use borrow.Author.Needs.{needs}
 use Rattle.resolver.proofs.way.waiting.Statement.{statement}
 use Rattle.resolver.proofs.way.waiting.Tie as tie
 
-refused-requires : tie.Need-refused-requires
-refused-requires c κs = search needs
-
 returns : tie.Need-returns
 returns c = c .refused .ensures ∙ met-none _ _ _ _ (c .before .if1 .taken)
-
-sub-t7 : tie.Need-sub-t7
-sub-t7 c = search needs
 
 returns-2 : tie.Need-returns-2
 returns-2 c = met-some _ _ _ _ (c .if1 .left)
 
 pub waiting-spec : {M : Type 1} → statement M
-waiting-spec = tie.close (tie.spec refused-requires returns sub-t7 returns-2)
+waiting-spec = tie.close (tie.spec (λ c κs. search needs) returns (λ c. search needs) returns-2)

@@ -34,12 +34,6 @@ mul-m c =
     let w = pow-mono {i = l .d} {j = 7} (omega arith) in
     omega (arith, w, l .inv .1)
 
-add-d : tie.Need-add-d Inv-loop μ-loop
-add-d c = search needs
-
-loop-less : tie.Need-loop-less Inv-loop μ-loop
-loop-less c = search needs
-
 loop-again : tie.Need-loop-again Inv-loop μ-loop
 loop-again c =
     let l = c .before .before .before .loop in
@@ -56,4 +50,4 @@ returns c =
 pub blocks-of-spec : {M : Type 1} → statement M
 blocks-of-spec =
     tie.close
-    (tie.spec Inv-loop μ-loop loop-holds sink-requires mul-m add-d loop-less loop-again returns)
+    (tie.spec Inv-loop μ-loop loop-holds sink-requires mul-m (λ c. search needs) (λ c. search needs) loop-again returns)

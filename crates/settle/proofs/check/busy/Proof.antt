@@ -16,23 +16,14 @@ Inv-loop page won all₀ m₀ d₀ all m d = (d ≤ 8) × (m ≡ 2 ^ d) × Busy 
 abbrev μ-loop : tie.MeasureT-loop
 μ-loop page won all₀ m₀ d₀ all m d = d
 
-marks-requires : tie.Need-marks-requires Inv-loop μ-loop
-marks-requires c κs = search needs
-
 loop-holds : tie.Need-loop-holds Inv-loop μ-loop
 loop-holds c = (omega arith, refl, c .marks .ensures)
-
-sub-d : tie.Need-sub-d Inv-loop μ-loop
-sub-d c = search needs
 
 lift-requires : tie.Need-lift-requires Inv-loop μ-loop
 lift-requires c κs =
     let l = c .before .before .loop in
     let h = halves (l .d) (l .m) (omega arith) (l .inv .0) (l .inv .1) in
     (l .inv .2 .size, h .2, h .3)
-
-loop-less : tie.Need-loop-less Inv-loop μ-loop
-loop-less c = search needs
 
 loop-again : tie.Need-loop-again Inv-loop μ-loop
 loop-again c =
@@ -59,10 +50,10 @@ busy-spec =
     (tie.spec
     Inv-loop
     μ-loop
-    marks-requires
+    (λ c κs. search needs)
     loop-holds
-    sub-d
+    (λ c. search needs)
     lift-requires
-    loop-less
+    (λ c. search needs)
     loop-again
     returns)

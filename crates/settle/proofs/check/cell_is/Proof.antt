@@ -7,14 +7,8 @@ use borrow.Author.Needs.{needs}
 use Rattle.settle.proofs.check.cell_is.Statement.{statement}
 use Rattle.settle.proofs.check.cell_is.Tie as tie
 
-has-link-requires : tie.Need-has-link-requires
-has-link-requires c κs = search needs
-
-block-in-requires : tie.Need-block-in-requires
-block-in-requires c κs = search needs
-
 returns : tie.Need-returns
 returns c = ap₂ _||_ (c .before .has-link .ensures) (ap (λ (x : ℕ). eqb x (c .before .before .args .block)) (c .block-in .ensures .0))
 
 pub cell-is-spec : {M : Type 1} → statement M
-cell-is-spec = tie.close (tie.spec has-link-requires block-in-requires returns)
+cell-is-spec = tie.close (tie.spec (λ c κs. search needs) (λ c κs. search needs) returns)

@@ -13,59 +13,8 @@ Inv-loop won all₀ m s₀ s-end all s = (m ≤ s) × (s ≤ s-end) × (s-end �
 abbrev μ-loop : tie.MeasureT-loop
 μ-loop won all₀ m s₀ s-end all s = s-end - s
 
-mul-s-end : tie.Need-mul-s-end Inv-loop μ-loop
-mul-s-end c = search needs
-
 loop-holds : tie.Need-loop-holds Inv-loop μ-loop
 loop-holds c = (omega arith, omega arith, omega arith, lifted-none _ _ _ (c .pre .0))
-
-mul-two : tie.Need-mul-two Inv-loop μ-loop
-mul-two c = search needs
-
-mul-any : tie.Need-mul-any Inv-loop μ-loop
-mul-any c = search needs
-
-element-copy-out-any : tie.Need-element-copy-out-any Inv-loop μ-loop
-element-copy-out-any c = search needs
-
-add-any : tie.Need-add-any Inv-loop μ-loop
-add-any c = search needs
-
-mul-any-2 : tie.Need-mul-any-2 Inv-loop μ-loop
-mul-any-2 c = search needs
-
-element-copy-out-any-2 : tie.Need-element-copy-out-any-2 Inv-loop μ-loop
-element-copy-out-any-2 c = search needs
-
-mul-any-3 : tie.Need-mul-any-3 Inv-loop μ-loop
-mul-any-3 c = search needs
-
-element-copy-out-any-3 : tie.Need-element-copy-out-any-3 Inv-loop μ-loop
-element-copy-out-any-3 c = search needs
-
-add-any-2 : tie.Need-add-any-2 Inv-loop μ-loop
-add-any-2 c = search needs
-
-mul-any-4 : tie.Need-mul-any-4 Inv-loop μ-loop
-mul-any-4 c = search needs
-
-element-copy-out-any-4 : tie.Need-element-copy-out-any-4 Inv-loop μ-loop
-element-copy-out-any-4 c = search needs
-
-any-requires : tie.Need-any-requires Inv-loop μ-loop
-any-requires c κs = search needs
-
-mul-all : tie.Need-mul-all Inv-loop μ-loop
-mul-all c = search needs
-
-element-write-all : tie.Need-element-write-all Inv-loop μ-loop
-element-write-all c = search needs
-
-add-s : tie.Need-add-s Inv-loop μ-loop
-add-s c = search needs
-
-loop-less : tie.Need-loop-less Inv-loop μ-loop
-loop-less c = search needs
 
 loop-again : tie.Need-loop-again Inv-loop μ-loop
 loop-again c =
@@ -92,23 +41,23 @@ lift-spec =
     (tie.spec
     Inv-loop
     μ-loop
-    mul-s-end
+    (λ c. search needs)
     loop-holds
-    mul-two
-    mul-any
-    element-copy-out-any
-    add-any
-    mul-any-2
-    element-copy-out-any-2
-    mul-any-3
-    element-copy-out-any-3
-    add-any-2
-    mul-any-4
-    element-copy-out-any-4
-    any-requires
-    mul-all
-    element-write-all
-    add-s
-    loop-less
+    (λ c. search needs)
+    (λ c. search needs)
+    (λ c. search needs)
+    (λ c. search needs)
+    (λ c. search needs)
+    (λ c. search needs)
+    (λ c. search needs)
+    (λ c. search needs)
+    (λ c. search needs)
+    (λ c. search needs)
+    (λ c. search needs)
+    (λ c κs. search needs)
+    (λ c. search needs)
+    (λ c. search needs)
+    (λ c. search needs)
+    (λ c. search needs)
     loop-again
     returns)

@@ -19,38 +19,8 @@ Inv-loop page all held ok₀ i₀ ok i = (i ≤ cellCount) × (ok ≡ allB (cell
 abbrev μ-loop : tie.MeasureT-loop
 μ-loop page all held ok₀ i₀ ok i = cellCount - i
 
-blocks-of-requires : tie.Need-blocks-of-requires Inv-loop μ-loop
-blocks-of-requires c κs = search needs
-
 loop-holds : tie.Need-loop-holds Inv-loop μ-loop
 loop-holds c = (omega arith, sym (all-none _))
-
-add-cell-is : tie.Need-add-cell-is Inv-loop μ-loop
-add-cell-is c = search needs
-
-mul-cell-is : tie.Need-mul-cell-is Inv-loop μ-loop
-mul-cell-is c = search needs
-
-shared-slice-read-cell-is : tie.Need-shared-slice-read-cell-is Inv-loop μ-loop
-shared-slice-read-cell-is c = search needs
-
-add-cell-is-2 : tie.Need-add-cell-is-2 Inv-loop μ-loop
-add-cell-is-2 c = search needs
-
-mul-cell-is-2 : tie.Need-mul-cell-is-2 Inv-loop μ-loop
-mul-cell-is-2 c = search needs
-
-array-read-cell-is : tie.Need-array-read-cell-is Inv-loop μ-loop
-array-read-cell-is c = search needs
-
-cell-is-requires : tie.Need-cell-is-requires Inv-loop μ-loop
-cell-is-requires c κs = search needs
-
-add-i : tie.Need-add-i Inv-loop μ-loop
-add-i c = search needs
-
-loop-less : tie.Need-loop-less Inv-loop μ-loop
-loop-less c = search needs
 
 loop-again : tie.Need-loop-again Inv-loop μ-loop
 loop-again c =
@@ -78,16 +48,16 @@ settled-spec =
     (tie.spec
     Inv-loop
     μ-loop
-    blocks-of-requires
+    (λ c κs. search needs)
     loop-holds
-    add-cell-is
-    mul-cell-is
-    shared-slice-read-cell-is
-    add-cell-is-2
-    mul-cell-is-2
-    array-read-cell-is
-    cell-is-requires
-    add-i
-    loop-less
+    (λ c. search needs)
+    (λ c. search needs)
+    (λ c. search needs)
+    (λ c. search needs)
+    (λ c. search needs)
+    (λ c. search needs)
+    (λ c κs. search needs)
+    (λ c. search needs)
+    (λ c. search needs)
     loop-again
     returns)

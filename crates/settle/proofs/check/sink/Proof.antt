@@ -16,56 +16,8 @@ Inv-loop all blocks₀ m d s₀ s-end blocks s = (m ≤ s) × (s ≤ s-end) × (
 abbrev μ-loop : tie.MeasureT-loop
 μ-loop all blocks₀ m d s₀ s-end blocks s = s-end - s
 
-mul-s-end : tie.Need-mul-s-end Inv-loop μ-loop
-mul-s-end c = search needs
-
 loop-holds : tie.Need-loop-holds Inv-loop μ-loop
 loop-holds c = let p = c .pre in (omega arith, omega arith, omega arith, p .0, p .4)
-
-mul-deeper : tie.Need-mul-deeper Inv-loop μ-loop
-mul-deeper c = search needs
-
-element-copy-out-deeper : tie.Need-element-copy-out-deeper Inv-loop μ-loop
-element-copy-out-deeper c = search needs
-
-add-deeper : tie.Need-add-deeper Inv-loop μ-loop
-add-deeper c = search needs
-
-mul-deeper-2 : tie.Need-mul-deeper-2 Inv-loop μ-loop
-mul-deeper-2 c = search needs
-
-element-copy-out-deeper-2 : tie.Need-element-copy-out-deeper-2 Inv-loop μ-loop
-element-copy-out-deeper-2 c = search needs
-
-deeper-requires : tie.Need-deeper-requires Inv-loop μ-loop
-deeper-requires c κs = search needs
-
-mul-blocks : tie.Need-mul-blocks Inv-loop μ-loop
-mul-blocks c = search needs
-
-mul-blocks-2 : tie.Need-mul-blocks-2 Inv-loop μ-loop
-mul-blocks-2 c = search needs
-
-element-write-blocks : tie.Need-element-write-blocks Inv-loop μ-loop
-element-write-blocks c = search needs
-
-mul-blocks-3 : tie.Need-mul-blocks-3 Inv-loop μ-loop
-mul-blocks-3 c = search needs
-
-add-blocks : tie.Need-add-blocks Inv-loop μ-loop
-add-blocks c = search needs
-
-mul-blocks-4 : tie.Need-mul-blocks-4 Inv-loop μ-loop
-mul-blocks-4 c = search needs
-
-element-write-blocks-2 : tie.Need-element-write-blocks-2 Inv-loop μ-loop
-element-write-blocks-2 c = search needs
-
-add-s : tie.Need-add-s Inv-loop μ-loop
-add-s c = search needs
-
-loop-less : tie.Need-loop-less Inv-loop μ-loop
-loop-less c = search needs
 
 loop-again : tie.Need-loop-again Inv-loop μ-loop
 loop-again c =
@@ -94,22 +46,22 @@ sink-spec =
     (tie.spec
     Inv-loop
     μ-loop
-    mul-s-end
+    (λ c. search needs)
     loop-holds
-    mul-deeper
-    element-copy-out-deeper
-    add-deeper
-    mul-deeper-2
-    element-copy-out-deeper-2
-    deeper-requires
-    mul-blocks
-    mul-blocks-2
-    element-write-blocks
-    mul-blocks-3
-    add-blocks
-    mul-blocks-4
-    element-write-blocks-2
-    add-s
-    loop-less
+    (λ c. search needs)
+    (λ c. search needs)
+    (λ c. search needs)
+    (λ c. search needs)
+    (λ c. search needs)
+    (λ c κs. search needs)
+    (λ c. search needs)
+    (λ c. search needs)
+    (λ c. search needs)
+    (λ c. search needs)
+    (λ c. search needs)
+    (λ c. search needs)
+    (λ c. search needs)
+    (λ c. search needs)
+    (λ c. search needs)
     loop-again
     returns)

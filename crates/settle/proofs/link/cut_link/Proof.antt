@@ -10,39 +10,6 @@ use Rattle.settle.specs.Any.{cut-any}
 use Rattle.settle.proofs.link.cut_link.Statement.{statement}
 use Rattle.settle.proofs.link.cut_link.Tie as tie
 
-add-best-in : tie.Need-add-best-in
-add-best-in c = search needs
-
-mul-best-in : tie.Need-mul-best-in
-mul-best-in c = search needs
-
-slice-read-best-in : tie.Need-slice-read-best-in
-slice-read-best-in c = search needs
-
-best-in-requires : tie.Need-best-in-requires
-best-in-requires c κs = search needs
-
-plain-requires : tie.Need-plain-requires
-plain-requires c κs = search needs
-
-add-page : tie.Need-add-page
-add-page c = search needs
-
-mul-page : tie.Need-mul-page
-mul-page c = search needs
-
-slice-write-page : tie.Need-slice-write-page
-slice-write-page c = search needs
-
-climb-requires : tie.Need-climb-requires
-climb-requires c κs = search needs
-
-cast-fill-below : tie.Need-cast-fill-below
-cast-fill-below c = search needs
-
-fill-below-requires : tie.Need-fill-below-requires
-fill-below-requires c κs = search needs
-
 same-length : tie.Need-same-length
 same-length c =
     let a = c .before .before .before .before .before .before .before .before .before .before .args in
@@ -60,16 +27,16 @@ pub cut-link-spec : {M : Type 1} → statement M
 cut-link-spec =
     tie.close
     (tie.spec
-    add-best-in
-    mul-best-in
-    slice-read-best-in
-    best-in-requires
-    plain-requires
-    add-page
-    mul-page
-    slice-write-page
-    climb-requires
-    cast-fill-below
-    fill-below-requires
+    (λ c. search needs)
+    (λ c. search needs)
+    (λ c. search needs)
+    (λ c κs. search needs)
+    (λ c κs. search needs)
+    (λ c. search needs)
+    (λ c. search needs)
+    (λ c. search needs)
+    (λ c κs. search needs)
+    (λ c. search needs)
+    (λ c κs. search needs)
     same-length
     returns)

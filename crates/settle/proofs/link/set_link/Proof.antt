@@ -6,43 +6,10 @@ use Rattle.settle.specs.Any.{link-any}
 use Rattle.settle.proofs.link.set_link.Statement.{statement}
 use Rattle.settle.proofs.link.set_link.Tie as tie
 
-add-word : tie.Need-add-word
-add-word c = search needs
-
-mul-word : tie.Need-mul-word
-mul-word c = search needs
-
-slice-read-word : tie.Need-slice-read-word
-slice-read-word c = search needs
-
-best-in-requires : tie.Need-best-in-requires
-best-in-requires c κs = search needs
-
-block-in-requires : tie.Need-block-in-requires
-block-in-requires c κs = search needs
-
-cast-q : tie.Need-cast-q
-cast-q c = search needs
-
 part-requires : tie.Need-part-requires
 part-requires c κs =
     let s = c .before .before .before .before .before in
     (omega arith, omega arith, omega arith, omega (arith, c .before .block-in .ensures .0, s .pre .4))
-
-linked-requires : tie.Need-linked-requires
-linked-requires c κs = search needs
-
-add-page : tie.Need-add-page
-add-page c = search needs
-
-mul-page : tie.Need-mul-page
-mul-page c = search needs
-
-slice-write-page : tie.Need-slice-write-page
-slice-write-page c = search needs
-
-same-length : tie.Need-same-length
-same-length c = search needs
 
 returns : tie.Need-returns
 returns c =
@@ -55,16 +22,16 @@ pub set-link-spec : {M : Type 1} → statement M
 set-link-spec =
     tie.close
     (tie.spec
-    add-word
-    mul-word
-    slice-read-word
-    best-in-requires
-    block-in-requires
-    cast-q
+    (λ c. search needs)
+    (λ c. search needs)
+    (λ c. search needs)
+    (λ c κs. search needs)
+    (λ c κs. search needs)
+    (λ c. search needs)
     part-requires
-    linked-requires
-    add-page
-    mul-page
-    slice-write-page
-    same-length
+    (λ c κs. search needs)
+    (λ c. search needs)
+    (λ c. search needs)
+    (λ c. search needs)
+    (λ c. search needs)
     returns)

@@ -7,14 +7,8 @@ use Rattle.calm.specs.Climb.{across-low}
 use Rattle.settle.proofs.part.across.Statement.{statement}
 use Rattle.settle.proofs.part.across.Tie as tie
 
-sub-pow2 : tie.Need-sub-pow2
-sub-pow2 c = search needs
-
-pow2-requires : tie.Need-pow2-requires
-pow2-requires c κs = search needs
-
 returns : tie.Need-returns
 returns c = rw (c .pow2 .ensures) (refl, across-low (c .before .args .i) (8 - c .before .args .m) (omega arith) (omega arith))
 
 pub across-spec : {M : Type 1} → statement M
-across-spec = tie.close (tie.spec sub-pow2 pow2-requires returns)
+across-spec = tie.close (tie.spec (λ c. search needs) (λ c κs. search needs) returns)

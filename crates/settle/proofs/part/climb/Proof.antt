@@ -36,12 +36,6 @@ returns-2 c =
     let h = sym (c .before .joins .ensures) ∙ not-true _ (c .if2 .taken) in
     (sym (climb-stop (slots p) (links p) (blocks p) (a .i) _ (c .before .before .if1 .left) h) ∙ c .before .before .before .loop .inv .1, omega arith)
 
-sub-m : tie.Need-sub-m Inv-loop μ-loop
-sub-m c = search needs
-
-loop-less : tie.Need-loop-less Inv-loop μ-loop
-loop-less c = search needs
-
 loop-again : tie.Need-loop-again Inv-loop μ-loop
 loop-again c =
     let a = c .before .before .before .before .before .args in
@@ -59,6 +53,6 @@ climb-spec =
     returns
     joins-requires
     returns-2
-    sub-m
-    loop-less
+    (λ c. search needs)
+    (λ c. search needs)
     loop-again)

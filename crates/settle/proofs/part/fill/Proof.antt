@@ -18,30 +18,6 @@ abbrev μ-loop : tie.MeasureT-loop
 loop-holds : tie.Need-loop-holds Inv-loop μ-loop
 loop-holds c = (omega arith, omega arith, omega arith, fill-none _ _ _)
 
-add-cell : tie.Need-add-cell Inv-loop μ-loop
-add-cell c = search needs
-
-mul-with-block : tie.Need-mul-with-block Inv-loop μ-loop
-mul-with-block c = search needs
-
-slice-read-with-block : tie.Need-slice-read-with-block Inv-loop μ-loop
-slice-read-with-block c = search needs
-
-with-block-requires : tie.Need-with-block-requires Inv-loop μ-loop
-with-block-requires c κs = search needs
-
-mul-page : tie.Need-mul-page Inv-loop μ-loop
-mul-page c = search needs
-
-slice-write-page : tie.Need-slice-write-page Inv-loop μ-loop
-slice-write-page c = search needs
-
-add-i : tie.Need-add-i Inv-loop μ-loop
-add-i c = search needs
-
-loop-less : tie.Need-loop-less Inv-loop μ-loop
-loop-less c = search needs
-
 loop-again : tie.Need-loop-again Inv-loop μ-loop
 loop-again c =
     let a = c .before .before .before .before .before .args in
@@ -52,9 +28,6 @@ loop-again c =
       ap (set (l .page) (cellsAt + l .i)) (c .with-block .ensures)
           ∙ fill-more (a .page .now) (l .page) (a .from) (l .i) (a .q) (omega arith) (l .inv .3),
     )
-
-same-length : tie.Need-same-length Inv-loop μ-loop
-same-length c = omega arith
 
 returns : tie.Need-returns Inv-loop μ-loop
 returns c =
@@ -70,14 +43,14 @@ fill-spec =
     Inv-loop
     μ-loop
     loop-holds
-    add-cell
-    mul-with-block
-    slice-read-with-block
-    with-block-requires
-    mul-page
-    slice-write-page
-    add-i
-    loop-less
+    (λ c. search needs)
+    (λ c. search needs)
+    (λ c. search needs)
+    (λ c κs. search needs)
+    (λ c. search needs)
+    (λ c. search needs)
+    (λ c. search needs)
+    (λ c. search needs)
     loop-again
-    same-length
+    (λ c. omega arith)
     returns)

@@ -6,24 +6,6 @@ use Rattle.settle.specs.Part.{fill-run}
 use Rattle.settle.proofs.part.fill_below.Statement.{statement}
 use Rattle.settle.proofs.part.fill_below.Tie as tie
 
-first-of-requires : tie.Need-first-of-requires
-first-of-requires c κs = search needs
-
-sub-pow2 : tie.Need-sub-pow2
-sub-pow2 c = search needs
-
-pow2-requires : tie.Need-pow2-requires
-pow2-requires c κs = search needs
-
-add-to : tie.Need-add-to
-add-to c = search needs
-
-fill-requires : tie.Need-fill-requires
-fill-requires c κs = search needs
-
-same-length : tie.Need-same-length
-same-length c = search needs
-
 returns : tie.Need-returns
 returns c =
     let a = c .before .before .before .before .before .before .before .args in
@@ -33,4 +15,4 @@ returns c =
 pub fill-below-spec : {M : Type 1} → statement M
 fill-below-spec =
     tie.close
-    (tie.spec first-of-requires sub-pow2 pow2-requires add-to fill-requires same-length returns)
+    (tie.spec (λ c κs. search needs) (λ c. search needs) (λ c κs. search needs) (λ c. search needs) (λ c κs. search needs) (λ c. search needs) returns)

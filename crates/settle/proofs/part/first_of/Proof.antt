@@ -7,15 +7,6 @@ use Rattle.settle.specs.Part.{start-fits}
 use Rattle.settle.proofs.part.first_of.Statement.{statement}
 use Rattle.settle.proofs.part.first_of.Tie as tie
 
-sub-e : tie.Need-sub-e
-sub-e c = search needs
-
-shr-result : tie.Need-shr-result
-shr-result c = search needs
-
-pow2-requires : tie.Need-pow2-requires
-pow2-requires c κs = search needs
-
 mul-result : tie.Need-mul-result
 mul-result c = rw (c .pow2 .ensures) (omega (arith, start-fits (c .before .args .i) (c .before .args .m) (omega arith) (omega arith)))
 
@@ -23,4 +14,4 @@ returns : tie.Need-returns
 returns c = rw (c .pow2 .ensures) (refl, start-fits (c .before .args .i) (c .before .args .m) (omega arith) (omega arith))
 
 pub first-of-spec : {M : Type 1} → statement M
-first-of-spec = tie.close (tie.spec sub-e shr-result pow2-requires mul-result returns)
+first-of-spec = tie.close (tie.spec (λ c. search needs) (λ c. search needs) (λ c κs. search needs) mul-result returns)

@@ -26,30 +26,6 @@ loop-holds c =
     let a = c .before .before .args in
     (omega arith, omega arith, omega arith, left-none (a .page .now) (a .i) (a .q))
 
-add-across : tie.Need-add-across Inv-loop μ-loop
-add-across c = search needs
-
-across-requires : tie.Need-across-requires Inv-loop μ-loop
-across-requires c κs = search needs
-
-add-fill-below : tie.Need-add-fill-below Inv-loop μ-loop
-add-fill-below c = search needs
-
-cast-fill-below : tie.Need-cast-fill-below Inv-loop μ-loop
-cast-fill-below c = search needs
-
-add-fill-below-2 : tie.Need-add-fill-below-2 Inv-loop μ-loop
-add-fill-below-2 c = search needs
-
-fill-below-requires : tie.Need-fill-below-requires Inv-loop μ-loop
-fill-below-requires c κs = search needs
-
-add-m : tie.Need-add-m Inv-loop μ-loop
-add-m c = search needs
-
-loop-less : tie.Need-loop-less Inv-loop μ-loop
-loop-less c = search needs
-
 loop-again : tie.Need-loop-again Inv-loop μ-loop
 loop-again c =
     let a = c .before .before .before .before .before .before .before .before .before .args in
@@ -61,12 +37,6 @@ loop-again c =
       omega arith,
       left-next (a .page .now) (l .page) _ (a .i) (a .q) (l .m) _ _ (omega arith) (omega arith) (omega arith) j refl (l .inv .3) r,
     )
-
-cast-fill-below-2 : tie.Need-cast-fill-below-2 Inv-loop μ-loop
-cast-fill-below-2 c = search needs
-
-fill-below-requires-2 : tie.Need-fill-below-requires-2 Inv-loop μ-loop
-fill-below-requires-2 c κs = search needs
 
 same-length : tie.Need-same-length Inv-loop μ-loop
 same-length c =
@@ -88,16 +58,16 @@ part-spec =
     μ-loop
     returns
     loop-holds
-    add-across
-    across-requires
-    add-fill-below
-    cast-fill-below
-    add-fill-below-2
-    fill-below-requires
-    add-m
-    loop-less
+    (λ c. search needs)
+    (λ c κs. search needs)
+    (λ c. search needs)
+    (λ c. search needs)
+    (λ c. search needs)
+    (λ c κs. search needs)
+    (λ c. search needs)
+    (λ c. search needs)
     loop-again
-    cast-fill-below-2
-    fill-below-requires-2
+    (λ c. search needs)
+    (λ c κs. search needs)
     same-length
     returns-2)

@@ -9,17 +9,8 @@ use Rattle.sizes.specs.Sizes.{cellSlots}
 use Rattle.settle.proofs.part.slot_over.Statement.{statement}
 use Rattle.settle.proofs.part.slot_over.Tie as tie
 
-add-result : tie.Need-add-result
-add-result c = search needs
-
-sub-result : tie.Need-sub-result
-sub-result c = search needs
-
-shr-result : tie.Need-shr-result
-shr-result c = search needs
-
 returns : tie.Need-returns
 returns c = (refl, omega (arith, shr-le (cellSlots + c .args .i) (8 - c .args .m)))
 
 pub slot-over-spec : {M : Type 1} → statement M
-slot-over-spec = tie.close (tie.spec add-result sub-result shr-result returns)
+slot-over-spec = tie.close (tie.spec (λ c. search needs) (λ c. search needs) (λ c. search needs) returns)

@@ -10,18 +10,6 @@ use Rattle.settle.specs.Slot.{freed-linked, freed-deep, freed-alone, fre
 use Rattle.settle.proofs.slot.freed.Statement.{statement}
 use Rattle.settle.proofs.slot.freed.Tie as tie
 
-add-word : tie.Need-add-word
-add-word c = search needs
-
-mul-word : tie.Need-mul-word
-mul-word c = search needs
-
-slice-read-word : tie.Need-slice-read-word
-slice-read-word c = search needs
-
-has-link-requires : tie.Need-has-link-requires
-has-link-requires c κs = search needs
-
 returns : tie.Need-returns
 returns c =
     let s = c .before .before .before .before in
@@ -33,12 +21,6 @@ returns c =
       right = λ w. freed-linked (a .page .now) (a .i) (a .d) (omega arith) w n;
     }
 
-block-in-requires : tie.Need-block-in-requires
-block-in-requires c κs = search needs
-
-cast-if2 : tie.Need-cast-if2
-cast-if2 c = search needs
-
 returns-2 : tie.Need-returns-2
 returns-2 c =
     let s = c .before .before .before .before .before .before in
@@ -48,12 +30,6 @@ returns-2 c =
       cells = cells-same _;
       right = λ w. freed-deep (a .page .now) (a .i) (a .d) (omega arith) w (omega (arith, c .before .block-in .ensures .0));
     }
-
-climb-requires : tie.Need-climb-requires
-climb-requires c κs = search needs
-
-same-length : tie.Need-same-length
-same-length c = search needs
 
 returns-3 : tie.Need-returns-3
 returns-3 c =
@@ -68,15 +44,6 @@ returns-3 c =
       right = λ w. freed-alone (a .page .now) (a .i) (a .d) (omega arith) w o (omega (arith, b .block-in .ensures .0)) _
           (c .before .climb .ensures .0) (omega arith);
     }
-
-cast-fill-below : tie.Need-cast-fill-below
-cast-fill-below c = search needs
-
-fill-below-requires : tie.Need-fill-below-requires
-fill-below-requires c κs = search needs
-
-same-length-2 : tie.Need-same-length-2
-same-length-2 c = search needs
 
 returns-4 : tie.Need-returns-4
 returns-4 c =
@@ -96,18 +63,18 @@ pub freed-spec : {M : Type 1} → statement M
 freed-spec =
     tie.close
     (tie.spec
-    add-word
-    mul-word
-    slice-read-word
-    has-link-requires
+    (λ c. search needs)
+    (λ c. search needs)
+    (λ c. search needs)
+    (λ c κs. search needs)
     returns
-    block-in-requires
-    cast-if2
+    (λ c κs. search needs)
+    (λ c. search needs)
     returns-2
-    climb-requires
-    same-length
+    (λ c κs. search needs)
+    (λ c. search needs)
     returns-3
-    cast-fill-below
-    fill-below-requires
-    same-length-2
+    (λ c. search needs)
+    (λ c κs. search needs)
+    (λ c. search needs)
     returns-4)

@@ -14,12 +14,6 @@ returns c =
       right = λ w. same-settled _ (w .none (c .before .if1 .taken) (c .if2 .taken));
     }
 
-took-requires : tie.Need-took-requires
-took-requires c κs = search needs
-
-same-length : tie.Need-same-length
-same-length c = search needs
-
 returns-2 : tie.Need-returns-2
 returns-2 c =
     let t = c .before .before in
@@ -39,12 +33,6 @@ returns-3 c =
       right = λ w. same-settled _ (w .other (c .before .if1 .left) (c .if3 .taken));
     }
 
-freed-requires : tie.Need-freed-requires
-freed-requires c κs = search needs
-
-same-length-2 : tie.Need-same-length-2
-same-length-2 c = search needs
-
 returns-4 : tie.Need-returns-4
 returns-4 c =
     let t = c .before .before in
@@ -59,4 +47,4 @@ returns-4 c =
 pub resettle-spec : {M : Type 1} → statement M
 resettle-spec =
     tie.close
-    (tie.spec returns took-requires same-length returns-2 returns-3 freed-requires same-length-2 returns-4)
+    (tie.spec returns (λ c κs. search needs) (λ c. search needs) returns-2 returns-3 (λ c κs. search needs) (λ c. search needs) returns-4)

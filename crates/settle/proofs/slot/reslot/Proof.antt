@@ -10,12 +10,6 @@ use Rattle.settle.proofs.Laws.{resets-any}
 use Rattle.settle.proofs.slot.reslot.Statement.{statement}
 use Rattle.settle.proofs.slot.reslot.Tie as tie
 
-reslot-requires : tie.Need-reslot-requires
-reslot-requires c κs = search needs
-
-first-cell-requires : tie.Need-first-cell-requires
-first-cell-requires c κs = search needs
-
 resettle-requires : tie.Need-resettle-requires
 resettle-requires c κs =
     let s = c .before .before .before .before .before .before .before in
@@ -26,9 +20,6 @@ resettle-requires c κs =
       b,
       s .pre .0 .depth,
     )
-
-same-length : tie.Need-same-length
-same-length c = search needs
 
 returns : tie.Need-returns
 returns c =
@@ -41,4 +32,4 @@ returns c =
     (c .before .before .resettle .ensures)
 
 pub reslot-spec : {M : Type 1} → statement M
-reslot-spec = tie.close (tie.spec reslot-requires first-cell-requires resettle-requires same-length returns)
+reslot-spec = tie.close (tie.spec (λ c κs. search needs) (λ c κs. search needs) resettle-requires (λ c. search needs) returns)

@@ -9,30 +9,12 @@ use Rattle.settle.specs.Slot.{took-linked, took-deep, took-parts}
 use Rattle.settle.proofs.slot.took.Statement.{statement}
 use Rattle.settle.proofs.slot.took.Tie as tie
 
-add-word : tie.Need-add-word
-add-word c = search needs
-
-mul-word : tie.Need-mul-word
-mul-word c = search needs
-
-slice-read-word : tie.Need-slice-read-word
-slice-read-word c = search needs
-
-has-link-requires : tie.Need-has-link-requires
-has-link-requires c κs = search needs
-
 returns : tie.Need-returns
 returns c =
     let s = c .before .before .before .before in
     let a = s .args in
     let n = linked-by _ _ (c .before .has-link .ensures) (c .if1 .taken) in
     record { is = took-linked-is (a .page .now) (a .i) (a .d) n; cells = cells-same _; right = λ w. took-linked (a .page .now) (a .i) (a .d) (omega arith) w n }
-
-block-in-requires : tie.Need-block-in-requires
-block-in-requires c κs = search needs
-
-cast-q : tie.Need-cast-q
-cast-q c = search needs
 
 returns-2 : tie.Need-returns-2
 returns-2 c =
@@ -43,12 +25,6 @@ returns-2 c =
       cells = cells-same _;
       right = λ w. took-deep (a .page .now) (a .i) (a .d) (omega arith) w (omega (arith, c .before .block-in .ensures .0));
     }
-
-part-requires : tie.Need-part-requires
-part-requires c κs = search needs
-
-same-length : tie.Need-same-length
-same-length c = search needs
 
 returns-3 : tie.Need-returns-3
 returns-3 c =
@@ -68,14 +44,14 @@ pub took-spec : {M : Type 1} → statement M
 took-spec =
     tie.close
     (tie.spec
-    add-word
-    mul-word
-    slice-read-word
-    has-link-requires
+    (λ c. search needs)
+    (λ c. search needs)
+    (λ c. search needs)
+    (λ c κs. search needs)
     returns
-    block-in-requires
-    cast-q
+    (λ c κs. search needs)
+    (λ c. search needs)
     returns-2
-    part-requires
-    same-length
+    (λ c κs. search needs)
+    (λ c. search needs)
     returns-3)

@@ -22,26 +22,11 @@ abbrev μ-loop : tie.MeasureT-loop
 loop-holds : tie.Need-loop-holds Inv-loop μ-loop
 loop-holds c = (omega arith, all-none _)
 
-mul-zeros : tie.Need-mul-zeros Inv-loop μ-loop
-mul-zeros c = omega arith
-
-add-zeros : tie.Need-add-zeros Inv-loop μ-loop
-add-zeros c = omega arith
-
-zeros-requires : tie.Need-zeros-requires Inv-loop μ-loop
-zeros-requires c κs = omega arith
-
 returns : tie.Need-returns Inv-loop μ-loop
 returns c =
     let l = c .before .before .before .loop in
     let a = c .before .before .before .before .before .args in
     bare-stop (a .page .now) (l .g) (omega arith) (sym (c .before .zeros .ensures) ∙ not-true _ (c .if1 .taken))
-
-add-g : tie.Need-add-g Inv-loop μ-loop
-add-g c = omega arith
-
-loop-less : tie.Need-loop-less Inv-loop μ-loop
-loop-less c = omega arith
 
 loop-again : tie.Need-loop-again Inv-loop μ-loop
 loop-again c =
@@ -62,11 +47,11 @@ bare-spec =
     Inv-loop
     μ-loop
     loop-holds
-    mul-zeros
-    add-zeros
-    zeros-requires
+    (λ c. omega arith)
+    (λ c. omega arith)
+    (λ c κs. omega arith)
     returns
-    add-g
-    loop-less
+    (λ c. omega arith)
+    (λ c. omega arith)
     loop-again
     returns-2)

@@ -21,42 +21,21 @@ abbrev μ-loop : tie.MeasureT-loop
 read-some-requires : tie.Need-read-some-requires Inv-loop μ-loop
 read-some-requires c κs = (c .before .before .pre .0, omega arith, omega arith, c .before .before .pre .1)
 
-candidates-requires : tie.Need-candidates-requires Inv-loop μ-loop
-candidates-requires c κs = search needs
-
 loop-holds : tie.Need-loop-holds Inv-loop μ-loop
 loop-holds c =
     let a = c .before .before .before .before .args in
     (omega arith, omega arith, c .before .read-some .ensures, count-start (a .page .now) _ 31 (c .candidates .ensures .0))
-
-add-next : tie.Need-add-next Inv-loop μ-loop
-add-next c = search needs
-
-add-zeros : tie.Need-add-zeros Inv-loop μ-loop
-add-zeros c = search needs
-
-mul-zeros : tie.Need-mul-zeros Inv-loop μ-loop
-mul-zeros c = search needs
-
-zeros-requires : tie.Need-zeros-requires Inv-loop μ-loop
-zeros-requires c κs = search needs
 
 read-some-requires-2 : tie.Need-read-some-requires-2 Inv-loop μ-loop
 read-some-requires-2 c κs =
     let l = c .before .before .before .before .loop in
     (omega arith, omega arith, omega arith, l .inv .2)
 
-candidates-requires-2 : tie.Need-candidates-requires-2 Inv-loop μ-loop
-candidates-requires-2 c κs = search needs
-
 add-m : tie.Need-add-m Inv-loop μ-loop
 add-m c =
     let l = c .before .before .before .before .before .before .loop in
     let a = c .before .before .before .before .before .before .before .before .before .before .before .args in
     omega (arith, few-candidates (a .page .now) (l .s), l .inv .3, c .candidates2 .ensures .1)
-
-loop-less : tie.Need-loop-less Inv-loop μ-loop
-loop-less c = search needs
 
 loop-again : tie.Need-loop-again Inv-loop μ-loop
 loop-again c =
@@ -67,9 +46,6 @@ loop-again c =
       c .before .read-some2 .ensures,
       count-row (a .page .now) 32 (l .s) (l .m) _ (l .inv .3) (c .candidates2 .ensures .0),
     )
-
-loop-less-2 : tie.Need-loop-less-2 Inv-loop μ-loop
-loop-less-2 c = search needs
 
 loop-again-2 : tie.Need-loop-again-2 Inv-loop μ-loop
 loop-again-2 c =
@@ -104,18 +80,18 @@ read-spec =
     Inv-loop
     μ-loop
     read-some-requires
-    candidates-requires
+    (λ c κs. search needs)
     loop-holds
-    add-next
-    add-zeros
-    mul-zeros
-    zeros-requires
+    (λ c. search needs)
+    (λ c. search needs)
+    (λ c. search needs)
+    (λ c κs. search needs)
     read-some-requires-2
-    candidates-requires-2
+    (λ c κs. search needs)
     add-m
-    loop-less
+    (λ c. search needs)
     loop-again
-    loop-less-2
+    (λ c. search needs)
     loop-again-2
     returns
     returns-2)

@@ -16,38 +16,8 @@ abbrev μ-loop : tie.MeasureT-loop
 loop-holds : tie.Need-loop-holds Inv-loop μ-loop
 loop-holds c = (omega arith, omega arith, c .before .pre .3)
 
-add-faults : tie.Need-add-faults Inv-loop μ-loop
-add-faults c = search needs
-
-mul-faults : tie.Need-mul-faults Inv-loop μ-loop
-mul-faults c = search needs
-
-faults-requires : tie.Need-faults-requires Inv-loop μ-loop
-faults-requires c κs = search needs
-
-add-hop-flat : tie.Need-add-hop-flat Inv-loop μ-loop
-add-hop-flat c = search needs
-
-mul-hop-flat : tie.Need-mul-hop-flat Inv-loop μ-loop
-mul-hop-flat c = search needs
-
-hop-flat-requires : tie.Need-hop-flat-requires Inv-loop μ-loop
-hop-flat-requires c κs = search needs
-
-add-won : tie.Need-add-won Inv-loop μ-loop
-add-won c = search needs
-
-mul-won : tie.Need-mul-won Inv-loop μ-loop
-mul-won c = search needs
-
 element-write-won : tie.Need-element-write-won Inv-loop μ-loop
 element-write-won c = let l = c .before .before .before .loop in omega (arith, l .inv .2 .size)
-
-add-s : tie.Need-add-s Inv-loop μ-loop
-add-s c = search needs
-
-loop-less : tie.Need-loop-less Inv-loop μ-loop
-loop-less c = search needs
 
 loop-again : tie.Need-loop-again Inv-loop μ-loop
 loop-again c =
@@ -73,16 +43,16 @@ read-some-spec =
     Inv-loop
     μ-loop
     loop-holds
-    add-faults
-    mul-faults
-    faults-requires
-    add-hop-flat
-    mul-hop-flat
-    hop-flat-requires
-    add-won
-    mul-won
+    (λ c. search needs)
+    (λ c. search needs)
+    (λ c κs. search needs)
+    (λ c. search needs)
+    (λ c. search needs)
+    (λ c κs. search needs)
+    (λ c. search needs)
+    (λ c. search needs)
     element-write-won
-    add-s
-    loop-less
+    (λ c. search needs)
+    (λ c. search needs)
     loop-again
     returns)

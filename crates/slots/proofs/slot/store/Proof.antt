@@ -4,18 +4,6 @@ use Rattle.slots.proofs.Laws.{stored-told}
 use Rattle.slots.proofs.slot.store.Statement.{statement}
 use Rattle.slots.proofs.slot.store.Tie as tie
 
-hop-at-requires : tie.Need-hop-at-requires
-hop-at-requires c κs = search needs
-
-set-word-requires : tie.Need-set-word-requires
-set-word-requires c κs = search needs
-
-hop-at-requires-2 : tie.Need-hop-at-requires-2
-hop-at-requires-2 c κs = search needs
-
-same-length : tie.Need-same-length
-same-length c = search needs
-
 returns : tie.Need-returns
 returns c =
     let s = c .before .before .before .before in
@@ -25,4 +13,4 @@ returns c =
 
 pub store-spec : {M : Type 1} → statement M
 store-spec =
-    tie.close (tie.spec hop-at-requires set-word-requires hop-at-requires-2 same-length returns)
+    tie.close (tie.spec (λ c κs. search needs) (λ c κs. search needs) (λ c κs. search needs) (λ c. search needs) returns)

@@ -5,17 +5,8 @@ use Rattle.slots.specs.Winner.{lower}
 use Rattle.slots.proofs.slot.winner4.Statement.{statement}
 use Rattle.slots.proofs.slot.winner4.Tie as tie
 
-lower-requires : tie.Need-lower-requires
-lower-requires c κs = search needs
-
-lower-requires-2 : tie.Need-lower-requires-2
-lower-requires-2 c κs = search needs
-
-lower-requires-3 : tie.Need-lower-requires-3
-lower-requires-3 c κs = search needs
-
 returns : tie.Need-returns
 returns c = c .lower3 .ensures ∙ ap (lower _) (c .before .lower2 .ensures ∙ ap (lower _) (c .before .before .lower .ensures))
 
 pub winner4-spec : {M : Type 1} → statement M
-winner4-spec = tie.close (tie.spec lower-requires lower-requires-2 lower-requires-3 returns)
+winner4-spec = tie.close (tie.spec (λ c κs. search needs) (λ c κs. search needs) (λ c κs. search needs) returns)

@@ -5,17 +5,8 @@ use Rattle.slots.specs.Winner.{lower}
 use Rattle.slots.proofs.slot.winner_flat.Statement.{statement}
 use Rattle.slots.proofs.slot.winner_flat.Tie as tie
 
-lower-flat-requires : tie.Need-lower-flat-requires
-lower-flat-requires c κs = search needs
-
-lower-flat-requires-2 : tie.Need-lower-flat-requires-2
-lower-flat-requires-2 c κs = search needs
-
-lower-flat-requires-3 : tie.Need-lower-flat-requires-3
-lower-flat-requires-3 c κs = search needs
-
 returns : tie.Need-returns
 returns c = c .lower-flat3 .ensures ∙ ap (lower _) (c .before .lower-flat2 .ensures ∙ ap (lower _) (c .before .before .lower-flat .ensures))
 
 pub winner-flat-spec : {M : Type 1} → statement M
-winner-flat-spec = tie.close (tie.spec lower-flat-requires lower-flat-requires-2 lower-flat-requires-3 returns)
+winner-flat-spec = tie.close (tie.spec (λ c κs. search needs) (λ c κs. search needs) (λ c κs. search needs) returns)

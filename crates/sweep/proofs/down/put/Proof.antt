@@ -10,25 +10,13 @@ use Rattle.sweep.proofs.down.put.Tie as tie
 returns : tie.Need-returns
 returns c = put-none (c .before .before .pre) (c .if1 .taken)
 
-shl-address : tie.Need-shl-address
-shl-address c = search needs
-
-cast-address : tie.Need-cast-address
-cast-address c = search needs
-
 slice-write-buffer : tie.Need-slice-write-buffer
 slice-write-buffer c = omega (arith, put-room (c .before .before .pre) (c .if1 .left))
-
-add-put-two : tie.Need-add-put-two
-add-put-two c = search needs
 
 put-two-requires : tie.Need-put-two-requires
 put-two-requires c κs =
     let e = c .before in
     simp length-set (omega (arith, put-room (e .before .before .pre) (e .if1 .left)))
-
-add-put-two-2 : tie.Need-add-put-two-2
-add-put-two-2 c = search needs
 
 put-two-requires-2 : tie.Need-put-two-requires-2
 put-two-requires-2 c κs =
@@ -36,24 +24,12 @@ put-two-requires-2 c κs =
     let e = x .before .before in
     omega (arith, put-room (e .before .before .pre) (e .if1 .left), simp length-set at (x .put-two .kept .0))
 
-sub-buffer : tie.Need-sub-buffer
-sub-buffer c = search needs
-
-cast-buffer : tie.Need-cast-buffer
-cast-buffer c = search needs
-
-add-buffer : tie.Need-add-buffer
-add-buffer c = search needs
-
 slice-write-buffer-2 : tie.Need-slice-write-buffer-2
 slice-write-buffer-2 c =
     let y = c .before .before in
     let x = y .before .before .before .before in
     let e = x .before .before in
     omega (arith, put-room (e .before .before .pre) (e .if1 .left), y .put-two2 .kept .0 ∙ (simp length-set at (x .put-two .kept .0)))
-
-add-put-two-3 : tie.Need-add-put-two-3
-add-put-two-3 c = search needs
 
 put-two-requires-3 : tie.Need-put-two-requires-3
 put-two-requires-3 c κs =
@@ -65,9 +41,6 @@ put-two-requires-3 c κs =
       put-room (e .before .before .pre) (e .if1 .left),
       y .put-two2 .kept .0 ∙ (simp length-set at (x .put-two .kept .0)),
     ))
-
-add-result : tie.Need-add-result
-add-result c = search needs
 
 same-length : tie.Need-same-length
 same-length c =
@@ -91,19 +64,19 @@ put-spec =
     tie.close
     (tie.spec
     returns
-    shl-address
-    cast-address
+    (λ c. search needs)
+    (λ c. search needs)
     slice-write-buffer
-    add-put-two
+    (λ c. search needs)
     put-two-requires
-    add-put-two-2
+    (λ c. search needs)
     put-two-requires-2
-    sub-buffer
-    cast-buffer
-    add-buffer
+    (λ c. search needs)
+    (λ c. search needs)
+    (λ c. search needs)
     slice-write-buffer-2
-    add-put-two-3
+    (λ c. search needs)
     put-two-requires-3
-    add-result
+    (λ c. search needs)
     same-length
     returns-2)

@@ -14,12 +14,6 @@ returns c = choose-none (c .before .args .set) (c .before .args .above) (c .if1 
 returns-2 : tie.Need-returns-2
 returns-2 c = choose-over (c .before .before .args .set) (c .before .before .args .above) (omega (arith, c .before .before .good)) (c .if2 .taken)
 
-sub-bit : tie.Need-sub-bit
-sub-bit c = search needs
-
-shr-bit : tie.Need-shr-bit
-shr-bit c = search needs
-
 returns-3 : tie.Need-returns-3
 returns-3 c = choose-kept (c .before .before .before .args .set) (c .before .before .before .args .above) (c .before .before .if1 .left) (c .if3 .taken)
 
@@ -27,4 +21,4 @@ returns-4 : tie.Need-returns-4
 returns-4 c = choose-lowest (c .before .before .before .args .set) (c .before .before .before .args .above) (c .before .before .if1 .left) (c .if3 .left)
 
 pub choose-spec : {M : Type 1} → statement M
-choose-spec = tie.close (tie.spec add-lowest returns returns-2 sub-bit shr-bit returns-3 returns-4)
+choose-spec = tie.close (tie.spec add-lowest returns returns-2 (λ c. search needs) (λ c. search needs) returns-3 returns-4)

@@ -4,14 +4,8 @@ use borrow.Author.Needs.{needs}
 use Rattle.sweep.proofs.set.single.Statement.{statement}
 use Rattle.sweep.proofs.set.single.Tie as tie
 
-sub-result : tie.Need-sub-result
-sub-result c = search needs
-
-shl-result : tie.Need-shl-result
-shl-result c = search needs
-
 returns : tie.Need-returns
 returns c = single-is (c .args .hop) (c .pre .1)
 
 pub single-spec : {M : Type 1} → statement M
-single-spec = tie.close (tie.spec sub-result shl-result returns)
+single-spec = tie.close (tie.spec (λ c. search needs) (λ c. search needs) returns)

@@ -6,12 +6,6 @@ use borrow.Author.Needs.{needs}
 use Rattle.toggleash.proofs.copies.toggleash_copy_lookup.Statement.{statement}
 use Rattle.toggleash.proofs.copies.toggleash_copy_lookup.Tie as tie
 
-lookup-requires : tie.Need-lookup-requires
-lookup-requires c κs = search needs
-
-finding-requires : tie.Need-finding-requires
-finding-requires c κs = search needs
-
 returns : tie.Need-returns
 returns c = (
   c .finding .ensures ∙ ap matched (c .before .lookup .ensures .0),
@@ -19,4 +13,4 @@ returns c = (
 )
 
 pub toggleash-copy-lookup-spec : {M : Type 1} → statement M
-toggleash-copy-lookup-spec = tie.close (tie.spec lookup-requires finding-requires returns)
+toggleash-copy-lookup-spec = tie.close (tie.spec (λ c κs. search needs) (λ c κs. search needs) returns)

@@ -5,14 +5,8 @@ use borrow.Author.Needs.{needs}
 use Rattle.toggleash.proofs.six.toggleash_v6_check.Statement.{statement}
 use Rattle.toggleash.proofs.six.toggleash_v6_check.Tie as tie
 
-check-of-requires : tie.Need-check-of-requires
-check-of-requires c κs = search needs
-
-counts-requires : tie.Need-counts-requires
-counts-requires c κs = search needs
-
 returns : tie.Need-returns
 returns c = c .counts .ensures ∙ ap counted (c .before .check-of .ensures)
 
 pub toggleash-v6-check-spec : {M : Type 1} → statement M
-toggleash-v6-check-spec = tie.close (tie.spec check-of-requires counts-requires returns)
+toggleash-v6-check-spec = tie.close (tie.spec (λ c κs. search needs) (λ c κs. search needs) returns)

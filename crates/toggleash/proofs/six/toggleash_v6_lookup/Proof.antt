@@ -5,14 +5,8 @@ use borrow.Author.Needs.{needs}
 use Rattle.toggleash.proofs.six.toggleash_v6_lookup.Statement.{statement}
 use Rattle.toggleash.proofs.six.toggleash_v6_lookup.Tie as tie
 
-walk-v6-requires : tie.Need-walk-v6-requires
-walk-v6-requires c κs = search needs
-
-finding-requires : tie.Need-finding-requires
-finding-requires c κs = search needs
-
 returns : tie.Need-returns
 returns c = c .finding .ensures ∙ ap looked (c .before .walk-v6 .ensures .0)
 
 pub toggleash-v6-lookup-spec : {M : Type 1} → statement M
-toggleash-v6-lookup-spec = tie.close (tie.spec walk-v6-requires finding-requires returns)
+toggleash-v6-lookup-spec = tie.close (tie.spec (λ c κs. search needs) (λ c κs. search needs) returns)

@@ -5,19 +5,10 @@ use borrow.Author.Needs.{needs}
 use Rattle.toggleash.proofs.six.toggleash_v6_withdraw.Statement.{statement}
 use Rattle.toggleash.proofs.six.toggleash_v6_withdraw.Tie as tie
 
-withdraw-v6-requires : tie.Need-withdraw-v6-requires
-withdraw-v6-requires c κs = search needs
-
-change-requires : tie.Need-change-requires
-change-requires c κs = search needs
-
-same-length : tie.Need-same-length
-same-length c = search needs
-
 returns : tie.Need-returns
 returns c =
     let u = c .before .before .before .withdraw-v6 in
     made v6 _ _ _ (u .result) _ (u .ensures) (c .change .ensures)
 
 pub toggleash-v6-withdraw-spec : {M : Type 1} → statement M
-toggleash-v6-withdraw-spec = tie.close (tie.spec withdraw-v6-requires change-requires same-length returns)
+toggleash-v6-withdraw-spec = tie.close (tie.spec (λ c κs. search needs) (λ c κs. search needs) (λ c. search needs) returns)

@@ -32,15 +32,6 @@ add-in-requires c κs =
     let r = l .loop .inv in
     (rest-fits r, rw (r .size) (l .before .before .pre .1), r .small)
 
-parent-in-requires : tie.Need-parent-in-requires Inv-loop μ-loop
-parent-in-requires c κs = search needs
-
-cell-in-requires : tie.Need-cell-in-requires Inv-loop μ-loop
-cell-in-requires c κs = search needs
-
-add-s : tie.Need-add-s Inv-loop μ-loop
-add-s c = search needs
-
 loop-less : tie.Need-loop-less Inv-loop μ-loop
 loop-less c =
     let d = c .before .before .before .before in
@@ -89,9 +80,9 @@ add-on-spec =
     loop-holds
     tag-requires
     add-in-requires
-    parent-in-requires
-    cell-in-requires
-    add-s
+    (λ c κs. search needs)
+    (λ c κs. search needs)
+    (λ c. search needs)
     loop-less
     loop-again
     add-in-requires-2

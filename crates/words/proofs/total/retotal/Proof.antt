@@ -5,17 +5,8 @@ use Rattle.words.specs.Retotalled.{retotalled-none, retotalled-some}
 use Rattle.words.proofs.total.retotal.Statement.{statement}
 use Rattle.words.proofs.total.retotal.Tie as tie
 
-step-requires : tie.Need-step-requires
-step-requires c κs = search needs
-
 returns : tie.Need-returns
 returns c = retotalled-none _ _ _ _ _ (sym (c .before .step .ensures) ∙ c .if1 .taken)
-
-add-on-requires : tie.Need-add-on-requires
-add-on-requires c κs = search needs
-
-same-length : tie.Need-same-length
-same-length c = search needs
 
 returns-2 : tie.Need-returns-2
 returns-2 c =
@@ -24,4 +15,4 @@ returns-2 c =
     retotalled-some _ _ _ _ _ _ _ (by .step .ensures) (on .before .before .if1 .left) (on .add-on .ensures)
 
 pub retotal-spec : {M : Type 1} → statement M
-retotal-spec = tie.close (tie.spec step-requires returns add-on-requires same-length returns-2)
+retotal-spec = tie.close (tie.spec (λ c κs. search needs) returns (λ c κs. search needs) (λ c. search needs) returns-2)

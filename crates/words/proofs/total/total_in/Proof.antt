@@ -5,21 +5,6 @@ use borrow.Author.Needs.{needs}
 use Rattle.words.proofs.total.total_in.Statement.{statement}
 use Rattle.words.proofs.total.total_in.Tie as tie
 
-sub-result : tie.Need-sub-result
-sub-result c = search needs
-
-add-result : tie.Need-add-result
-add-result c = search needs
-
-add-result-2 : tie.Need-add-result-2
-add-result-2 c = search needs
-
-mul-result : tie.Need-mul-result
-mul-result c = search needs
-
-shared-slice-read-result : tie.Need-shared-slice-read-result
-shared-slice-read-result c = search needs
-
 returns : tie.Need-returns
 unfolding totalIn
 returns c = refl
@@ -27,4 +12,4 @@ returns c = refl
 pub total-in-spec : {M : Type 1} → statement M
 total-in-spec =
     tie.close
-    (tie.spec sub-result add-result add-result-2 mul-result shared-slice-read-result returns)
+    (tie.spec (λ c. search needs) (λ c. search needs) (λ c. search needs) (λ c. search needs) (λ c. search needs) returns)

@@ -6,12 +6,6 @@ use borrow.Author.Needs.{needs}
 use Rattle.console.proofs.address.Stretch.or.Statement.{statement}
 use Rattle.console.proofs.address.Stretch.or.Tie as tie
 
-sub-if1 : tie.Need-sub-if1
-sub-if1 c = search needs
-
-sub-if1-2 : tie.Need-sub-if1-2
-sub-if1-2 c = search needs
-
 returns : tie.Need-returns
 returns c = inl (omega arith, refl, refl)
 
@@ -19,4 +13,4 @@ returns-2 : tie.Need-returns-2
 returns-2 c = inr (omega arith, refl, refl)
 
 pub or-spec : {M : Type 1} → statement M
-or-spec = tie.close (tie.spec sub-if1 sub-if1-2 returns returns-2)
+or-spec = tie.close (tie.spec (λ c. search needs) (λ c. search needs) returns returns-2)
