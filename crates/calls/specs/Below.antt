@@ -38,14 +38,14 @@ use Rattle.feed.specs.Runs as feed
 use Rattle.feed.specs.declared.Report.{Report}
 use Rattle.feed.specs.declared.Ran.{Ran}
 use Rattle.feed.specs.declared.Ran.the-variants as stop
-use Rattle.toggleash.specs.Face.{refusal, counted, looked, totalled, updated, wrote, ran}
+use Rattle.answers.specs.Numbers.{refusal, counted, looked, totalled, updated, wrote, ran}
 use Rattle.toggleash.specs.Face.{HasCleared, HasUpdated, HasWritten, HasRun}
-use Rattle.toggleash.specs.declared.Counted.{Counted}
-use Rattle.toggleash.specs.declared.Found.{Found}
-use Rattle.toggleash.specs.declared.Total.{Total}
-use Rattle.toggleash.specs.declared.Updated.{Updated}
-use Rattle.toggleash.specs.declared.Written.{Written}
-use Rattle.toggleash.specs.declared.Ran.{Ran as Fields}
+use Rattle.answers.specs.declared.Counted.{Counted}
+use Rattle.answers.specs.declared.Found.{Found}
+use Rattle.answers.specs.declared.Total.{Total}
+use Rattle.answers.specs.declared.Updated.{Updated}
+use Rattle.answers.specs.declared.Written.{Written}
+use Rattle.answers.specs.declared.Ran.{Ran as Fields}
 
 -- an answer of the call below tells the numbers n, and its promise P holds of that answer
 pub record Below {T N : Type 0} (numbers : T → N) (P : T → Type 0) (n : N) : Type 0 where

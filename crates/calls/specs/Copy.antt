@@ -33,13 +33,15 @@ use Rattle.listing.specs.Written.{written-listed, written-plain}
 use Rattle.lengths.specs.Layout as layout
 use Rattle.lengths.specs.Laid.{Laid, laid-walk, laid-front}
 use Rattle.lengths_build.specs.Build.{Leaves}
-use Rattle.toggleash.specs.Face.{HasWritten, looked, wrote}
-use Rattle.toggleash.specs.Copies.{HasBuilt, needed, matched}
-use Rattle.toggleash.specs.declared.Found.{Found}
-use Rattle.toggleash.specs.declared.Written.{Written}
-use Rattle.toggleash.specs.declared.copies.Needed.{Needed}
+use Rattle.answers.specs.Numbers.{looked, wrote}
+use Rattle.toggleash.specs.Face.{HasWritten}
+use Rattle.answers.specs.Numbers.{needed, matched}
+use Rattle.toggleash.specs.Copies.{HasBuilt}
+use Rattle.answers.specs.declared.Found.{Found}
+use Rattle.answers.specs.declared.Written.{Written}
+use Rattle.answers.specs.declared.Needed.{Needed}
 use Rattle.toggleash.specs.declared.copies.Built.{Built}
-use Rattle.toggleash.specs.declared.copies.Matched.{Matched}
+use Rattle.answers.specs.declared.Matched.{Matched}
 use Rattle.calls.specs.Held.{held}
 
 -- the calls, each as its contract allows

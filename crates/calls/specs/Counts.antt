@@ -32,8 +32,8 @@ use Rattle.within.specs.Answer.{withinAnswer, within-one}
 use Rattle.within.specs.Counted.{within-seen}
 use Rattle.within.specs.Local.{AlikeOn, within-local}
 use Rattle.within.specs.declared.Inside.{Inside}
-use Rattle.toggleash.specs.Face.{totalled}
-use Rattle.toggleash.specs.declared.Total.{Total}
+use Rattle.answers.specs.Numbers.{totalled}
+use Rattle.answers.specs.declared.Total.{Total}
 
 -- what a call of within promises on words ws
 abbrev pub Asked : Family → List ℕ → ℕ → ℕ → Inside → Type 0

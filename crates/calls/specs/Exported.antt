@@ -25,10 +25,11 @@ use Rattle.audit.specs.declared.Cleared.{Cleared as Answer}
 use Rattle.audit.specs.declared.Cleared.the-variants as answer
 use Rattle.lookup.specs.Walk.{walk}
 use Rattle.replies.specs.Said.{saidReply}
-use Rattle.toggleash.specs.Face.{refusal, HasCleared, HasUpdated}
-use Rattle.toggleash.specs.Face as face
-use Rattle.toggleash.specs.declared.Found.{Found}
-use Rattle.toggleash.specs.declared.Updated.{Updated}
+use Rattle.answers.specs.Numbers.{refusal}
+use Rattle.toggleash.specs.Face.{HasCleared, HasUpdated}
+use Rattle.answers.specs.Numbers as numbers
+use Rattle.answers.specs.declared.Found.{Found}
+use Rattle.answers.specs.declared.Updated.{Updated}
 use Rattle.calls.specs.Held.{cleared-done}
 use Rattle.feed.specs.Series as rattle
 use Rattle.calls.specs.Below.{clear-below, lookup-below, update-below}
@@ -48,13 +49,13 @@ saidLookup r =
     (refused (r .refusal))
 
 -- they are read as they were meant
-update-read : (y : Reply) → OfUpdate y → saidUpdate (face.updated y) ≡ y
+update-read : (y : Reply) → OfUpdate y → saidUpdate (numbers.updated y) ≡ y
 update-read (done h c) p = refl
 update-read (found h l q) p = absurd p
 update-read (none q) p = absurd p
 update-read (refused n) p = rw (ne-eqb n 0 (λ e. omega arith))
 
-lookup-read : (y : Reply) → OfLookup y → saidLookup (face.looked y) ≡ y
+lookup-read : (y : Reply) → OfLookup y → saidLookup (numbers.looked y) ≡ y
 lookup-read (done h c) p = absurd p
 lookup-read (found h l q) p = refl
 lookup-read (none q) p = refl
@@ -71,7 +72,7 @@ pub record Cleared (F : Family) (A : ℕ) (words : List ℕ) : Type 0 where
 -- the call of a record on the words ws: its numbers say y, and it left vs, as its contract allows
 pub data Asked (F : Family) (ws : List ℕ) : Record → Reply → List ℕ → Type 0 where
   updated : {u : Update} {vs : List ℕ} (r : Updated) → HasUpdated F ws vs u r → Asked F ws (update u) (saidUpdate r) vs
-  looked : {a : ℕ} (r : Found) → r ≡ face.looked (lookupOn (width F) (seen (levels F) ws) (walk (levels F) ws a) a)
+  looked : {a : ℕ} (r : Found) → r ≡ numbers.looked (lookupOn (width F) (seen (levels F) ws) (walk (levels F) ws a) a)
       → Asked F ws (lookup a) (saidLookup r) ws
 
 -- several, in order

@@ -30,12 +30,13 @@ use Rattle.feed.specs.declared.Report.{Report}
 use Rattle.feed.specs.declared.Ran.{Ran}
 use Rattle.feed.specs.declared.Ran.the-variants.{Stopped}
 use Rattle.weaves.specs.Feeds.{Weave, flip, heard, kept, keptBoth, Union, Meets, Closes, bytes, readBack}
-use Rattle.toggleash.specs.Face.{counted, looked, totalled, ran, HasWritten, HasRun}
-use Rattle.toggleash.specs.declared.Counted.{Counted}
-use Rattle.toggleash.specs.declared.Found.{Found}
-use Rattle.toggleash.specs.declared.Total.{Total}
-use Rattle.toggleash.specs.declared.Written.{Written}
-use Rattle.toggleash.specs.declared.Ran.{Ran as Fields}
+use Rattle.answers.specs.Numbers.{counted, looked, totalled, ran}
+use Rattle.toggleash.specs.Face.{HasWritten, HasRun}
+use Rattle.answers.specs.declared.Counted.{Counted}
+use Rattle.answers.specs.declared.Found.{Found}
+use Rattle.answers.specs.declared.Total.{Total}
+use Rattle.answers.specs.declared.Written.{Written}
+use Rattle.answers.specs.declared.Ran.{Ran as Fields}
 use Rattle.calls.specs.Held.{stopped}
 use Rattle.calls.specs.Round.{filled-front}
 use Rattle.calls.specs.Both as rattle

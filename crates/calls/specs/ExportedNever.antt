@@ -13,8 +13,9 @@ use Rattle.feed.specs.Sharp.{writtenBy}
 use Rattle.feed.specs.Never.{never}
 use Rattle.feed.specs.declared.Ran.{Ran}
 use Rattle.feed.specs.declared.Ran.the-variants.{Stopped, Refused}
-use Rattle.toggleash.specs.Face.{ran, HasRun}
-use Rattle.toggleash.specs.declared.Ran.{Ran as Fields}
+use Rattle.answers.specs.Numbers.{ran}
+use Rattle.toggleash.specs.Face.{HasRun}
+use Rattle.answers.specs.declared.Ran.{Ran as Fields}
 use Rattle.calls.specs.Below.{run-below}
 
 -- the numbers count what the run below wrote

@@ -17,9 +17,10 @@ use Rattle.candidates.specs.Seen.{table, bytesFor}
 use Rattle.words.specs.Table.{seen}
 use Rattle.feed.specs.Runs.{HasRun as Made, runAnswer}
 use Rattle.feed.specs.declared.Ran.{Ran}
-use Rattle.toggleash.specs.Face.{ran, HasCleared, HasWritten, HasRun}
-use Rattle.toggleash.specs.declared.Written.{Written}
-use Rattle.toggleash.specs.declared.Ran.{Ran as Fields}
+use Rattle.answers.specs.Numbers.{ran}
+use Rattle.toggleash.specs.Face.{HasCleared, HasWritten, HasRun}
+use Rattle.answers.specs.declared.Written.{Written}
+use Rattle.answers.specs.declared.Ran.{Ran as Fields}
 use Rattle.calls.specs.Held.{held}
 use Rattle.calls.specs.Round as rattle
 use Rattle.calls.specs.Below.{Below, clear-below, write-below, run-below}

@@ -13,8 +13,8 @@ use Rattle.candidates.specs.Answers.{records}
 use Rattle.candidates.specs.Seen.{checkOn}
 use Rattle.candidates.specs.Small.{Case, listAfter, small, further}
 use Rattle.words.specs.Table.{seen}
-use Rattle.toggleash.specs.Face.{counted}
-use Rattle.toggleash.specs.declared.Counted.{Counted}
+use Rattle.answers.specs.Numbers.{counted}
+use Rattle.answers.specs.declared.Counted.{Counted}
 use Rattle.calls.specs.Below.{check-below}
 use Rattle.calls.specs.Rows as rattle
 use Rattle.calls.specs.Rows.{Each}

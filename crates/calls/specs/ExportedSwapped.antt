@@ -19,8 +19,9 @@ use Rattle.feed.specs.declared.Ran.{Ran}
 use Rattle.feed.specs.declared.Ran.the-variants.{Stopped}
 use Rattle.weaves.specs.Feeds.{Closes, bytes}
 use Rattle.swaps.specs.Moves.{Move}
-use Rattle.toggleash.specs.Face.{ran, HasRun}
-use Rattle.toggleash.specs.declared.Ran.{Ran as Fields}
+use Rattle.answers.specs.Numbers.{ran}
+use Rattle.toggleash.specs.Face.{HasRun}
+use Rattle.answers.specs.declared.Ran.{Ran as Fields}
 use Rattle.calls.specs.Held.{stopped}
 use Rattle.calls.specs.Below.{Below, run-below}
 use Rattle.calls.specs.Exported.{Asked, Series, asked-below, series-below}

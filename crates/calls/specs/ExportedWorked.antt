@@ -23,11 +23,12 @@ use Rattle.candidates.specs.IPv6 as nine
 use Rattle.candidates.specs.IPv6.{Stop}
 use Rattle.encoded.specs.Round.{written-long}
 use Rattle.words.specs.Table.{seen}
-use Rattle.toggleash.specs.Face.{counted, updated, HasUpdated, HasWritten, HasRun}
-use Rattle.toggleash.specs.declared.Counted.{Counted}
-use Rattle.toggleash.specs.declared.Updated.{Updated}
-use Rattle.toggleash.specs.declared.Written.{Written}
-use Rattle.toggleash.specs.declared.Ran.{Ran as Fields}
+use Rattle.answers.specs.Numbers.{counted, updated}
+use Rattle.toggleash.specs.Face.{HasUpdated, HasWritten, HasRun}
+use Rattle.answers.specs.declared.Counted.{Counted}
+use Rattle.answers.specs.declared.Updated.{Updated}
+use Rattle.answers.specs.declared.Written.{Written}
+use Rattle.answers.specs.declared.Ran.{Ran as Fields}
 use Rattle.calls.specs.Exported.{Cleared, cleared}
 
 -- ---- a feed

@@ -20,17 +20,19 @@ use Rattle.lengths_build.specs.Answer.{needOn, buildOn}
 use Rattle.listing.specs.Records.{Bytes}
 use Rattle.lengths.specs.Layout as copy
 use Rattle.lengths_build.specs.Sharp.{Alike, words-sharp}
-use Rattle.toggleash.specs.Face.{HasCleared, HasUpdated, HasWritten, HasRun, counted, looked, totalled}
-use Rattle.toggleash.specs.Copies.{HasBuilt, needed, matched}
-use Rattle.toggleash.specs.declared.Counted.{Counted}
-use Rattle.toggleash.specs.declared.Found.{Found}
-use Rattle.toggleash.specs.declared.Total.{Total}
-use Rattle.toggleash.specs.declared.Updated.{Updated}
-use Rattle.toggleash.specs.declared.Written.{Written}
-use Rattle.toggleash.specs.declared.Ran.{Ran as Fields}
-use Rattle.toggleash.specs.declared.copies.Needed.{Needed}
+use Rattle.answers.specs.Numbers.{counted, looked, totalled}
+use Rattle.toggleash.specs.Face.{HasCleared, HasUpdated, HasWritten, HasRun}
+use Rattle.answers.specs.Numbers.{needed, matched}
+use Rattle.toggleash.specs.Copies.{HasBuilt}
+use Rattle.answers.specs.declared.Counted.{Counted}
+use Rattle.answers.specs.declared.Found.{Found}
+use Rattle.answers.specs.declared.Total.{Total}
+use Rattle.answers.specs.declared.Updated.{Updated}
+use Rattle.answers.specs.declared.Written.{Written}
+use Rattle.answers.specs.declared.Ran.{Ran as Fields}
+use Rattle.answers.specs.declared.Needed.{Needed}
 use Rattle.toggleash.specs.declared.copies.Built.{Built}
-use Rattle.toggleash.specs.declared.copies.Matched.{Matched}
+use Rattle.answers.specs.declared.Matched.{Matched}
 
 -- one answer, one view of the words left, and one content of them where the call refused
 pub record Agree (F : Family) {T : Type 0} (Refused : Type 0) (vs vs′ : List ℕ) (r r′ : T) : Type 0 where

@@ -17,14 +17,15 @@ use Rattle.words.specs.Table.{seen}
 use Rattle.lookup.specs.Walk.{walk}
 use Rattle.within.specs.Walk as total
 use Rattle.weaves.specs.Feeds.{Closes, bytes, readBack}
-use Rattle.toggleash.specs.Face.{counted, looked, totalled, HasCleared, HasUpdated, HasWritten, HasRun}
+use Rattle.answers.specs.Numbers.{counted, looked, totalled}
+use Rattle.toggleash.specs.Face.{HasCleared, HasUpdated, HasWritten, HasRun}
 use Rattle.toggleash.specs.Local.{HasUpdatedLocally, HasRunLocally}
-use Rattle.toggleash.specs.declared.Counted.{Counted}
-use Rattle.toggleash.specs.declared.Found.{Found}
-use Rattle.toggleash.specs.declared.Total.{Total}
-use Rattle.toggleash.specs.declared.Updated.{Updated}
-use Rattle.toggleash.specs.declared.Written.{Written}
-use Rattle.toggleash.specs.declared.Ran.{Ran}
+use Rattle.answers.specs.declared.Counted.{Counted}
+use Rattle.answers.specs.declared.Found.{Found}
+use Rattle.answers.specs.declared.Total.{Total}
+use Rattle.answers.specs.declared.Updated.{Updated}
+use Rattle.answers.specs.declared.Written.{Written}
+use Rattle.answers.specs.declared.Ran.{Ran}
 use Rattle.calls.specs.Exported.{Cleared, Asked}
 
 -- ---- one call

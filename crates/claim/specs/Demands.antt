@@ -29,13 +29,13 @@ use Rattle.within.specs.Walk as total
 use Rattle.update.specs.Anywhere.{localFault}
 use Rattle.feed.specs.Runs.{reportOf}
 use Rattle.weaves.specs.Feeds.{Weave, flip, heard, kept, keptBoth, Union, Meets}
-use Rattle.toggleash.specs.Face.{looked, updated, ran}
-use Rattle.toggleash.specs.declared.Counted.{Counted}
-use Rattle.toggleash.specs.declared.Found.{Found}
-use Rattle.toggleash.specs.declared.Total.{Total}
-use Rattle.toggleash.specs.declared.Updated.{Updated}
-use Rattle.toggleash.specs.declared.Written.{Written}
-use Rattle.toggleash.specs.declared.Ran.{Ran}
+use Rattle.answers.specs.Numbers.{looked, updated, ran}
+use Rattle.answers.specs.declared.Counted.{Counted}
+use Rattle.answers.specs.declared.Found.{Found}
+use Rattle.answers.specs.declared.Total.{Total}
+use Rattle.answers.specs.declared.Updated.{Updated}
+use Rattle.answers.specs.declared.Written.{Written}
+use Rattle.answers.specs.declared.Ran.{Ran}
 use Rattle.calls.specs.Exported.{Cleared, Series}
 use Rattle.calls.specs.ExportedRound.{Trip, Again}
 use Rattle.calls.specs.ExportedBoth.{Holds}

@@ -40,7 +40,7 @@ use Rattle.shortest.specs.Shortest.{upto}
 use Rattle.shortest.specs.Seen.{shortest4, bytesFor as shortBytes}
 use Rattle.shorten.specs.Stated.{WroteShortest}
 use Rattle.shortener.specs.Face.{HasWritten as HasShortened}
-use Rattle.shortener.specs.declared.Written.{Written as Shortened}
+use Rattle.answers.specs.declared.Written.{Written as Shortened}
 use Rattle.listing.specs.Listed.{Listed, unlisted, listed, listedIn}
 use Rattle.lengths.specs.Marks.{wordsFor as copyWords}
 use Rattle.toggleash.specs.Copies.{HasBuilt as HasCopied}
@@ -51,10 +51,11 @@ use Rattle.words.specs.Words.{arraysOf, arrayCount}
 use Rattle.packed.specs.Layout.{walk as packedWalk}
 use Rattle.packed.specs.Laid.{heldOf, maskAt, Laid}
 use Rattle.packed_build.specs.Need.{wordsFor as packedWords}
-use Rattle.packing.specs.Face.{matched as packedMatch, HasBuilt as HasPacked}
+use Rattle.answers.specs.Numbers.{matched as packedMatch}
+use Rattle.packing.specs.Face.{HasBuilt as HasPacked}
 use Rattle.packing.specs.Carried.{Carried as Packed}
 use Rattle.packing.specs.declared.Built.{Built as PackedBuilt}
-use Rattle.packing.specs.declared.Matched.{Matched as PackedMatch}
+use Rattle.answers.specs.declared.Matched.{Matched as PackedMatch}
 use Rattle.replayed.specs.Shortened.{Shortened as Shorten}
 use Rattle.replayed.specs.Fed.{Fed, ForwardsAgain}
 use Rattle.replayed.specs.Card.{Carried as OnCard, AsForwarded}
@@ -68,14 +69,14 @@ use Rattle.rows.specs.Row.{placesOf}
 use Rattle.damping.specs.View.{seenFront}
 use Rattle.damping_run.specs.Behind.{recordsBehind, fedBehind}
 use Rattle.damper.specs.Face as damper
-use Rattle.damper.specs.declared.Updated.{Updated as Damped}
+use Rattle.answers.specs.declared.Updated.{Updated as Damped}
 use Rattle.damper.specs.declared.Front.{Front as Ticked}
-use Rattle.damper.specs.declared.Ran.{Ran as DampedRun}
-use Rattle.toggleash.specs.Face.{totalled}
-use Rattle.toggleash.specs.declared.Found.{Found}
-use Rattle.toggleash.specs.declared.Total.{Total}
-use Rattle.toggleash.specs.declared.Updated.{Updated}
-use Rattle.toggleash.specs.declared.Ran.{Ran}
+use Rattle.answers.specs.declared.Ran.{Ran as DampedRun}
+use Rattle.answers.specs.Numbers.{totalled, updated as updatedBy}
+use Rattle.answers.specs.declared.Found.{Found}
+use Rattle.answers.specs.declared.Total.{Total}
+use Rattle.answers.specs.declared.Updated.{Updated}
+use Rattle.answers.specs.declared.Ran.{Ran}
 use Rattle.calls.specs.ExportedSwapped.{InTurn, CallsSwapped}
 use Rattle.calls.specs.ExportedMoved.{Logged, LogsAlike}
 use Rattle.claim.specs.Calls.{Looks, Counts, Updates, Runs}
@@ -249,7 +250,7 @@ pub record Item14 (A : ℕ) (cs : List Candidate) (fs ws : List ℕ) : Type 0 wh
   -- "An accepted withdrawal adds 1,000, up to 12,000. Over 3,000 a candidate is held back .. its announcement is accepted and
   -- kept ..": an update is answered as the definition answers it, and leaves the list and the places that it leaves
   pub update : (u : Update) (gs vs : List ℕ) (r : Damped) → damper.HasUpdated fs ws gs vs u r
-      → (r ≡ damper.updated (damped 32 A cs (placesOf fs) u .reply))
+      → (r ≡ updatedBy (damped 32 A cs (placesOf fs) u .reply))
       × (seen 4 vs ≡ table A (damped 32 A cs (placesOf fs) u .left .list))
       × (seenFront gs ≡ front (damped 32 A cs (placesOf fs) u .left .places))
   -- "a tick that halves each penalty .. What is kept at below 750 is then installed if there is room"

@@ -38,9 +38,9 @@ use Rattle.resolver.specs.Stated.{of-table}
 use Rattle.shortest.specs.Shortest.{upto}
 use Rattle.shortest.specs.Seen.{shortest4, bytesFor as shortBytes, shortFor, shortOn, bytesIn, leftIn}
 use Rattle.shorten.specs.Answer.{shortIn}
-use Rattle.shortener.specs.Face.{wrote as wroteShort}
+use Rattle.answers.specs.Numbers.{wrote as wroteShort}
 use Rattle.shortener.specs.Stated.{written-shortest}
-use Rattle.shortener.specs.declared.Written.{Written as Shortened}
+use Rattle.answers.specs.declared.Written.{Written as Shortened}
 use Rattle.listing.specs.Listed.{Listed, unlisted, listed, listedIn}
 use Rattle.listing.specs.Written.{written-listed}
 use Rattle.lengths.specs.Marks.{wordsFor as copyWords}
@@ -64,9 +64,9 @@ use Rattle.restraint.specs.Ended.{leftBy, run-five}
 use Rattle.rows.specs.Row.{placesOf, IsWords}
 use Rattle.damping.specs.View.{seenFront, seen-front}
 use Rattle.damper.specs.Behind.{seen-without}
-use Rattle.toggleash.specs.Face.{looked, updated}
-use Rattle.toggleash.specs.declared.Found.{Found}
-use Rattle.toggleash.specs.declared.Ran.{Ran}
+use Rattle.answers.specs.Numbers.{looked, updated}
+use Rattle.answers.specs.declared.Found.{Found}
+use Rattle.answers.specs.declared.Ran.{Ran}
 use Rattle.calls.specs.Held as known
 use Rattle.calls.specs.Counts.{path-alone-c}
 use Rattle.calls.specs.Swapped.{end-is}

@@ -41,13 +41,13 @@ use Rattle.feed.specs.Runs.{reported, runAnswer}
 use Rattle.feed.specs.declared.Ran.{Ran as Outcome}
 use Rattle.feed.specs.Kept.{asked-kept}
 use Rattle.writing.specs.Answer.{front-none}
-use Rattle.toggleash.specs.Face.{refusal, counted, looked, totalled, updated, wrote, ran}
-use Rattle.toggleash.specs.declared.Counted.{Counted}
-use Rattle.toggleash.specs.declared.Found.{Found}
-use Rattle.toggleash.specs.declared.Total.{Total}
-use Rattle.toggleash.specs.declared.Updated.{Updated}
-use Rattle.toggleash.specs.declared.Written.{Written}
-use Rattle.toggleash.specs.declared.Ran.{Ran}
+use Rattle.answers.specs.Numbers.{refusal, counted, looked, totalled, updated, wrote, ran}
+use Rattle.answers.specs.declared.Counted.{Counted}
+use Rattle.answers.specs.declared.Found.{Found}
+use Rattle.answers.specs.declared.Total.{Total}
+use Rattle.answers.specs.declared.Updated.{Updated}
+use Rattle.answers.specs.declared.Written.{Written}
+use Rattle.answers.specs.declared.Ran.{Ran}
 use Rattle.calls.specs.Held.{held as known}
 use Rattle.claim.specs.Calls.{Clears, Updates, UpdatesLocally, Writes, Runs, RunsLocally}
 use Rattle.claim.specs.Demands.{isForeign, listIn, strays, straysTo, Spared, nothing, more, Demand1}

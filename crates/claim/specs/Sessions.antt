@@ -16,7 +16,7 @@ use Rattle.feed.specs.Series.{answered}
 use Rattle.weaves.specs.Feeds.{readBack}
 use Rattle.weaves.specs.Fed.{as-many}
 use Rattle.weaves.specs.Joined.{demand-3-family}
-use Rattle.toggleash.specs.declared.Ran.{Ran}
+use Rattle.answers.specs.declared.Ran.{Ran}
 use Rattle.calls.specs.Held.{held}
 use Rattle.calls.specs.Both as below
 use Rattle.calls.specs.Exported.{cleared, asked-below}

@@ -7,12 +7,12 @@ use Rattle.candidates.specs.Candidate.{Candidate}
 use Rattle.candidates.specs.Answers.{Update}
 use Rattle.candidates.specs.Seen.{table}
 use Rattle.words.specs.Table.{seen}
-use Rattle.toggleash.specs.declared.Counted.{Counted}
-use Rattle.toggleash.specs.declared.Found.{Found}
-use Rattle.toggleash.specs.declared.Total.{Total}
-use Rattle.toggleash.specs.declared.Updated.{Updated}
-use Rattle.toggleash.specs.declared.Written.{Written}
-use Rattle.toggleash.specs.declared.Ran.{Ran}
+use Rattle.answers.specs.declared.Counted.{Counted}
+use Rattle.answers.specs.declared.Found.{Found}
+use Rattle.answers.specs.declared.Total.{Total}
+use Rattle.answers.specs.declared.Updated.{Updated}
+use Rattle.answers.specs.declared.Written.{Written}
+use Rattle.answers.specs.declared.Ran.{Ran}
 use Rattle.claim.specs.Calls.{Checks, Looks, Counts, Updates, Writes, Runs}
 
 -- whatever is called on ws and on vs, the answers are equal, and the words are again seen to be the same

@@ -20,11 +20,12 @@ use Rattle.damping.specs.Held.{checkAnswer, HasTicked as Ticked}
 use Rattle.damping.specs.Ticks.{HasTickedLocally as TickedLocally}
 use Rattle.damping_run.specs.Runs.{reported, HasRun as Run}
 use Rattle.damping_run.specs.Locally.{HasRunLocally as RunLocally}
-use Rattle.damper.specs.Face.{held, updated, ran, HasUpdated, HasTicked, HasRun}
+use Rattle.answers.specs.Numbers.{updated, ran}
+use Rattle.damper.specs.Face.{held, HasUpdated, HasTicked, HasRun}
 use Rattle.damper.specs.Face.{HasUpdatedLocally, HasTickedLocally, HasRunLocally}
 use Rattle.damper.specs.declared.Front.{Front}
-use Rattle.damper.specs.declared.Updated.{Updated}
-use Rattle.damper.specs.declared.Ran.{Ran as Fields}
+use Rattle.answers.specs.declared.Updated.{Updated}
+use Rattle.answers.specs.declared.Ran.{Ran as Fields}
 
 pub made : (fs ws gs vs : List ℕ) (u : Update) (y : Reply) (r : Updated) → HasDamped fs ws gs vs u y → r ≡ updated (saidReply y)
     → HasUpdated fs ws gs vs u r

@@ -15,7 +15,7 @@ use Rattle.feed.specs.declared.Ran.{Ran}
 use Rattle.rows.specs.Row.{IsWords}
 use Rattle.damping_run.specs.Behind.{recordsBehind, fedBehind, behind-without}
 use Rattle.damper.specs.Face.{HasRun}
-use Rattle.damper.specs.declared.Ran.{Ran as Fields}
+use Rattle.answers.specs.declared.Ran.{Ran as Fields}
 
 -- the words ws are a table of A arrays with the candidates cs; the reply bytes d are enough for that feed
 module _ (fs ws feed b gs vs c : List ℕ) (r : Fields) (p : HasRun fs ws feed b gs vs c r) (ok : AreBytes feed) (w : IsWords fs)

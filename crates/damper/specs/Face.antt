@@ -4,7 +4,7 @@ use mathlib.Core.Path.{_≡_}
 use mathlib.Core.Logic.{_⊎_}
 use mathlib.Core.List.{List}
 use Prim.Native.Nat.{ℕ, _≤_}
-use Rattle.routes.specs.Answers.{Reply, done, found, none, refused}
+use Rattle.routes.specs.Answers.{Reply, refused}
 use Rattle.routes.specs.Seen.{Answer, gives, refuses}
 use Rattle.candidates.specs.Answers.{Update}
 use Rattle.words.specs.Table.{seen}
@@ -15,7 +15,6 @@ use Rattle.replies.specs.declared.Reply as code
 use Rattle.update.specs.Anywhere.{localWords}
 use Rattle.update.specs.Update.{Touches}
 use Rattle.feed.specs.Runs.{runAnswer}
-use Rattle.feed.specs.declared.Report.{Report}
 use Rattle.feed.specs.declared.Ran.{Ran as Outcome}
 use Rattle.front.specs.Seen.{Held, dampedOn, behindOn, placesOn, tickOn, behindTick, placesTick}
 use Rattle.front.specs.Seen.{runOn, ranBehind, ranPlaces, repliedOn, eventsOn, answersOn}
@@ -30,31 +29,13 @@ use Rattle.damping_run.specs.Series.{Series}
 use Rattle.damping_run.specs.Runs.{standing, reported}
 use Rattle.damping_run.specs.Locally as fed
 use Rattle.damper.specs.declared.Front.{Front}
-use Rattle.damper.specs.declared.Updated.{Updated}
-use Rattle.damper.specs.declared.Ran.{Ran as Fields}
+use Rattle.answers.specs.Numbers.{updated, ran}
+use Rattle.answers.specs.declared.Updated.{Updated}
+use Rattle.answers.specs.declared.Ran.{Ran as Fields}
 
 abbrev pub held : Answer Held → Front
 held (gives h) = record { refusal = 0; places = h .places; «held_back» = h .back }
 held (refuses n) = record { refusal = n; places = 0; «held_back» = 0 }
-
--- no update is answered by `found` or `none`
-abbrev pub updated : Reply → Updated
-updated (done h c) = record { refusal = 0; hop = h; cells = c }
-updated (found h l q) = record { refusal = 0; hop = 0; cells = 0 }
-updated (none q) = record { refusal = 0; hop = 0; cells = 0 }
-updated (refused n) = record { refusal = n; hop = 0; cells = 0 }
-
-abbrev pub ran : Answer Report → Fields
-ran (gives r) =
-    record {
-      refusal = 0;
-      stop = r .stop;
-      consumed = r .consumed;
-      written = r .written;
-      accepted = r .accepted;
-      refused = r .refused;
-    }
-ran (refuses n) = record { refusal = n; stop = 0; consumed = 0; written = 0; accepted = 0; refused = 0 }
 
 -- ---- what the calls that write promise of the lent memory: the front's words fs became gs, the table's ws became vs
 

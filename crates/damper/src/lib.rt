@@ -1,15 +1,16 @@
 // The C face of a front before a table: each call with plain numbers, the front's words before the table's. A slice passes as a
 // pointer and a length. No call asks anything of its caller, since nothing would check it.
+use answers::Ran;
+use answers::Updated;
+use answers::change;
+use answers::report;
 use damping::held::Checked;
-use replies::Reply;
 ghost use mathlib.Core.Path.{_≡_};
 ghost use Rattle.candidates.specs.Answers.{announce as announced, withdraw as withdrawn};
-ghost use Rattle.replies.specs.Said.{saidReply};
-ghost use Rattle.feed.specs.Runs.{runAnswer};
 ghost use Rattle.front.specs.Seen.{checkFront};
 ghost use Rattle.damping.specs.View.{seenFront};
 ghost use Rattle.damping.specs.Held.{checkAnswer, HasCleared};
-ghost use Rattle.damper.specs.Face.{held, updated, ran, HasUpdated, HasTicked, HasRun};
+ghost use Rattle.damper.specs.Face.{held, HasUpdated, HasTicked, HasRun};
 ghost use Rattle.damper.specs.Face.{HasUpdatedLocally, HasTickedLocally, HasRunLocally};
 
 // The numbers of places and of candidates held back.
@@ -18,23 +19,6 @@ pub struct Front {
     pub refusal: u32,
     pub places: u32,
     pub held_back: u32,
-}
-
-#[repr(C)]
-pub struct Updated {
-    pub refusal: u32,
-    pub hop: u32,
-    pub cells: u32,
-}
-
-#[repr(C)]
-pub struct Ran {
-    pub refusal: u32,
-    pub stop: u32,
-    pub consumed: u64,
-    pub written: u64,
-    pub accepted: u64,
-    pub refused: u64,
 }
 
 // ---- answers in plain numbers
@@ -52,57 +36,6 @@ fn counts(answer: Checked) -> Front
             refusal: n,
             places: 0,
             held_back: 0,
-        },
-    }
-}
-
-// No update is found, nor nothing.
-fn change(answer: Reply) -> Updated
-    ensures { λ r. ⌜ r ≡ updated (saidReply answer) ⌝ }
-{
-    match answer {
-        Reply::Done(hop, cells) => Updated {
-            refusal: 0,
-            hop: hop,
-            cells: cells,
-        },
-        Reply::Found(_, _, _) => Updated {
-            refusal: 0,
-            hop: 0,
-            cells: 0,
-        },
-        Reply::Nothing(_) => Updated {
-            refusal: 0,
-            hop: 0,
-            cells: 0,
-        },
-        Reply::Refused(n) => Updated {
-            refusal: n,
-            hop: 0,
-            cells: 0,
-        },
-    }
-}
-
-fn report(answer: feed::Ran) -> Ran
-    ensures { λ r. ⌜ r ≡ ran (runAnswer answer) ⌝ }
-{
-    match answer {
-        feed::Ran::Stopped(r) => Ran {
-            refusal: 0,
-            stop: r.stop,
-            consumed: r.consumed as u64,
-            written: r.written as u64,
-            accepted: r.accepted as u64,
-            refused: r.refused as u64,
-        },
-        feed::Ran::Refused(n) => Ran {
-            refusal: n,
-            stop: 0,
-            consumed: 0,
-            written: 0,
-            accepted: 0,
-            refused: 0,
         },
     }
 }

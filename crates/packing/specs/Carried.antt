@@ -30,10 +30,11 @@ use Rattle.packed.specs.Laid.{neededFor, Laid, laid-one}
 use Rattle.packed_build.specs.Need.{wordsFor}
 use Rattle.packed_build.specs.Listed.{table-words}
 use Rattle.packed_build.specs.Answer.{needOn, buildOn, Carries, Leaves}
-use Rattle.packing.specs.Face.{needed, built, matched, HasBuilt}
-use Rattle.packing.specs.declared.Needed.{Needed}
+use Rattle.answers.specs.Numbers.{needed, matched}
+use Rattle.packing.specs.Face.{built, HasBuilt}
+use Rattle.answers.specs.declared.Needed.{Needed}
 use Rattle.packing.specs.declared.Built.{Built}
-use Rattle.packing.specs.declared.Matched.{Matched}
+use Rattle.answers.specs.declared.Matched.{Matched}
 
 -- the calls, each as its contract allows
 pub record Carried : Type 0 where

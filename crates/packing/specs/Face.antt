@@ -3,29 +3,16 @@ use mathlib.Core.Path.{_≡_}
 use mathlib.Core.List.{List}
 use Prim.Native.Nat.{ℕ}
 use lib.ListN.{length}
-use Rattle.routes.specs.Match.{Match, none, found}
 use Rattle.routes.specs.Seen.{Answer, gives, refuses}
 use Rattle.words.specs.Words.{arraysOf, arrayCount}
 use Rattle.words.specs.Table.{seen}
 use Rattle.packed.specs.Laid.{Laid}
 use Rattle.packed_build.specs.Answer.{Counts, buildOn, LeavesOn}
-use Rattle.packing.specs.declared.Needed.{Needed}
 use Rattle.packing.specs.declared.Built.{Built}
-use Rattle.packing.specs.declared.Matched.{Matched}
-
-abbrev pub needed : Answer ℕ → Needed
-needed (gives n) = record { refusal = 0; words = n }
-needed (refuses n) = record { refusal = n; words = 0 }
 
 abbrev pub built : Answer Counts → Built
 built (gives c) = record { refusal = 0; arrays = c .arrays; words = c .words }
 built (refuses n) = record { refusal = n; arrays = 0; words = 0 }
-
--- a compressed table knows no block
-abbrev pub matched : Answer Match → Matched
-matched (gives none) = record { refusal = 0; found = 0; hop = 0; length = 0 }
-matched (gives (found h l)) = record { refusal = 0; found = 1; hop = h; length = l }
-matched (refuses n) = record { refusal = n; found = 0; hop = 0; length = 0 }
 
 -- from the table's words ts, into the words ws
 pub record HasBuilt (ts ws us : List ℕ) (r : Built) : Type 0 where

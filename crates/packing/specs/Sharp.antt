@@ -7,10 +7,11 @@ use Rattle.words.specs.Table.{seen}
 use Rattle.packed.specs.Layout.{walk}
 use Rattle.packed_build.specs.Answer.{needOn}
 use Rattle.packed_build.specs.Sharp.{words-one}
-use Rattle.packing.specs.Face.{needed, matched, HasBuilt}
-use Rattle.packing.specs.declared.Needed.{Needed}
+use Rattle.answers.specs.Numbers.{needed, matched}
+use Rattle.packing.specs.Face.{HasBuilt}
+use Rattle.answers.specs.declared.Needed.{Needed}
 use Rattle.packing.specs.declared.Built.{Built}
-use Rattle.packing.specs.declared.Matched.{Matched}
+use Rattle.answers.specs.declared.Matched.{Matched}
 
 pub need-sharp : (ws : List ℕ) (r s : Needed) → r ≡ needed (needOn (seen 4 ws)) → s ≡ needed (needOn (seen 4 ws)) → r ≡ s
 need-sharp ws r s p q = p ∙ sym q

@@ -2,33 +2,22 @@
 //
 //     words ── packed_need ──▶ how many words to lend
 //       └───── packed_build ─▶ packed, carried anywhere ── packed_lookup ──▶ match
+use answers::Matched;
+use answers::Needed;
+use answers::matching;
 use replies::Match;
 ghost use mathlib.Core.Path.{_≡_};
 ghost use Rattle.words.specs.Table.{seen};
-ghost use Rattle.replies.specs.Said.{saidMatch};
 ghost use Rattle.packed.specs.Layout.{walk};
 ghost use Rattle.packed_build.specs.Answer.{needOn, needAnswer, buildAnswer};
-ghost use Rattle.packing.specs.Face.{needed, built, matched, HasBuilt};
-
-#[repr(C)]
-pub struct Needed {
-    pub refusal: u32,
-    pub words: u64,
-}
+ghost use Rattle.answers.specs.Numbers.{needed, matched};
+ghost use Rattle.packing.specs.Face.{built, HasBuilt};
 
 #[repr(C)]
 pub struct Built {
     pub refusal: u32,
     pub arrays: u32,
     pub words: u64,
-}
-
-#[repr(C)]
-pub struct Matched {
-    pub refusal: u32,
-    pub found: u32,
-    pub hop: u32,
-    pub length: u32,
 }
 
 // ---- answers in plain numbers
@@ -65,31 +54,6 @@ fn counts(answer: packed_build::Built) -> Built
     }
 }
 
-fn finding(answer: Match) -> Matched
-    ensures { λ r. ⌜ r ≡ matched (saidMatch answer) ⌝ }
-{
-    match answer {
-        Match::Found(hop, length) => Matched {
-            refusal: 0,
-            found: 1,
-            hop: hop,
-            length: length,
-        },
-        Match::Nothing => Matched {
-            refusal: 0,
-            found: 0,
-            hop: 0,
-            length: 0,
-        },
-        Match::Refused(n) => Matched {
-            refusal: n,
-            found: 0,
-            hop: 0,
-            length: 0,
-        },
-    }
-}
-
 // ---- the calls of bindings/c/toggleash_packed.h
 
 // The version of the table's words and of these calls, in the name: that of `toggleash`.
@@ -118,5 +82,6 @@ pub extern "C" fn toggleash_packed_build(words: &[u32], packed: &mut [u32]) -> B
 pub extern "C" fn toggleash_packed_lookup(packed: &[u32], address: u32) -> Matched
     ensures { λ r. ⌜ r ≡ matched (walk 4 (now (packed .entry)) address) ⌝ }
 {
-    finding(packed::lookup(packed, address))
+    let answer: Match = packed::lookup(packed, address);
+    matching(answer)
 }

@@ -23,10 +23,11 @@ use Rattle.lengths.specs.Layout as layout
 use Rattle.lengths.specs.Laid.{Laid, laid-walk, laid-front}
 use Rattle.lengths_build.specs.Answer.{needOn}
 use Rattle.lengths_build.specs.Build.{Leaves}
-use Rattle.toggleash.specs.Copies.{HasBuilt, needed, matched}
-use Rattle.toggleash.specs.declared.copies.Needed.{Needed}
+use Rattle.answers.specs.Numbers.{needed, matched}
+use Rattle.toggleash.specs.Copies.{HasBuilt}
+use Rattle.answers.specs.declared.Needed.{Needed}
 use Rattle.toggleash.specs.declared.copies.Built.{Built}
-use Rattle.toggleash.specs.declared.copies.Matched.{Matched}
+use Rattle.answers.specs.declared.Matched.{Matched}
 use Rattle.replayed.specs.Shortened.{Shortened, bytes, is-shortest, shortened-bytes}
 
 -- the calls, each as its contract allows

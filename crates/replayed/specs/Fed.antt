@@ -17,7 +17,7 @@ use Rattle.words.specs.Table.{seen}
 use Rattle.shortest.specs.Shortest.{forwards}
 use Rattle.shortest.specs.Seen.{shortest4}
 use Rattle.toggleash.specs.Face.{HasCleared, HasRun}
-use Rattle.toggleash.specs.declared.Ran.{Ran as Fields}
+use Rattle.answers.specs.declared.Ran.{Ran as Fields}
 use Rattle.replayed.specs.Taken.{plain-many, TakenWhole, shortest-taken, shortest-forwards}
 use Rattle.replayed.specs.Shortened.{Shortened, bytes, on-table, won, shortened-bytes}
 

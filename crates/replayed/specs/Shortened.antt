@@ -21,8 +21,9 @@ use Rattle.shortest.specs.Proved.{shortest-of}
 use Rattle.shortest.specs.Seen.{shortest4, bytesFor}
 use Rattle.shortest.specs.Answered.{short-given}
 use Rattle.shorten.specs.Answer.{shortIn}
-use Rattle.shortener.specs.Face.{wrote, HasWritten}
-use Rattle.shortener.specs.declared.Written.{Written}
+use Rattle.answers.specs.Numbers.{wrote}
+use Rattle.shortener.specs.Face.{HasWritten}
+use Rattle.answers.specs.declared.Written.{Written}
 use Rattle.calls.specs.Held as tables
 use Rattle.replayed.specs.Taken.{plain-long}
 

@@ -3,14 +3,10 @@ use mathlib.Core.Path.{_≡_}
 use mathlib.Core.List.{List}
 use Prim.Native.Nat.{ℕ}
 use lib.ListN.{length}
-use Rattle.routes.specs.Seen.{Answer, gives, refuses}
 use Rattle.shortest.specs.Seen.{bytesIn, leftIn}
 use Rattle.shorten.specs.Answer.{shortIn, scratchIn}
-use Rattle.shortener.specs.declared.Written.{Written}
-
-abbrev pub wrote : Answer ℕ → Written
-wrote (gives n) = record { refusal = 0; bytes = n }
-wrote (refuses n) = record { refusal = n; bytes = 0 }
+use Rattle.answers.specs.Numbers.{wrote}
+use Rattle.answers.specs.declared.Written.{Written}
 
 -- the words ws, with the scratch ms and the buffer b, are answered with r and leave the scratch ns and the buffer c
 pub record HasWritten (ws ms b : List ℕ) (r : Written) (ns c : List ℕ) : Type 0 where

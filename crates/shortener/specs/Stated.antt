@@ -12,14 +12,13 @@ use Rattle.routes.specs.Route.{Route, held}
 use Rattle.routes.specs.Seen.{Answer, gives, refuses}
 use Rattle.candidates.specs.Winners.{winners}
 use Rattle.candidates.specs.Seen.{Seen, misfit, foreign, table}
-use Rattle.writing.specs.declared.Counted.the-variants.{Bytes}
 use Rattle.words.specs.Table.{seen}
 use Rattle.shortest.specs.Shortest.{upto}
-use Rattle.shortest.specs.Seen.{shortest4, bytesFor, shortOn, bytesIn, leftIn}
+use Rattle.shortest.specs.Seen.{shortest4, bytesFor, shortOn}
 use Rattle.shorten.specs.Answer.{shortIn}
 use Rattle.shorten.specs.Stated.{WroteShortest, shortened-shortest}
-use Rattle.shortener.specs.declared.Written.{Written}
-use Rattle.shortener.specs.Face.{wrote, HasWritten}
+use Rattle.answers.specs.declared.Written.{Written}
+use Rattle.shortener.specs.Face.{HasWritten}
 
 -- ---- no refusal is 0
 

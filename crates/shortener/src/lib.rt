@@ -1,29 +1,9 @@
 // The shortest list for a program in C: a library of its own, above `shorten`.
+use answers::Written;
+use answers::size;
+use writing::Counted;
 ghost use mathlib.Core.Path.{_≡_};
-ghost use Rattle.writing.specs.Answer.{countAnswer};
-ghost use Rattle.shortener.specs.Face.{wrote, HasWritten};
-
-// The refusal and no bytes, or 0 and how many bytes were written.
-#[repr(C)]
-pub struct Written {
-    pub refusal: u32,
-    pub bytes: u64,
-}
-
-fn told(answer: writing::Counted) -> Written
-    ensures { λ r. ⌜ r ≡ wrote (countAnswer answer) ⌝ }
-{
-    match answer {
-        writing::Counted::Bytes(n) => Written {
-            refusal: 0,
-            bytes: n as u64,
-        },
-        writing::Counted::Refused(n) => Written {
-            refusal: n,
-            bytes: 0,
-        },
-    }
-}
+ghost use Rattle.shortener.specs.Face.{HasWritten};
 
 // The version of the table's words and of this call, in the name: that of `toggleash`.
 #[no_mangle]
@@ -43,5 +23,6 @@ pub extern "C" fn toggleash_shortest(
     ensures { λ r. ⌜ HasWritten (now (words .entry)) (now (scratch .entry)) (now (buffer .entry))
         r (now (scratch .exit)) (now (buffer .exit)) ⌝ }
 {
-    told(shorten::shorten(words, scratch, buffer))
+    let answer: Counted = shorten::shorten(words, scratch, buffer);
+    size(answer)
 }

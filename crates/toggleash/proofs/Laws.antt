@@ -2,63 +2,29 @@
 use mathlib.Core.Path.{_≡_, refl, ap, _∙_}
 use mathlib.Core.Logic.{_≢_}
 use mathlib.Core.List.{List, _++_}
-use mathlib.Core.Bool.{cond}
-use Prim.Native.Nat.{ℕ, _+_, _-_, _*_, _/_, _%_, _≤_, _<_}
-use native.Mathlib.Nat.{zero-mul, one-mul}
-use native.Mathlib.Omega.{arith}
-use lib.Dec.{eqb}
+use Prim.Native.Nat.{ℕ, _+_, _-_}
 use lib.ListN.{length, drop}
 use Rattle.routes.specs.Family.{Family, levels}
 use Rattle.routes.specs.Seen.{Answer, gives, refuses}
 use Rattle.candidates.specs.Seen.{Seen, countOn, frontOn}
-use borrow.Author.Tests.{lt-ltb, le-ltb}
-use Rattle.logic.specs.Cases.{less, same}
-use Rattle.sizes.specs.Sizes.{hopBound}
+use Rattle.logic.specs.Cases.{less}
 use Rattle.laws.specs.Given.{given-refused}
 use Rattle.words.specs.Table.{seen}
 use Rattle.audit.specs.declared.Cleared.{Cleared}
 use Rattle.audit.specs.Answer.{clearAnswer, HasCleared as Below}
 use Rattle.writing.specs.declared.Counted.{Counted}
 use Rattle.writing.specs.Answer.{countAnswer, HasFilled, front-length, front-none}
-use Rattle.lookup.specs.declared.End.{End}
-use Rattle.lookup.specs.Ended.{ended}
 use Rattle.lengths.specs.Marks.{wordsFor}
 use Rattle.listing.specs.Listed.{Listed, unlisted, listed, listedIn}
 use Rattle.lengths_build.specs.Answer.{buildOn}
 use Rattle.lengths_build.specs.declared.Built.{Built}
 use Rattle.lengths_build.specs.Answer.{buildAnswer}
 use Rattle.lengths_build.specs.Build.{LeavesOn}
-use Rattle.toggleash.specs.Face.{refusal, looked, wrote, HasCleared, HasWritten}
+use Rattle.answers.specs.Numbers.{refusal, wrote}
+use Rattle.toggleash.specs.Face.{HasCleared, HasWritten}
 use Rattle.toggleash.specs.Copies.{built, HasBuilt}
-use Rattle.toggleash.specs.declared.Written.{Written}
+use Rattle.answers.specs.declared.Written.{Written}
 use Rattle.toggleash.specs.declared.copies.Built.{Built as Numbers}
-
--- ---- a lookup: where the walk ended, in plain numbers
-
--- a number of times that is 0 or 1
-pub once : (f x : ℕ) → f ≤ 1 → f * x ≤ x
-once f x h =
-    same f 0
-    (λ e _. rw e (omega (arith, zero-mul x)))
-    (λ n _. let e : f ≡ 1 = omega arith in rw e (omega (arith, one-mul x)))
-
-module _ (e : End) where
-  pub looked-refused : 128 < e .block
-      → record { refusal = e .block - 128; found = 0; hop = 0; length = 0; block = 0 } ≡ looked (ended e)
-  looked-refused h = rw (lt-ltb 128 (e .block) h)
-
-  pub looked-end : (f : ℕ) → f ≡ cond (eqb (e .best % hopBound) 0) 0 1 → e .block ≤ 128
-      → record { refusal = 0; found = f; hop = e .best % hopBound; length = f * (e .best / hopBound); block = e .block }
-      ≡ looked (ended e)
-  looked-end f q h =
-      same (e .best % hopBound) 0
-      (λ z t.
-      let o : f ≡ 0 = rw t at q in
-      rw (le-ltb 128 (e .block) h, t, o, z, zero-mul (e .best / hopBound)))
-      (λ n t.
-      let o : f ≡ 1 = rw t at q in
-      let l : 0 + e .best / hopBound ≡ e .best / hopBound = omega arith in
-      rw (le-ltb 128 (e .block) h, t, o, one-mul (e .best / hopBound), l))
 
 -- ---- clearing
 

@@ -3,28 +3,15 @@ use mathlib.Core.Path.{_≡_}
 use mathlib.Core.List.{List}
 use Prim.Native.Nat.{ℕ}
 use lib.ListN.{length}
-use Rattle.routes.specs.Match.{Match, none, found}
 use Rattle.routes.specs.Seen.{Answer, gives, refuses}
 use Rattle.lengths_build.specs.Answer.{Counts, buildOn}
 use Rattle.listing.specs.Listed.{listedIn}
 use Rattle.lengths_build.specs.Build.{LeavesOn}
-use Rattle.toggleash.specs.declared.copies.Needed.{Needed}
 use Rattle.toggleash.specs.declared.copies.Built.{Built}
-use Rattle.toggleash.specs.declared.copies.Matched.{Matched}
-
-abbrev pub needed : Answer ℕ → Needed
-needed (gives n) = record { refusal = 0; words = n }
-needed (refuses n) = record { refusal = n; words = 0 }
 
 abbrev pub built : Answer Counts → Built
 built (gives c) = record { refusal = 0; routes = c .routes; markers = c .markers }
 built (refuses n) = record { refusal = n; routes = 0; markers = 0 }
-
--- a copy knows no block
-abbrev pub matched : Answer Match → Matched
-matched (gives none) = record { refusal = 0; found = 0; hop = 0; length = 0 }
-matched (gives (found h l)) = record { refusal = 0; found = 1; hop = h; length = l }
-matched (refuses n) = record { refusal = n; found = 0; hop = 0; length = 0 }
 
 pub record HasBuilt (bytes ws vs : List ℕ) (r : Built) : Type 0 where
   pub answer : r ≡ built (buildOn (listedIn bytes) (length ws))

@@ -1,12 +1,11 @@
--- What the C face's numbers say: the refusal's number, or 0 and the values; every field not meant is 0. A family's calls
--- promise the same of its addresses. Assumes nothing.
+-- What the C calls promise, in the numbers of `answers`. A family's calls promise the same of its addresses. Assumes nothing.
 use mathlib.Core.Path.{_≡_}
 use mathlib.Core.List.{List, _++_}
 use Prim.Native.Nat.{ℕ, _≤_}
 use lib.ListN.{length, drop}
 use Rattle.routes.specs.Family.{Family, levels, width}
-use Rattle.routes.specs.Answers.{Reply, done, found, none, refused}
-use Rattle.routes.specs.Seen.{Answer, gives, refuses, Counts}
+use Rattle.routes.specs.Answers.{refused}
+use Rattle.routes.specs.Seen.{refuses}
 use Rattle.candidates.specs.Answers.{Update}
 use Rattle.candidates.specs.Seen.{answerOn, afterOn, clearOn, clearedOn, countOn, frontOn}
 use Rattle.candidates.specs.Seen.{runOn, ranOn, repliedOn, recordsOn, answersOn}
@@ -18,56 +17,11 @@ use Rattle.update.specs.Update.{Touches}
 use Rattle.feed.specs.Series.{Series}
 use Rattle.feed.specs.Turns.{IsTable}
 use Rattle.feed.specs.Local.{ranWords}
-use Rattle.feed.specs.declared.Report.{Report}
 use Rattle.feed.specs.Runs.{reported}
-use Rattle.toggleash.specs.declared.Counted.{Counted}
-use Rattle.toggleash.specs.declared.Found.{Found}
-use Rattle.toggleash.specs.declared.Total.{Total}
-use Rattle.toggleash.specs.declared.Updated.{Updated}
-use Rattle.toggleash.specs.declared.Written.{Written}
-use Rattle.toggleash.specs.declared.Ran.{Ran as Fields}
-
-abbrev pub refusal : Answer (Unit {0}) → ℕ
-refusal (gives u) = 0
-refusal (refuses n) = n
-
-abbrev pub counted : Answer Counts → Counted
-counted (gives c) = record { refusal = 0; routes = c .routes; arrays = c .arrays }
-counted (refuses n) = record { refusal = n; routes = 0; arrays = 0 }
-
--- no lookup is answered by `done`
-abbrev pub looked : Reply → Found
-looked (done h c) = record { refusal = 0; found = 0; hop = 0; length = 0; block = 0 }
-looked (found h l q) = record { refusal = 0; found = 1; hop = h; length = l; block = q }
-looked (none q) = record { refusal = 0; found = 0; hop = 0; length = 0; block = q }
-looked (refused n) = record { refusal = n; found = 0; hop = 0; length = 0; block = 0 }
-
-abbrev pub totalled : Answer ℕ → Total
-totalled (gives n) = record { refusal = 0; prefixes = n }
-totalled (refuses n) = record { refusal = n; prefixes = 0 }
-
--- no update is answered by `found` or `none`
-abbrev pub updated : Reply → Updated
-updated (done h c) = record { refusal = 0; hop = h; cells = c }
-updated (found h l q) = record { refusal = 0; hop = 0; cells = 0 }
-updated (none q) = record { refusal = 0; hop = 0; cells = 0 }
-updated (refused n) = record { refusal = n; hop = 0; cells = 0 }
-
-abbrev pub wrote : Answer ℕ → Written
-wrote (gives n) = record { refusal = 0; bytes = n }
-wrote (refuses n) = record { refusal = n; bytes = 0 }
-
-abbrev pub ran : Answer Report → Fields
-ran (gives r) =
-    record {
-      refusal = 0;
-      stop = r .stop;
-      consumed = r .consumed;
-      written = r .written;
-      accepted = r .accepted;
-      refused = r .refused;
-    }
-ran (refuses n) = record { refusal = n; stop = 0; consumed = 0; written = 0; accepted = 0; refused = 0 }
+use Rattle.answers.specs.Numbers.{refusal, updated, wrote, ran}
+use Rattle.answers.specs.declared.Updated.{Updated}
+use Rattle.answers.specs.declared.Written.{Written}
+use Rattle.answers.specs.declared.Ran.{Ran as Fields}
 
 -- ---- what the calls that write promise of the lent memory
 

@@ -18,10 +18,11 @@ use Rattle.feed.specs.declared.Ran.{Ran as Outcome}
 use Rattle.feed.specs.declared.Ran.the-variants.{Stopped}
 use Rattle.feed.specs.Turns.{IsTable}
 use Rattle.feed.specs.Runs.{runAnswer, HasRunLocally as Run}
-use Rattle.toggleash.specs.Face.{updated, ran, HasUpdated, HasRun}
+use Rattle.answers.specs.Numbers.{updated, ran}
+use Rattle.toggleash.specs.Face.{HasUpdated, HasRun}
 use Rattle.toggleash.specs.Made.{made, ran-so}
-use Rattle.toggleash.specs.declared.Updated.{Updated}
-use Rattle.toggleash.specs.declared.Ran.{Ran as Fields}
+use Rattle.answers.specs.declared.Updated.{Updated}
+use Rattle.answers.specs.declared.Ran.{Ran as Fields}
 
 pub record HasUpdatedLocally (F : Family) (ws vs : List ℕ) (u : Update) (r : Updated) : Type 0 where
   pub said : Reply

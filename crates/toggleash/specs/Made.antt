@@ -13,9 +13,10 @@ use Rattle.update.specs.Update.{HasUpdated as Made}
 use Rattle.feed.specs.declared.Ran.{Ran as Outcome}
 use Rattle.feed.specs.declared.Ran.the-variants.{Stopped, Refused as Unfit}
 use Rattle.feed.specs.Runs.{runAnswer, reported, HasRun as Run}
-use Rattle.toggleash.specs.Face.{updated, ran, HasUpdated, HasRun}
-use Rattle.toggleash.specs.declared.Updated.{Updated}
-use Rattle.toggleash.specs.declared.Ran.{Ran as Fields}
+use Rattle.answers.specs.Numbers.{updated, ran}
+use Rattle.toggleash.specs.Face.{HasUpdated, HasRun}
+use Rattle.answers.specs.declared.Updated.{Updated}
+use Rattle.answers.specs.declared.Ran.{Ran as Fields}
 
 pub made : (F : Family) (ws vs : List ℕ) (u : Update) (r : Reply) (x : Updated) → Made (levels F) ws vs u r
     → x ≡ updated (saidReply r) → HasUpdated F ws vs u x

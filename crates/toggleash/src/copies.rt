@@ -1,5 +1,7 @@
 // The copy's calls of the C face: its need, its build from the bytes of a written-out list, and its lookup.
-use replies::Match;
+use answers::Matched;
+use answers::Needed;
+use answers::matching;
 ghost use mathlib.Core.Path.{_≡_};
 ghost use mathlib.Core.List.{List};
 ghost use Rattle.routes.specs.Route.{Route, IsList};
@@ -7,30 +9,16 @@ ghost use Rattle.routes.specs.Match.{longest};
 ghost use Rattle.routes.specs.Seen.{gives};
 ghost use Rattle.listing.specs.Listed.{listedIn};
 ghost use Rattle.lengths_build.specs.Answer.{needOn, needAnswer, buildAnswer};
-ghost use Rattle.replies.specs.Said.{saidMatch};
 ghost use Rattle.lengths.specs.Layout.{walk};
 ghost use Rattle.lengths.specs.Laid.{Laid};
-ghost use Rattle.toggleash.specs.Copies.{needed, built, matched, HasBuilt};
-
-#[repr(C)]
-pub struct Needed {
-    pub refusal: u32,
-    pub words: u64,
-}
+ghost use Rattle.answers.specs.Numbers.{needed, matched};
+ghost use Rattle.toggleash.specs.Copies.{built, HasBuilt};
 
 #[repr(C)]
 pub struct Built {
     pub refusal: u32,
     pub routes: u64,
     pub markers: u64,
-}
-
-#[repr(C)]
-pub struct Matched {
-    pub refusal: u32,
-    pub found: u32,
-    pub hop: u32,
-    pub length: u32,
 }
 
 // ---- answers in plain numbers
@@ -67,31 +55,6 @@ fn counts(answer: lengths_build::Built) -> Built
     }
 }
 
-fn finding(answer: Match) -> Matched
-    ensures { λ r. ⌜ r ≡ matched (saidMatch answer) ⌝ }
-{
-    match answer {
-        Match::Found(hop, length) => Matched {
-            refusal: 0,
-            found: 1,
-            hop: hop,
-            length: length,
-        },
-        Match::Nothing => Matched {
-            refusal: 0,
-            found: 0,
-            hop: 0,
-            length: 0,
-        },
-        Match::Refused(n) => Matched {
-            refusal: n,
-            found: 0,
-            hop: 0,
-            length: 0,
-        },
-    }
-}
-
 // ---- the calls
 
 #[no_mangle]
@@ -114,5 +77,5 @@ pub extern "C" fn toggleash_copy_lookup(words: &[u32], address: u32) -> Matched
     ensures of_a_list { λ r. ⌜ ((rs : List Route) → IsList 32 rs → Laid rs (now (words .entry))
         → r ≡ matched (gives (longest 32 address rs))) ⌝ }
 {
-    finding(lengths::lookup(words, address))
+    matching(lengths::lookup(words, address))
 }

@@ -1,10 +1,10 @@
 // The calls of the C face that test what they touch, and no more, of both families: on a table as the calls of their names
 // without `local`, on any other words safe too.
-use super::Ran;
-use super::Updated;
-use super::change;
-use super::report;
 use super::six::Ipv6;
+use answers::Ran;
+use answers::Updated;
+use answers::change;
+use answers::report;
 use families::Family;
 ghost use Rattle.numbers.specs.Number.{number as numberOf};
 ghost use Rattle.routes.specs.Family.{v4, v6};

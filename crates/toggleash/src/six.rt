@@ -1,17 +1,17 @@
 // The IPv6 calls of the C face: each as the IPv4 call of its name, on a table of sixteen levels.
-use super::Counted;
-use super::Found;
-use super::Ran;
-use super::Total;
-use super::Updated;
-use super::Written;
-use super::change;
-use super::counts;
-use super::finding;
-use super::inside;
-use super::number;
-use super::report;
 use super::write_out;
+use answers::Counted;
+use answers::Found;
+use answers::Ran;
+use answers::Total;
+use answers::Updated;
+use answers::Written;
+use answers::change;
+use answers::counts;
+use answers::finding;
+use answers::inside;
+use answers::number;
+use answers::report;
 use families::Family;
 ghost use mathlib.Core.Path.{_≡_};
 ghost use Rattle.numbers.specs.Number.{number as numberOf};
@@ -22,7 +22,8 @@ ghost use Rattle.words.specs.Table.{seen};
 ghost use Rattle.lookup.specs.Walk.{walk};
 ghost use Rattle.inside.specs.Seen.{withinOn};
 ghost use Rattle.within.specs.Walk.{walk as totalWalk};
-ghost use Rattle.toggleash.specs.Face.{counted, looked, totalled, HasCleared, HasUpdated, HasWritten, HasRun};
+ghost use Rattle.answers.specs.Numbers.{counted, looked, totalled};
+ghost use Rattle.toggleash.specs.Face.{HasCleared, HasUpdated, HasWritten, HasRun};
 
 // An address by value, in network order: level k reads byte k.
 #[repr(C)]

@@ -1,6 +1,6 @@
 -- `toggleash_packed_need` meets its contract: its fields are those of what the need tells. Assumes nothing.
 use mathlib.Core.Path.{ap, _∙_}
-use Rattle.packing.specs.Face.{needed}
+use Rattle.answers.specs.Numbers.{needed}
 use borrow.Author.Needs.{needs}
 use Rattle.packing.proofs.toggleash_packed_need.Statement.{statement}
 use Rattle.packing.proofs.toggleash_packed_need.Tie as tie

@@ -1,6 +1,6 @@
 -- `toggleash::toggleash_check` meets its contract: its fields are those of what the check tells. Assumes nothing.
 use mathlib.Core.Path.{ap, _∙_}
-use Rattle.toggleash.specs.Face.{counted}
+use Rattle.answers.specs.Numbers.{counted}
 use borrow.Author.Needs.{needs}
 use Rattle.toggleash.proofs.toggleash_check.Statement.{statement}
 use Rattle.toggleash.proofs.toggleash_check.Tie as tie

@@ -1,6 +1,6 @@
 -- `toggleash::toggleash_within` meets its contract: its fields are those of the call below it. Assumes nothing.
 use mathlib.Core.Path.{ap, _∙_}
-use Rattle.toggleash.specs.Face.{totalled}
+use Rattle.answers.specs.Numbers.{totalled}
 use borrow.Author.Needs.{needs}
 use Rattle.toggleash.proofs.toggleash_within.Statement.{statement}
 use Rattle.toggleash.proofs.toggleash_within.Tie as tie

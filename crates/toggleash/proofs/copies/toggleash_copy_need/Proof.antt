@@ -1,6 +1,6 @@
 -- `toggleash_copy_need` meets its contract: its fields are those of what the need tells. Assumes nothing.
 use mathlib.Core.Path.{ap, _∙_}
-use Rattle.toggleash.specs.Copies.{needed}
+use Rattle.answers.specs.Numbers.{needed}
 use borrow.Author.Needs.{needs}
 use Rattle.toggleash.proofs.copies.toggleash_copy_need.Statement.{statement}
 use Rattle.toggleash.proofs.copies.toggleash_copy_need.Tie as tie

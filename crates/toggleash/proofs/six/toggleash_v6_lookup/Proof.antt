@@ -1,6 +1,6 @@
 -- `toggleash_v6_lookup` meets its contract: its fields are those of where the walk ends. Assumes nothing.
 use mathlib.Core.Path.{ap, _∙_}
-use Rattle.toggleash.specs.Face.{looked}
+use Rattle.answers.specs.Numbers.{looked}
 use borrow.Author.Needs.{needs}
 use Rattle.toggleash.proofs.six.toggleash_v6_lookup.Statement.{statement}
 use Rattle.toggleash.proofs.six.toggleash_v6_lookup.Tie as tie

@@ -1,7 +1,7 @@
--- `toggleash::inside` meets its contract: each case of the answer is its fields. Assumes nothing.
+-- `answers::inside` meets its contract: each case of the answer is its fields. Assumes nothing.
 use borrow.Author.Needs.{needs}
-use Rattle.toggleash.proofs.inside.Statement.{statement}
-use Rattle.toggleash.proofs.inside.Tie as tie
+use Rattle.answers.proofs.inside.Statement.{statement}
+use Rattle.answers.proofs.inside.Tie as tie
 
 returns : tie.Need-returns
 returns c = rw (c .before .answer .given .1)

@@ -1,7 +1,7 @@
--- `damper::report` meets its contract: each case of the answer is its fields. Assumes nothing.
+-- `answers::report` meets its contract: each case of the answer is its fields. Assumes nothing.
 use borrow.Author.Needs.{needs}
-use Rattle.damper.proofs.report.Statement.{statement}
-use Rattle.damper.proofs.report.Tie as tie
+use Rattle.answers.proofs.report.Statement.{statement}
+use Rattle.answers.proofs.report.Tie as tie
 
 returns : tie.Need-returns
 returns c = rw (c .before .answer .given .1)

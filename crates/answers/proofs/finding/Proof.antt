@@ -1,11 +1,11 @@
--- `toggleash::finding` meets its contract: a refusal, or the numbers of what was found, which are 0 for none. Assumes nothing.
+-- `answers::finding` meets its contract: a refusal, or the numbers of what was found, which are 0 for none. Assumes nothing.
 use Prim.Native.Nat.{_/_}
 use native.Mathlib.Omega.{arith}
 use borrow.Author.Needs.{needs}
 use Rattle.sizes.specs.Sizes.{hopBound}
-use Rattle.toggleash.proofs.Laws.{once, looked-refused, looked-end}
-use Rattle.toggleash.proofs.finding.Statement.{statement}
-use Rattle.toggleash.proofs.finding.Tie as tie
+use Rattle.answers.proofs.Laws.{once, looked-refused, looked-end}
+use Rattle.answers.proofs.finding.Statement.{statement}
+use Rattle.answers.proofs.finding.Tie as tie
 
 returns : tie.Need-returns
 returns c = looked-refused (c .before .before .before .args .end) (c .before .if1 .taken)

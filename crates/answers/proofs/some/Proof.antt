@@ -1,8 +1,8 @@
--- `toggleash::some` meets its contract: by its two cases. Assumes nothing.
+-- `answers::some` meets its contract: by its two cases. Assumes nothing.
 use native.Mathlib.Omega.{arith}
 use borrow.Author.Tests.{eq-eqb, ne-eqb}
-use Rattle.toggleash.proofs.some.Statement.{statement}
-use Rattle.toggleash.proofs.some.Tie as tie
+use Rattle.answers.proofs.some.Statement.{statement}
+use Rattle.answers.proofs.some.Tie as tie
 
 returns : tie.Need-returns
 returns c = (rw (eq-eqb _ 0 (c .if1 .taken)), omega arith)

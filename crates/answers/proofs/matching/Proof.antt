@@ -1,7 +1,7 @@
--- `packing::finding` meets its contract: each case of the answer is its fields. Assumes nothing.
+-- `answers::matching` meets its contract: each case of the answer is its fields. Assumes nothing.
 use borrow.Author.Needs.{needs}
-use Rattle.packing.proofs.finding.Statement.{statement}
-use Rattle.packing.proofs.finding.Tie as tie
+use Rattle.answers.proofs.matching.Statement.{statement}
+use Rattle.answers.proofs.matching.Tie as tie
 
 returns : tie.Need-returns
 returns c = rw (c .before .answer .given .1)
@@ -12,7 +12,7 @@ returns-2 c = rw (c .enum-told .given .1)
 returns-3 : tie.Need-returns-3
 returns-3 c = rw (c .before .answer2 .given .1)
 
-pub finding-spec : {M : Type 1} → statement M
-finding-spec =
+pub matching-spec : {M : Type 1} → statement M
+matching-spec =
     tie.close
     (tie.spec (λ c. search needs) (λ c. search needs) (λ c. search needs) returns returns-2 returns-3)
