@@ -5,10 +5,9 @@ pub mod held; // a front checked and cleared
 pub mod tick; // a tick of both
 
 use replies::Reply;
+use replies::is_done;
 ghost use mathlib.Core.Path.{_≡_};
-ghost use Rattle.routes.specs.Answers.{isDone};
 ghost use Rattle.candidates.specs.Answers.{announce as announced, withdraw as withdrawn};
-ghost use Rattle.replies.specs.Said.{saidReply};
 ghost use Rattle.damping.specs.Work.{Damped, Damps};
 ghost use Rattle.damping.specs.Update.{HasDamped};
 ghost use Rattle.damping.specs.Refuse.{frontNumber, refusalThrough};
@@ -37,17 +36,6 @@ fn announce_in(
     }
     let bytes = address::four_of(address);
     update::announce_with(words, &bytes, length, hop, feed, preference, known)
-}
-
-fn is_done(r: Reply) -> bool
-    ensures { λ b. ⌜ b ≡ isDone (saidReply r) ⌝ }
-{
-    match r {
-        Reply::Done(_, _) => true,
-        Reply::Found(_, _, _) => false,
-        Reply::Nothing(_) => false,
-        Reply::Refused(_) => false,
-    }
 }
 
 fn withdraw_in(

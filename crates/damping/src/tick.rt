@@ -3,9 +3,9 @@
 use super::held::Checked;
 use super::held::count;
 use super::held::held_in;
-use super::is_done;
 use super::refusal;
 use super::refusal_local;
+use replies::is_done;
 use rows::ROW_WORDS;
 ghost use mathlib.Core.Path.{_≡_};
 ghost use mathlib.Core.Bool.{true};

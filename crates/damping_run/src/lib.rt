@@ -128,9 +128,9 @@ impl Progress {
         let kind = feed[at];
         let n = ask::size_of(kind);
         let answer = ask::answer(front, words, feed, at, known);
-        let next = feed::put(reply, out, answer);
+        let next = replies::put(reply, out, answer);
         let accepted = self.accepted + told::accepts(kind, answer);
-        let refused = self.refused + feed::refuses(answer);
+        let refused = self.refused + replies::refuses(answer);
         Progress {
             at: at + n,
             out: next,

@@ -17,10 +17,5 @@ pub(crate) fn accepts(kind: u8, r: Reply) -> usize
     if kind == TICK {
         return 0;
     }
-    match r {
-        Reply::Done(_, _) => 1,
-        Reply::Found(_, _, _) => 0,
-        Reply::Nothing(_) => 0,
-        Reply::Refused(_) => 0,
-    }
+    replies::accepts(r)
 }

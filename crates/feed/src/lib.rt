@@ -2,15 +2,15 @@
 use families::Family;
 use families::Role;
 use replies::Reply;
+use replies::accepts;
+use replies::put;
+use replies::refuses;
 ghost use mathlib.Core.Path.{_≡_};
 ghost use mathlib.Core.Bool.{true};
 ghost use Prim.Native.Nat.{_+_, _<_, _≤_};
 ghost use lib.ListN.{length};
 ghost use lib.Dec.{eqb};
-ghost use Rattle.numbers.specs.Wrote.{Wrote};
 ghost use Rattle.routes.specs.Family.{v4, levels};
-ghost use Rattle.routes.specs.Answers.{isDone, isRefused};
-ghost use Rattle.routes.specs.Bytes.{replyBytes};
 ghost use Rattle.candidates.specs.Runs.{size as sizeOf, halts};
 ghost use Rattle.words.specs.Table.{seen};
 ghost use Rattle.families.specs.Said.{saidFamily, saidRole};
@@ -271,60 +271,4 @@ fn lookup(words: &[u32], levels: usize, feed: &[u8], at: usize) -> Reply
         (saidReply r) (now (words .entry)) ⌝ }
 {
     lookup::lookup_on(words, &feed[at + 1..at + 1 + levels])
-}
-
-// 1 for an update that was done.
-fn accepts(r: Reply) -> usize
-    ensures { λ n. ⌜ (n ≡ one (isDone (saidReply r))) × (n ≤ 1) ⌝ }
-{
-    match r {
-        Reply::Done(_, _) => 1,
-        Reply::Found(_, _, _) => 0,
-        Reply::Nothing(_) => 0,
-        Reply::Refused(_) => 0,
-    }
-}
-
-// 1 for a record that was refused.
-pub fn refuses(r: Reply) -> usize
-    ensures { λ n. ⌜ (n ≡ one (isRefused (saidReply r))) × (n ≤ 1) ⌝ }
-{
-    match r {
-        Reply::Done(_, _) => 0,
-        Reply::Found(_, _, _) => 0,
-        Reply::Nothing(_) => 0,
-        Reply::Refused(_) => 1,
-    }
-}
-
-// Writes a reply, and returns the place after it.
-pub fn put(reply: &mut [u8], at: usize, r: Reply) -> usize
-    requires { ⌜ at + 5 ≤ length (now reply) ⌝ }
-    ensures { λ q. ⌜ Wrote (now (reply .entry)) at (replyBytes (saidReply r)) q (now (reply .exit)) ⌝ }
-{
-    match r {
-        Reply::Done(hop, cells) => {
-            reply[at] = 16;
-            numbers::put_two(reply, at + 1, hop);
-            numbers::put_two(reply, at + 3, cells);
-            at + 5
-        }
-        Reply::Found(hop, length, block) => {
-            reply[at] = 17;
-            numbers::put_two(reply, at + 1, hop);
-            reply[at + 3] = (length % 256) as u8;
-            reply[at + 4] = (block % 256) as u8;
-            at + 5
-        }
-        Reply::Nothing(block) => {
-            reply[at] = 18;
-            reply[at + 1] = (block % 256) as u8;
-            at + 2
-        }
-        Reply::Refused(n) => {
-            reply[at] = 19;
-            reply[at + 1] = (n % 256) as u8;
-            at + 2
-        }
-    }
 }

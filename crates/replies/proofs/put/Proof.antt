@@ -2,10 +2,10 @@
 use native.Mathlib.Omega.{arith}
 use mathlib.Core.Path.{_∙_}
 use lib.ListN.{length-set}
-use Rattle.feed.specs.Replies.{put-done, put-found, put-nothing, put-refused}
+use Rattle.replies.specs.Put.{put-done, put-found, put-nothing, put-refused}
 use borrow.Author.Needs.{needs}
-use Rattle.feed.proofs.put.Statement.{statement}
-use Rattle.feed.proofs.put.Tie as tie
+use Rattle.replies.proofs.put.Statement.{statement}
+use Rattle.replies.proofs.put.Tie as tie
 
 put-two-requires : tie.Need-put-two-requires
 put-two-requires c κs = simp length-set (omega arith)
