@@ -82,7 +82,8 @@ TOGGLEASH_ANSWER toggleash_update toggleash_damp_announce(uint32_t *front, size_
 TOGGLEASH_ANSWER toggleash_update toggleash_damp_withdraw(uint32_t *front, size_t m, uint32_t *words, size_t n,
                                                           uint32_t address, uint32_t length, uint32_t feed);
 
-/* A tick. Counts as the check does after it. Refuses with 1, or with 2. */
+/* A tick. Counts as the check does after it. Refuses with 1, or with 2. It may install routes and tells none of them: after it a card
+ * drops the blocks that it remembers, and reloads its cells. */
 TOGGLEASH_ANSWER toggleash_front toggleash_damp_tick(uint32_t *front, size_t m, uint32_t *words, size_t n);
 
 /* Runs an IPv4 feed through the front, as toggleash_run does without one, with ticks. Refuses with 1, or with 2. */

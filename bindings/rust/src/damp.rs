@@ -105,6 +105,8 @@ pub fn withdraw(
 
 /// A tick of a front before a table. Counts as [`check`] does after it.
 ///
+/// It may install routes and tells none of them: after it a card drops the blocks that it remembers, and reloads its cells.
+///
 /// # Errors
 /// [`Refusal::WordCount`]; [`Refusal::NotATable`] where the first words are no front, or the others no table.
 pub fn tick(front: &mut [u32], words: &mut [u32]) -> Result<Held, Refusal> {
