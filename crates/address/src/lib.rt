@@ -1,4 +1,6 @@
 // An address as lent bytes, the high one first. It has as many bytes as a table has levels: four in IPv4.
+#![tactic(auto)]
+
 ghost use Rattle.std.specs.Prelude.{◌≡◌, ◌+◌, ◌*◌, ◌-◌, ◌%◌, ◌<◌, ◌≤◌, not, eqb, length as size, drop};
 ghost use Rattle.routes.specs.Route.{stray as strayOf};
 ghost use Rattle.routes.specs.Room.{level as levelOf};

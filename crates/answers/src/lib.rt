@@ -1,5 +1,7 @@
 // Answers for C: structs of plain numbers, and how the library's answers become them. Every archive's calls use these, so that an
 // update, a run or a match is one struct in all of them.
+#![tactic(auto)]
+
 ghost use Rattle.std.specs.Prelude.{◌≡◌, cond, ◌≤◌, eqb};
 ghost use Rattle.lookup.specs.Ended.{ended};
 ghost use Rattle.within.specs.Answer.{within_answer};

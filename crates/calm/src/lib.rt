@@ -1,1 +1,2 @@
 // The blocks of one array, of its slots and links alone: laws.
+#![tactic(auto)]

@@ -1,4 +1,6 @@
 // A candidate's place in a front's words: found, charged for an accepted withdrawal, and with something kept.
+#![tactic(auto)]
+
 ghost use Rattle.std.specs.Prelude.{◌≡◌, ◌/◌, ◌≤◌, min};
 ghost use Rattle.candidates.specs.Keyed.{put};
 ghost use Rattle.candidates.specs.Candidate.{place};

@@ -1,4 +1,6 @@
 // The program's body: reads a feed, runs it on lent words and prints what came of it.
+#![tactic(auto)]
+
 mod address;
 mod lines;
 mod reads;

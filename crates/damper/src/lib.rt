@@ -1,5 +1,7 @@
 // The C face of a front before a table: each call with plain numbers, the front's words before the table's. A slice passes as a
 // pointer and a length. No call asks anything of its caller, since nothing would check it.
+#![tactic(auto)]
+
 ghost use Rattle.std.specs.Prelude.{◌≡◌};
 ghost use Rattle.candidates.specs.Answers.{announce as announced, withdraw as withdrawn};
 ghost use Rattle.front.specs.Seen.{check_front};

@@ -1,6 +1,8 @@
 // Updates through a front before a table: a candidate that is held back is kept and dropped in the front, any other goes to the
 // table, and an accepted withdrawal is charged. Each is there for callers who lend any words: one that tests both memories whole,
 // and a local one that tests the front, and of the table what it touches.
+#![tactic(auto)]
+
 pub mod held; // a front checked and cleared
 pub mod tick; // a tick of both
 

@@ -1,4 +1,6 @@
 // The run of an IPv4 feed through a front before a table: records and ticks in order, one reply for each, until a test stops it.
+#![tactic(auto)]
+
 pub mod ask; // a record or a tick answered
 mod told; // what counts as an update
 

@@ -1,4 +1,6 @@
 // A family of addresses by value: how many bytes an address has, and what a kind of record in a feed stands for.
+#![tactic(auto)]
+
 ghost use Rattle.std.specs.Prelude.{◌≡◌, ◌≤◌};
 ghost use Rattle.routes.specs.Family.{v4, v6, levels as levelsOf, kind_of, announcing_for, role_of, is_unknown};
 ghost use Rattle.families.specs.Said.{said_family, said_role, family_for};

@@ -1,4 +1,6 @@
 // The run of a feed of one family: records in order, one reply for each but end, until a test stops it.
+#![tactic(auto)]
+
 ghost use Rattle.std.specs.Prelude.{◌≡◌, true, ◌+◌, ◌<◌, ◌≤◌, length, eqb};
 ghost use Rattle.routes.specs.Family.{v4, levels};
 ghost use Rattle.candidates.specs.Runs.{size as size_of, halts};

@@ -1,5 +1,7 @@
 // The program through a front: an IPv4 feed with ticks from standard input, on a cleared front, a cleared table of 3 arrays and
 // with 4,096 reply bytes.
+#![tactic(auto)]
+
 use libc::STDIN_FILENO;
 use rows::FRONT_WORDS;
 

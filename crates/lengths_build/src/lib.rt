@@ -1,5 +1,7 @@
 // A list laid out by lengths from its written-out bytes: the words that it needs, and the build, one length after the other. The
 // tables of the shorter lengths tell the best match of a marker, so nothing is kept beside the lent words.
+#![tactic(auto)]
+
 ghost use Rattle.std.specs.Prelude.{◌≡◌, true, ◌+◌, ◌*◌, ◌-◌, ◌/◌, ◌^◌, ◌<◌, ◌≤◌, length};
 ghost use Rattle.routes.specs.Room.{distinct};
 ghost use Rattle.candidates.specs.Candidate.{IsList};

@@ -1,5 +1,7 @@
 // The bytes of a written-out list: whether they are one, what each record says, which candidate of a prefix wins, and how many
 // routes and how many different heads the list has.
+#![tactic(auto)]
+
 ghost use Rattle.std.specs.Prelude.{◌≡◌, ◌*◌, ◌-◌, ◌/◌, ◌^◌, ◌<◌, ◌≤◌, length};
 ghost use Rattle.routes.specs.Route.{route};
 ghost use Rattle.routes.specs.Room.{distinct, need};

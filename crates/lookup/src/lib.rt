@@ -1,4 +1,6 @@
 // Looking an address up in lent words: the layout's walk, from the root down. It reads one word a level and checks nothing else.
+#![tactic(auto)]
+
 ghost use Rattle.std.specs.Prelude.{◌≡◌, cond, ◌+◌, ◌*◌, ◌<◌, ◌≤◌, eqb, length as size};
 ghost use Rattle.sizes.specs.Sizes.{hop_bound, best_bound};
 ghost use Rattle.numbers.specs.Number.{number};

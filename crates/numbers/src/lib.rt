@@ -1,4 +1,6 @@
 // Plain numbers: of two and of four bytes in lent bytes, the high byte first; powers of 2.
+#![tactic(auto)]
+
 pub mod agree; // equal leading bits
 
 ghost use Rattle.std.specs.Prelude.{◌≡◌, ◌+◌, ◌-◌, ◌%◌, ◌^◌, ◌<◌, ◌≤◌, length};

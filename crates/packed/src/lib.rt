@@ -1,4 +1,6 @@
 // Looking an address up in a table compressed by masks: the layout's walk, an entry of four words a level.
+#![tactic(auto)]
+
 ghost use Rattle.std.specs.Prelude.{◌≡◌, cond, ◌+◌, ◌*◌, ◌<◌, ◌≤◌, eqb};
 ghost use Rattle.sizes.specs.Sizes.{slot_end, cell_count, hop_bound, best_bound};
 ghost use Rattle.replies.specs.Said.{said_match};

@@ -1,4 +1,6 @@
 // The words that a table needs compressed, and the build: refused with 1 or 2 for the table, then with 9 for too few words.
+#![tactic(auto)]
+
 ghost use Rattle.std.specs.Prelude.{◌≡◌, length};
 ghost use Rattle.words.specs.Words.{arrays_of, array_count};
 ghost use Rattle.words.specs.Table.{seen};

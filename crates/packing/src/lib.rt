@@ -2,6 +2,8 @@
 //
 //     words ── packed_need ──▶ how many words to lend
 //       └───── packed_build ─▶ packed, carried anywhere ── packed_lookup ──▶ match
+#![tactic(auto)]
+
 ghost use Rattle.std.specs.Prelude.{◌≡◌};
 ghost use Rattle.words.specs.Table.{seen};
 ghost use Rattle.packed.specs.Layout.{walk};

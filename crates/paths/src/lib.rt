@@ -1,5 +1,7 @@
 // Paths of arrays down an address, a level for each of its bytes: how far one goes, the arrays that it lacks gained, those left
 // empty released.
+#![tactic(auto)]
+
 ghost use Rattle.std.specs.Prelude.{◌≡◌, true, ◌+◌, ◌-◌, ◌*◌, ◌^◌, ◌<◌, ◌≤◌, length as size};
 ghost use Rattle.sizes.specs.Sizes.{least_words, most_words, cell_count, level_bound, array_at};
 ghost use Rattle.slots.specs.Word.{IsFeed};

@@ -1,5 +1,7 @@
 // The last two passes of a tick on a front's words: who is below 750 with nothing kept is let go, and spent places are freed.
 // And a front cleared.
+#![tactic(auto)]
+
 ghost use Rattle.std.specs.Prelude.{◌≡◌, [], ◌+◌, ◌*◌, ◌<◌, ◌≤◌, length};
 ghost use Rattle.front.specs.Place.{most_places};
 ghost use Rattle.front.specs.Front.{released, spent};

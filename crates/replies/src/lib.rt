@@ -1,5 +1,7 @@
 // What a record is answered with, by the calls and by the run alike, and its bytes; and what a lookup in a read-only copy is
 // answered with.
+#![tactic(auto)]
+
 ghost use Rattle.std.specs.Prelude.{◌≡◌, cond, ◌+◌, ◌≤◌, length};
 ghost use Rattle.numbers.specs.Wrote.{Wrote};
 ghost use Rattle.routes.specs.Answers.{is_done, is_refused};

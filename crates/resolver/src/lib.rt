@@ -2,6 +2,8 @@
 // is lent, one for each hop: an interface, or a gateway to be looked up in turn. At most four lookups are made.
 //
 //     10.1.2.3 ── hop 3 ── gateway 10.9.9.9 ── hop 2 ── gateway 192.0.2.9 ── hop 4 ── interface 64
+#![tactic(auto)]
+
 pub mod entry; // one entry of the run
 pub mod way; // how far resolving has come, and one turn of it
 

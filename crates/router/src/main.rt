@@ -1,4 +1,6 @@
 // The program: a feed from standard input, on a cleared table of 3 arrays and with 4,096 reply bytes.
+#![tactic(auto)]
+
 use families::Family;
 use libc::STDIN_FILENO;
 

@@ -1,5 +1,7 @@
 // The program for IPv6: a feed from standard input, on a cleared table of 17 arrays and with 4,096 reply bytes. A route of length
 // 128 needs 16 arrays.
+#![tactic(auto)]
+
 use families::Family;
 use libc::STDIN_FILENO;
 

@@ -1,5 +1,7 @@
 // The programs on stored feeds, each with words and reply bytes of its own. A case is a row of `main` and a file of its name in
 // `data/`: its family, its words, its reply bytes, and whether the words are cleared first. What it prints stands under its name.
+#![tactic(auto)]
+
 ghost use Rattle.std.specs.Prelude.{◌≤◌};
 
 use families::Family;

@@ -1,4 +1,6 @@
 // The words of a front: whether they are one, and the candidate of a row as one number.
+#![tactic(auto)]
+
 ghost use Rattle.std.specs.Prelude.{◌≡◌, ◌+◌, ◌*◌, ◌<◌, ◌≤◌, length};
 ghost use Rattle.logic.specs.Reflects.{Reflects};
 ghost use Rattle.front.specs.Place.{key, most_places};

@@ -1,5 +1,7 @@
 // The blocks of one array, kept right: each cell without a link has in its word how many bits of the array an answer there may be
 // remembered for.
+#![tactic(auto)]
+
 pub mod part; // a part of the array: blocks written, and found from below
 pub mod slot; // a slot set, taken or freed
 pub mod link; // a link set or cut

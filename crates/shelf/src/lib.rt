@@ -1,4 +1,6 @@
 // Rows of a front's words: stored, put in by shifting, halved; and how many places come before a candidate.
+#![tactic(auto)]
+
 ghost use Rattle.std.specs.Prelude.{◌≡◌, ◌+◌, ◌*◌, ◌<◌, ◌≤◌, length};
 ghost use Rattle.front.specs.Place.{most_places};
 ghost use Rattle.rows.specs.Row.{front_words, row_at, row, places_of, IsWords};

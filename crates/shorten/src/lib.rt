@@ -1,5 +1,7 @@
 // The shortest list that forwards as an IPv4 table does, written into a lent buffer as kind 1 records. A lent scratch of at least
 // as many words as the table's keeps the sets of hops from one pass over the table to the next.
+#![tactic(auto)]
+
 ghost use Rattle.std.specs.Prelude.{◌≡◌, ltb, length};
 ghost use Rattle.words.specs.Table.{seen};
 ghost use Rattle.writing.specs.Answer.{count_answer};

@@ -1,4 +1,6 @@
 // The shortest list for a program in C: a library of its own, above `shorten`.
+#![tactic(auto)]
+
 ghost use Rattle.std.specs.Prelude.{◌≡◌};
 ghost use Rattle.shortener.specs.Face.{HasWritten};
 

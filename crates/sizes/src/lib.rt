@@ -1,4 +1,5 @@
 // The sizes of a table, of an array, of a cell's word and of a tag: those of specs/Sizes, for the code.
+#![tactic(auto)]
 
 // The words of an array, and of the header before the first.
 pub const ARRAY_WORDS: usize = 3072;

@@ -1,5 +1,7 @@
 // Document 01's small cases by the calls themselves, for feed 1 and with preference 0: P1 to P12, and the case of four arrays.
 // A line for each call tells its case, what was sent, the answer, and the arrays that the check then counts.
+#![tactic(auto)]
+
 use replies::Reply;
 
 fn main() {

@@ -1,5 +1,7 @@
 // The two passes over a table's slots that make the shortest list: the sets of hops from the longest prefixes up, kept in a lent
 // scratch, one word a slot, then the routes from the shortest prefix down.
+#![tactic(auto)]
+
 pub mod set; // a set of hops as a word
 pub mod half; // where the lower half of a prefix stands
 pub mod small; // whether all hops fit a set

@@ -1,5 +1,7 @@
 // The C face: each call of the library with plain numbers, exported under the names of bindings/c/toggleash.h. A slice passes as
 // a pointer and a length. No call asks anything of its caller, since nothing would check it.
+#![tactic(auto)]
+
 pub mod copies; // the copy's calls
 pub mod local; // the calls that test what they touch, and no more
 pub mod six; // the IPv6 calls

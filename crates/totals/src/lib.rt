@@ -1,4 +1,6 @@
 // Totals of arrays: for each slot how many prefixes are held at it and below it. Here those of one page.
+#![tactic(auto)]
+
 ghost use Rattle.std.specs.Prelude.{◌≡◌, ◌<◌, length};
 ghost use Rattle.sizes.specs.Sizes.{array_words, slot_end};
 ghost use Rattle.totals.specs.Up.{added_up};

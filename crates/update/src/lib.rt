@@ -1,5 +1,7 @@
 // Announcements and withdrawals: a feed's candidate put into a table of lent words, or taken out of it. An address is its bytes,
 // as many as the table has levels.
+#![tactic(auto)]
+
 ghost use Rattle.std.specs.Prelude.{◌≡◌, true, ◌*◌, ◌<◌, ◌≤◌, length as size};
 ghost use Rattle.sizes.specs.Sizes.{least_words, most_words, level_bound};
 ghost use Rattle.candidates.specs.Answers.{announce as announced, withdraw as withdrawn};

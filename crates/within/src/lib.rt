@@ -1,5 +1,7 @@
 // How many held prefixes lie inside a given one: a walk down to the given one's array, and one total. It reads one word a level
 // and checks nothing else.
+#![tactic(auto)]
+
 ghost use Rattle.std.specs.Prelude.{◌≡◌, ◌+◌, ◌*◌, ◌<◌, ◌≤◌, length as size};
 ghost use Rattle.sizes.specs.Sizes.{slot_end, level_bound};
 ghost use Rattle.inside.specs.Seen.{within_on};

@@ -1,4 +1,6 @@
 // All lent words as arrays: a header, then arrays of 3,072 words that hang below cells.
+#![tactic(auto)]
+
 pub mod size; // how many words a table has, and how many arrays
 pub mod part; // where an array stands, and what is read of it
 pub mod total; // the totals of arrays

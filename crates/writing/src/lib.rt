@@ -1,5 +1,7 @@
 // Writing a table's candidates out into a lent buffer: lower address first, at equal address shorter length first, at equal
 // prefix lower feed first. A walk down the binary trie meets the prefixes in that order, array below array.
+#![tactic(auto)]
+
 ghost use Rattle.std.specs.Prelude.{◌≡◌, ◌+◌, ◌*◌, ◌<◌, ◌≤◌, length, get_or};
 ghost use Rattle.routes.specs.Family.{v4, levels};
 ghost use Rattle.candidates.specs.Seen.{count_on, front_on};
