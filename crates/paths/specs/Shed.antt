@@ -6,7 +6,7 @@ use Rattle.std.proofs.Common.{◌∙◌, inl, arith}
 use Rattle.std.proofs.Math.Bool.{not}
 use mathlib.Core.List.{List}
 use Prim.Native.Nat.{ℕ, zero, suc, ◌+◌, ◌-◌, ◌≤◌, ◌<◌}
-use borrow.Author.Tests.{not_true}
+use borrow.Author.Tests.{not-true}
 use Rattle.sizes.specs.Sizes.{most_words, array_at}
 use Rattle.array.specs.Tag.{parent_in, level_in}
 use Rattle.array.specs.Check.{bare_b}
@@ -77,7 +77,7 @@ module _ {ws vs : List ℕ} {a b : ℕ} (s : Shed ws vs a b) where
   unfolding pruned_to
   shed_some r low be t n =
       let e : s.n ≡ suc (rises_above vs s.n b s.rises low).m = (rises_above vs s.n b s.rises low).is in
-      done (rw (e, sym be ∙ not_true r n))
+      done (rw (e, sym be ∙ not-true r n))
       (λ L x. prune_some (s.right L x) (ap not (sym (t (shrunk_slots (s.right L x)))) ∙ n))
 
   module _ (high : length vs ≤ most_words) (low : b ≢ 1) where

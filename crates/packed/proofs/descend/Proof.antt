@@ -3,7 +3,7 @@ use mathlib.Core.Path.{◌≡◌, refl, sym, ap, ◌∙◌}
 use Prim.Native.Nat.{ℕ, ◌+◌, ◌-◌, ◌*◌, ◌≤◌, ◌<◌}
 use native.Mathlib.Omega.{arith}
 use lib.ListN.{length, get_or}
-use borrow.Author.Tests.{not_true, not_false}
+use borrow.Author.Tests.{not-true, not-false}
 use Rattle.routes.specs.Match.{none}
 use Rattle.routes.specs.Seen.{gives}
 use Rattle.lookup.specs.Walk.{deeper}
@@ -81,7 +81,7 @@ returns-4 c =
     is_best l.best l.invariant.2
     ∙ turn_not ws a.address l.left l.o l.m f (omega arith) l.invariant.0 i.before.if1.false w q
     g.before.before.before.if2.false g.before.if3.false
-    (sym g.gets.ensures ∙ not_true g.gets.result c.if4.true)
+    (sym g.gets.ensures ∙ not-true g.gets.result c.if4.true)
     ∙ l.invariant.3
 
 returns-5 : tie.Need-returns-5 invariant-loop decreases-loop
@@ -97,7 +97,7 @@ returns-5 c =
     let q = ap (λ (n : ℕ). l.o + 4 * n) i.index.ensures.0 in
     turn-best ws a.address l.left l.o l.m f (omega arith) l.invariant.0 i.before.if1.false w q
     g.before.before.before.if2.false g.before.if3.false
-    (sym g.gets.ensures ∙ not_false g.gets.result c.before.before.if4.false) c.if5.true
+    (sym g.gets.ensures ∙ not-false g.gets.result c.before.before.if4.false) c.if5.true
     ∙ l.invariant.3
 
 newer-requires : tie.Need-newer-requires invariant-loop decreases-loop
@@ -124,7 +124,7 @@ returns-6 c =
     ∙ ap gives (newer_found l.best (get_or ws (w + 1) 0) (24 - 8 * (l.left - 1)) n.result n.ensures.0)
     ∙ turn_last ws a.address l.left l.o l.m f (omega arith) l.invariant.0 i.before.if1.false w q
     g.before.before.before.if2.false g.before.if3.false
-    (sym g.gets.ensures ∙ not_false g.gets.result c.before.before.before.before.before.if4.false)
+    (sym g.gets.ensures ∙ not-false g.gets.result c.before.before.before.before.before.if4.false)
     c.before.before.before.if5.false c.if6.true
     ∙ l.invariant.3
 
@@ -142,7 +142,7 @@ loop-again c =
     let n = c.before.before.before.newer in
     let on = turn_on ws a.address l.left l.o l.m f (omega arith) l.invariant.0 i.before.if1.false w q
     g.before.before.before.if2.false g.before.if3.false
-    (sym g.gets.ensures ∙ not_false g.gets.result c.before.before.before.before.before.before.if4.false)
+    (sym g.gets.ensures ∙ not-false g.gets.result c.before.before.before.before.before.before.if4.false)
     c.before.before.before.before.if5.false c.before.if6.false in (
       omega arith,
       omega (arith, c.before.before.shared-slice-known4.given (w + 2)),

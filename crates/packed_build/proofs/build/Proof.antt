@@ -2,7 +2,7 @@
 use mathlib.Core.Path.{refl, sym, ◌∙◌}
 use native.Mathlib.Omega.{arith}
 use lib.ListN.{length}
-use borrow.Author.Tests.{not_true, not_false}
+use borrow.Author.Tests.{not-true, not-false}
 use Rattle.words.specs.View.{no_misfit_fits}
 use Rattle.packed_build.specs.Laying.{is_table, build_misfit, build_foreign, build_short, lays, build_answer_fact, build_laid}
 use borrow.Author.Rules.{rules}
@@ -22,7 +22,7 @@ returns-2 c =
     let i = c.before.is-table-of in
     let a = c.before.before.before.before.before.before.args in
     build_foreign a.table.now (sym c.before.before.before.misfit.ensures ∙ c.before.before.if1.false)
-    (sym i.ensures ∙ not_true i.result c.if2.true) a.words.now
+    (sym i.ensures ∙ not-true i.result c.if2.true) a.words.now
 
 places-requires : tie.Need-places-requires
 places-requires c κs =
@@ -31,7 +31,7 @@ places-requires c κs =
     let b4 = b3.before in
     let i = b1.before.is-table-of in
     let o = is_table b4.before.before.before.args.table.now (sym b4.misfit.ensures ∙ b3.if1.false)
-    (sym i.ensures ∙ not_false i.result b1.if2.false) in
+    (sym i.ensures ∙ not-false i.result b1.if2.false) in
     (o, refl)
 
 returns-3 : tie.Need-returns-3
@@ -46,7 +46,7 @@ returns-3 c =
     let ts = a.table.now in
     let i = b5.is-table-of in
     let p = b2.places in
-    let o = is_table ts (sym b7.misfit.ensures ∙ b6.if1.false) (sym i.ensures ∙ not_false i.result b4.if2.false) in
+    let o = is_table ts (sym b7.misfit.ensures ∙ b6.if1.false) (sym i.ensures ∙ not-false i.result b4.if2.false) in
     build_short ts o p.result p.ensures.1.0 a.words.now c.if3.true
 
 lay-requires : tie.Need-lay-requires
@@ -62,7 +62,7 @@ lay-requires c κs =
     let ts = a.table.now in
     let i = b7.is-table-of in
     let p = b4.places in
-    let o = is_table ts (sym b9.misfit.ensures ∙ b8.if1.false) (sym i.ensures ∙ not_false i.result b6.if2.false) in
+    let o = is_table ts (sym b9.misfit.ensures ∙ b8.if1.false) (sym i.ensures ∙ not-false i.result b6.if2.false) in
     lays ts o p.result p.ensures.1.0 a.words.now b2.if3.false _ p.ensures.0
 
 shared-slice-read-t18 : tie.Need-shared-slice-read-t18
@@ -88,7 +88,7 @@ returns-4 c =
     let ts = a.table.now in
     let i = b11.is-table-of in
     let p = b8.places in
-    let o = is_table ts (sym b13.misfit.ensures ∙ b12.if1.false) (sym i.ensures ∙ not_false i.result b10.if2.false) in
+    let o = is_table ts (sym b13.misfit.ensures ∙ b12.if1.false) (sym i.ensures ∙ not-false i.result b10.if2.false) in
     let n = p.result in
     let e = p.ensures.1.0 in (
       build_answer_fact ts o n e a.words.now b6.if3.false,

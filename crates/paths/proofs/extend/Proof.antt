@@ -5,7 +5,7 @@ use Prim.Native.Nat.{◌-◌}
 use native.Mathlib.Omega.{arith}
 use lib.ListN.{length}
 use borrow.Author.Rules.{rules}
-use borrow.Author.Tests.{not_true, not_false}
+use borrow.Author.Tests.{not-true, not-false}
 use Rattle.numbers.specs.Number.{number}
 use Rattle.words.specs.Frees.{table_blanks}
 use Rattle.paths.specs.Hung.{any_there, any_full, fit_table, any_unfit, any_few, any_ready, any_grown}
@@ -39,7 +39,7 @@ returns-2 c =
     let a = s.args in
     any_unfit (length a.address.now) a.words.now (number a.address.now) a.k a.j a.a s.requires.4
     s.requires.0 s.requires.1 s.requires.3 s.requires.2.levels y.before.if1.false y.byte_at.result y.byte_at.ensures.0
-    (sym f.fits2.ensures ∙ not_true _ c.if2.true)
+    (sym f.fits2.ensures ∙ not-true _ c.if2.true)
 
 cast-m : tie.Need-overflow-cast-m
 cast-m c = omega (arith, c.slice-known2.given 0)
@@ -56,7 +56,7 @@ returns-3 c =
     let s = y.before.before.before.before in
     let a = s.args in
     any_full (length a.address.now) a.words.now (number a.address.now) a.k a.j a.a s.requires.4
-    y.before.if1.false y.byte_at.result y.byte_at.ensures.0 (sym f.fits2.ensures ∙ not_false _ g.if2.false)
+    y.before.if1.false y.byte_at.result y.byte_at.ensures.0 (sym f.fits2.ensures ∙ not-false _ g.if2.false)
     (omega (arith, n.arrays-in.ensures))
 
 sub-frees : tie.Need-overflow-sub-frees
@@ -87,7 +87,7 @@ returns-4 c =
     let a = s.args in
     any_few (length a.address.now) a.words.now (number a.address.now) a.k a.j a.a s.requires.4
     s.requires.0 s.requires.1 s.requires.3 s.requires.2.levels y.before.if1.false y.byte_at.result y.byte_at.ensures.0
-    (sym f.fits2.ensures ∙ not_false _ g.if2.false) x.result x.ensures (omega (arith, n.arrays-in.ensures)) c.if4.true
+    (sym f.fits2.ensures ∙ not-false _ g.if2.false) x.result x.ensures (omega (arith, n.arrays-in.ensures)) c.if4.true
 
 hang-path-requires : tie.Need-hang-path-requires
 hang-path-requires c κs =
@@ -101,7 +101,7 @@ hang-path-requires c κs =
     let a = s.args in
     any_ready (length a.address.now) a.words.now (number a.address.now) a.k a.j a.a s.requires.4
     s.requires.0 s.requires.1 s.requires.3 s.requires.2.levels y.before.if1.false y.byte_at.result y.byte_at.ensures.0
-    (sym f.fits2.ensures ∙ not_false _ g.if2.false) x.result x.ensures (omega (arith, n.arrays-in.ensures))
+    (sym f.fits2.ensures ∙ not-false _ g.if2.false) x.result x.ensures (omega (arith, n.arrays-in.ensures))
     (omega (arith, s.requires.3, s.requires.2.levels)) e.if4.false
 
 returns-5 : tie.Need-returns-5
@@ -117,7 +117,7 @@ returns-5 c =
     let a = s.args in
     any_grown (length a.address.now) a.words.now (number a.address.now) a.k a.j a.a s.requires.4
     s.requires.0 s.requires.1 s.requires.3 s.requires.2.levels y.before.if1.false y.byte_at.result y.byte_at.ensures.0
-    (sym f.fits2.ensures ∙ not_false _ g.if2.false) x.result x.ensures
+    (sym f.fits2.ensures ∙ not-false _ g.if2.false) x.result x.ensures
     (omega (arith, n.arrays-in.ensures, e.before.before.before.if3.false)) e.if4.false
     h.new.0 h.result h.ensures.0 h.ensures.1
 

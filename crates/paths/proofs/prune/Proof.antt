@@ -2,7 +2,7 @@
 -- Assumes nothing.
 use native.Mathlib.Omega.{arith}
 use lib.ListN.{get_or}
-use borrow.Author.Tests.{not_false}
+use borrow.Author.Tests.{not-false}
 use Rattle.sizes.specs.Sizes.{array_at}
 use Rattle.array.specs.Tag.{level_in}
 use Rattle.paths.specs.Shed.{Shed, shed_none, shed_inside, shed_root, shed_some, shed_releases, shed_more, shed_falls}
@@ -61,7 +61,7 @@ loop-again c =
     rw (p.parent_in_lem.ensures, p.before.tag.ensures)
     (let l = b.before.before.before.before in
     shed_more l.loop.invariant (rw l.loop.invariant.size l.before.before.requires.1) (λ z. omega arith)
-    r.release.new.0 r.release.ensures _ b.before.empty.ensures.0 b.before.empty.ensures.1 (not_false _ b.if1.false))
+    r.release.new.0 r.release.ensures _ b.before.empty.ensures.0 b.before.empty.ensures.1 (not-false _ b.if1.false))
 
 same-length-2 : tie.Need-same-length-2 invariant-loop decreases-loop
 same-length-2 c = c.before.loop.invariant.size

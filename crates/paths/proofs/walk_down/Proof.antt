@@ -5,7 +5,7 @@ use Prim.Native.Nat.{◌-◌, ◌<◌}
 use native.Mathlib.Omega.{arith}
 use lib.ListN.{length}
 use borrow.Author.Rules.{rules}
-use borrow.Author.Tests.{not_true, not_false}
+use borrow.Author.Tests.{not-true, not-false}
 use Rattle.numbers.specs.Number.{number}
 use Rattle.paths.specs.Way.{Going, way_root, going_first, way_whole, way_short, way_fails, going_more, rung_table}
 use Rattle.paths.proofs.walk_down.Statement.{statement}
@@ -78,7 +78,7 @@ returns-3 c =
     let a = s.args in
     way_fails (length a.address.now) a.words.now (number a.address.now) a.k s.requires.2 l.loop.j l.loop.a
     l.loop.invariant.1 (omega arith) y.byte_at.result y.byte_at.ensures.0 (λ z. h.before.if2.false (b.below.ensures.0 ∙ z))
-    (sym h.hangs.ensures ∙ not_true _ c.if3.true)
+    (sym h.hangs.ensures ∙ not-true _ c.if3.true)
 
 loop-again : tie.Need-loop-preserved invariant-loop decreases-loop
 loop-again c =
@@ -91,7 +91,7 @@ loop-again c =
     let e = b.below.ensures.0 in
     let g = going_more (length a.address.now) a.words.now (number a.address.now) a.k s.requires.2 l.loop.j l.loop.a
     l.loop.invariant.1 (omega arith) y.byte_at.result y.byte_at.ensures.0 (λ z. h.before.if2.false (e ∙ z))
-    s.requires.0 s.requires.1 (sym h.hangs.ensures ∙ not_false _ c.if3.false) in
+    s.requires.0 s.requires.1 (sym h.hangs.ensures ∙ not-false _ c.if3.false) in
     (omega arith, rw e g)
 
 returns-4 : tie.Need-returns-4 invariant-loop decreases-loop

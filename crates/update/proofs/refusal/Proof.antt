@@ -3,7 +3,7 @@ use mathlib.Core.Path.{◌≡◌, sym, ◌∙◌}
 use mathlib.Core.Bool.{false}
 use lib.ListN.{length as size}
 use borrow.Author.Rules.{rules}
-use borrow.Author.Tests.{not_true, not_false}
+use borrow.Author.Tests.{not-true, not-false}
 use Rattle.routes.specs.Seen.{misfits}
 use Rattle.update.specs.Refuse.{refusal-size, refusal_fault, refusal_foreign, refusal_none}
 use Rattle.update.proofs.refusal.Statement.{statement}
@@ -27,14 +27,14 @@ returns-3 c =
     let f = c.before.before in
     let a = f.before.before.before.before.args in
     refusal_foreign a.levels a.words.now a.fault (fits f.before) f.if2.false
-    (sym c.before.is-table-of.ensures ∙ not_true _ c.if3.true)
+    (sym c.before.is-table-of.ensures ∙ not-true _ c.if3.true)
 
 returns-4 : tie.Need-returns-4
 returns-4 c =
     let f = c.before.before in
     let a = f.before.before.before.before.args in
     refusal_none a.levels a.words.now a.fault (fits f.before) f.if2.false
-    (sym c.before.is-table-of.ensures ∙ not_false _ c.if3.false)
+    (sym c.before.is-table-of.ensures ∙ not-false _ c.if3.false)
 
 pub refusal-spec : {M : Type 1} → statement M
 refusal-spec =

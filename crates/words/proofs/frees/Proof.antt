@@ -1,6 +1,6 @@
 -- `words::frees` finds free arrays one after the other, each without slots and cells. Assumes nothing.
 use Rattle.std.proofs.Common.{◌-◌, ◌≤◌, arith, rules}
-use borrow.Author.Tests.{not_true, not_false}
+use borrow.Author.Tests.{not-true, not-false}
 use Rattle.words.specs.Frees.{FreesTo, frees_none, frees_stop, frees_dirty, frees_fits, frees_known, frees_more, frees_done}
 use Rattle.words.proofs.frees.Statement.{statement}
 use Rattle.words.proofs.frees.Tie as tie
@@ -55,7 +55,7 @@ returns-2 c =
     let a = s.args in
     let ws = a.words.now in
     frees_dirty ws a.m l.loop.i l.loop.f l.loop.all l.loop.invariant.1 (omega arith) s.requires.3 g.free-after.result
-    g.free-after.ensures z.before.if1.false _ z.clean.ensures (not_true _ c.if2.true)
+    g.free-after.ensures z.before.if1.false _ z.clean.ensures (not-true _ c.if2.true)
 
 cast-all : tie.Need-overflow-cast-all invariant-loop decreases-loop
 cast-all c =
@@ -90,7 +90,7 @@ loop-again c =
     let ws = a.words.now in (
       omega arith,
       frees_more ws a.m l.loop.i l.loop.f l.loop.all l.loop.invariant.1 (omega arith) s.requires.3 g.free-after.result
-          g.free-after.ensures z.before.if1.false _ z.clean.ensures (not_false _ c.if2.false),
+          g.free-after.ensures z.before.if1.false _ z.clean.ensures (not-false _ c.if2.false),
     )
 
 returns-3 : tie.Need-returns-3 invariant-loop decreases-loop

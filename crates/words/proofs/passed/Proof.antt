@@ -1,6 +1,6 @@
 -- `words::passed` leaves out groups that are full, a stride at a time: what is left to search stays the same. Assumes nothing.
 use Rattle.std.proofs.Common.{◌+◌, ◌-◌, ◌*◌, ◌≤◌, sym, refl, ◌∙◌, arith}
-use borrow.Author.Tests.{not_false}
+use borrow.Author.Tests.{not-false}
 use Rattle.logic.specs.Reflects.{all_to_lem}
 use Rattle.sizes.specs.Sizes.{per_group, group_stride}
 use Rattle.words.specs.Words.{array_count}
@@ -34,7 +34,7 @@ loop-again c =
     record {
       fits = h;
       none = groups_shut a.words.now l.g group_stride
-          (all_to_lem _ group_stride (sym c.before.full_from.ensures ∙ not_false _ c.if1.false)) h
+          (all_to_lem _ group_stride (sym c.before.full_from.ensures ∙ not-false _ c.if1.false)) h
           ∙ l.invariant.none;
     }
 

@@ -3,7 +3,7 @@ use mathlib.Core.Path.{◌≡◌, refl, sym, ◌∙◌}
 use mathlib.Core.Bool.{true}
 use Prim.Native.Nat.{◌+◌, ◌≤◌, ◌-◌}
 use native.Mathlib.Omega.{arith}
-use borrow.Author.Tests.{not_true, not_false}
+use borrow.Author.Tests.{not-true, not-false}
 use Rattle.logic.specs.Every.{all_b}
 use Rattle.logic.specs.Reflects.{all_none, all_more, all_stop, all_done}
 use Rattle.audit.specs.Rows.{row_cells, tied_b}
@@ -40,7 +40,7 @@ returns-2 c =
     let l = c.before.before.before.loop in
     let a = c.before.before.before.before.before.before.before.args in
     all_stop (λ k. tied_b a.n a.top a.words.now a.a (a.from + k)) row_cells l.j (omega arith)
-    (sym c.before.tied.ensures ∙ not_true _ c.if2.true)
+    (sym c.before.tied.ensures ∙ not-true _ c.if2.true)
 
 loop-again : tie.Need-loop-preserved invariant-loop decreases-loop
 loop-again c =
@@ -48,7 +48,7 @@ loop-again c =
     let a = c.before.before.before.before.before.before.before.args in (
       omega arith,
       all_more (λ k. tied_b a.n a.top a.words.now a.a (a.from + k)) l.j l.invariant.1
-          (sym c.before.tied.ensures ∙ not_false _ c.if2.false),
+          (sym c.before.tied.ensures ∙ not-false _ c.if2.false),
     )
 
 returns-3 : tie.Need-returns-3 invariant-loop decreases-loop

@@ -3,7 +3,7 @@ use mathlib.Core.Path.{◌≡◌, sym, ◌∙◌}
 use mathlib.Core.Bool.{true}
 use Prim.Native.Nat.{◌≤◌, ◌-◌, ◌%◌}
 use native.Mathlib.Omega.{arith}
-use borrow.Author.Tests.{not_true, not_false}
+use borrow.Author.Tests.{not-true, not-false}
 use Rattle.logic.specs.Every.{all_b}
 use Rattle.logic.specs.Reflects.{all_none, all_done}
 use Rattle.sizes.specs.Sizes.{cell_count}
@@ -30,7 +30,7 @@ returns c =
     let l = c.before.before.before.loop in
     let a = c.before.before.before.before.before.args in
     row_stop (tied_b a.n a.top a.words.now a.a) l.i row_cells cell_count (omega arith)
-    (sym c.before.row_ok.ensures ∙ not_true _ c.if1.true)
+    (sym c.before.row_ok.ensures ∙ not-true _ c.if1.true)
 
 loop-again : tie.Need-loop-preserved invariant-loop decreases-loop
 loop-again c =
@@ -39,7 +39,7 @@ loop-again c =
       omega arith,
       omega arith,
       row_more (tied_b a.n a.top a.words.now a.a) l.i row_cells l.invariant.2
-          (sym c.before.row_ok.ensures ∙ not_false _ c.if1.false),
+          (sym c.before.row_ok.ensures ∙ not-false _ c.if1.false),
     )
 
 returns-2 : tie.Need-returns-2 invariant-loop decreases-loop

@@ -2,7 +2,7 @@
 use mathlib.Core.Path.{sym, ◌∙◌}
 use native.Mathlib.Omega.{arith}
 use lib.ListN.{length}
-use borrow.Author.Tests.{not_true, not_false}
+use borrow.Author.Tests.{not-true, not-false}
 use Rattle.words.specs.View.{no_misfit_fits}
 use Rattle.words.specs.Size.{sized}
 use Rattle.audit.proofs.Laws.{table_root, table_header, table_last}
@@ -33,7 +33,7 @@ returns-2 c =
     let tag = c.before.before.before in
     let a = tag.before.before.before.args in
     table_header a.levels a.words.now (sym tag.tag.ensures ∙ c.before.before.if1.false)
-    (sym c.before.header_ok.ensures ∙ not_true _ c.if2.true)
+    (sym c.before.header_ok.ensures ∙ not-true _ c.if2.true)
 
 candidates-of-requires : tie.Need-candidates-of-requires
 candidates-of-requires c κs =
@@ -50,7 +50,7 @@ returns-3 c =
     c.candidates-of.ensures
     ∙ table_last a.levels a.words.now n.arrays-in.result n.arrays-in.ensures
     (sym tag.tag.ensures ∙ header.before.if1.false)
-    (sym header.header_ok.ensures ∙ not_false _ c.before.if2.false)
+    (sym header.header_ok.ensures ∙ not-false _ c.before.if2.false)
 
 pub candidates-spec : {M : Type 1} → statement M
 candidates-spec =

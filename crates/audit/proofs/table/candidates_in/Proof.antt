@@ -1,7 +1,7 @@
 -- `audit::table::candidates_in` tells of one array: each way out settles the first test that decides. Assumes nothing.
 use mathlib.Core.Path.{sym, ◌∙◌}
 use borrow.Author.Rules.{rules}
-use borrow.Author.Tests.{not_true, not_false}
+use borrow.Author.Tests.{not-true, not-false}
 use Rattle.audit.proofs.Laws.{array_blank, array_unblank, array_unplaced, array_placed}
 use Rattle.audit.proofs.table.candidates_in.Statement.{statement}
 use Rattle.audit.proofs.table.candidates_in.Tie as tie
@@ -29,7 +29,7 @@ returns-3 c =
     let a = s.args in
     array_unplaced a.n a.top a.words.now a.a s.requires.0.whole
     (λ z. c.before.before.if1.false (t.tag.ensures ∙ z))
-    (sym c.before.placed.ensures ∙ not_true _ c.if3.true)
+    (sym c.before.placed.ensures ∙ not-true _ c.if3.true)
 
 returns-4 : tie.Need-returns-4
 returns-4 c =
@@ -39,7 +39,7 @@ returns-4 c =
     c.content.ensures
     ∙ array_placed a.n a.top a.words.now a.a s.requires.0.whole
     (λ z. c.before.before.before.if1.false (t.tag.ensures ∙ z))
-    (sym c.before.before.placed.ensures ∙ not_false _ c.before.if3.false)
+    (sym c.before.before.placed.ensures ∙ not-false _ c.before.if3.false)
 
 pub candidates-in-spec : {M : Type 1} → statement M
 candidates-in-spec =

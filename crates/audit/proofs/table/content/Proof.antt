@@ -2,7 +2,7 @@
 use mathlib.Core.Path.{sym, ◌∙◌}
 use native.Mathlib.Omega.{arith}
 use borrow.Author.Rules.{rules}
-use borrow.Author.Tests.{not_true, not_false}
+use borrow.Author.Tests.{not-true, not-false}
 use Rattle.audit.specs.Won.{won_of_lem}
 use Rattle.audit.proofs.Laws.{read_start, read_wrong, read_right, read_page, content_words, content_page, content_inner}
 use Rattle.audit.proofs.Laws.{content_tied, content_all}
@@ -34,7 +34,7 @@ returns-2 c =
     let a = p.before.before.args in
     content_page a.n a.top a.words.now a.a
     (read_right a.words.now _ _ a.a _ p.page.ensures.0 r.read.ensures c.before.before.before.if1.false).0
-    (sym c.before.page-ok.ensures ∙ not_true _ c.if2.true)
+    (sym c.before.page-ok.ensures ∙ not-true _ c.if2.true)
 
 inners-ok-requires : tie.Need-inners-ok-requires
 inners-ok-requires c κs =
@@ -55,8 +55,8 @@ returns-3 c =
     let a = p.before.before.args in
     content_inner a.n a.top a.words.now a.a
     (read_right a.words.now _ _ a.a _ p.page.ensures.0 r.read.ensures o.before.before.if1.false).0
-    (sym o.page-ok.ensures ∙ not_false _ c.before.before.before.if2.false)
-    (sym c.before.inners-ok.ensures ∙ not_true _ c.if3.true)
+    (sym o.page-ok.ensures ∙ not-false _ c.before.before.before.if2.false)
+    (sym c.before.inners-ok.ensures ∙ not-true _ c.if3.true)
 
 rows-ok-requires : tie.Need-rows-ok-requires
 rows-ok-requires c κs =
@@ -78,9 +78,9 @@ returns-4 c =
     let a = p.before.before.args in
     content_tied a.n a.top a.words.now a.a
     (read_right a.words.now _ _ a.a _ p.page.ensures.0 r.read.ensures o.before.before.if1.false).0
-    (sym o.page-ok.ensures ∙ not_false _ i.before.before.if2.false)
-    (sym i.inners-ok.ensures ∙ not_false _ c.before.before.before.if3.false)
-    (sym c.before.rows_ok.ensures ∙ not_true _ c.if4.true)
+    (sym o.page-ok.ensures ∙ not-false _ i.before.before.if2.false)
+    (sym i.inners-ok.ensures ∙ not-false _ c.before.before.before.if3.false)
+    (sym c.before.rows_ok.ensures ∙ not-true _ c.if4.true)
 
 returns-5 : tie.Need-returns-5
 returns-5 c =
@@ -91,9 +91,9 @@ returns-5 c =
     let a = p.before.before.args in
     let k = read_right a.words.now _ _ a.a _ p.page.ensures.0 r.read.ensures o.before.before.if1.false in
     content_all a.n a.top a.words.now a.a _ k.0 k.1
-    (sym o.page-ok.ensures ∙ not_false _ i.before.before.if2.false)
-    (sym i.inners-ok.ensures ∙ not_false _ c.before.before.before.if3.false)
-    (sym c.before.rows_ok.ensures ∙ not_false _ c.if4.false)
+    (sym o.page-ok.ensures ∙ not-false _ i.before.before.if2.false)
+    (sym i.inners-ok.ensures ∙ not-false _ c.before.before.before.if3.false)
+    (sym c.before.rows_ok.ensures ∙ not-false _ c.if4.false)
 
 pub content-spec : {M : Type 1} → statement M
 content-spec =

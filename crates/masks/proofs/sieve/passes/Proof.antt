@@ -3,7 +3,7 @@ use mathlib.Core.Path.{◌≡◌, sym, ◌∙◌}
 use mathlib.Core.Bool.{true}
 use Prim.Native.Nat.{◌-◌, ◌≤◌}
 use native.Mathlib.Omega.{arith}
-use borrow.Author.Tests.{not_true, not_false}
+use borrow.Author.Tests.{not-true, not-false}
 use Rattle.logic.specs.Every.{all_b}
 use Rattle.logic.specs.Reflects.{all_none, all_more}
 use Rattle.masks.specs.Sieve.{meets}
@@ -30,7 +30,7 @@ returns-2 : tie.Need-returns-2 invariant-loop decreases-loop
 returns-2 c =
     let a = c.before.before.before.before.before.before.before.args in
     pass_miss a.xs.now a.y a.m c.before.before.before.before.loop.x c.before.before.before.loop-test.true
-    (sym c.before.met.ensures ∙ not_true c.before.met.result c.if2.true)
+    (sym c.before.met.ensures ∙ not-true c.before.met.result c.if2.true)
 
 loop-again : tie.Need-loop-preserved invariant-loop decreases-loop
 loop-again c =
@@ -38,7 +38,7 @@ loop-again c =
     let a = c.before.before.before.before.before.before.before.args in (
       omega arith,
       all_more (meets a.xs.now a.m) l.x l.invariant.1
-          (sym c.before.met.ensures ∙ not_false c.before.met.result c.if2.false),
+          (sym c.before.met.ensures ∙ not-false c.before.met.result c.if2.false),
     )
 
 returns-3 : tie.Need-returns-3 invariant-loop decreases-loop

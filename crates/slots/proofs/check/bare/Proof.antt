@@ -4,7 +4,7 @@ use mathlib.Core.Path.{◌≡◌, sym, ◌∙◌}
 use mathlib.Core.Bool.{true}
 use Prim.Native.Nat.{◌-◌, ◌*◌, ◌≤◌}
 use native.Mathlib.Omega.{arith}
-use borrow.Author.Tests.{not_true, not_false}
+use borrow.Author.Tests.{not-true, not-false}
 use Rattle.logic.specs.Every.{all_b}
 use Rattle.logic.specs.Reflects.{all_none}
 use Rattle.sizes.specs.Sizes.{slot_at, slot_strides}
@@ -26,13 +26,13 @@ returns : tie.Need-returns invariant-loop decreases-loop
 returns c =
     let l = c.before.before.before.loop in
     let a = c.before.before.before.before.before.args in
-    bare_stop a.page.now l.g (omega arith) (sym c.before.zeros.ensures ∙ not_true _ c.if1.true)
+    bare_stop a.page.now l.g (omega arith) (sym c.before.zeros.ensures ∙ not-true _ c.if1.true)
 
 loop-again : tie.Need-loop-preserved invariant-loop decreases-loop
 loop-again c =
     let l = c.before.before.before.loop in
     let a = c.before.before.before.before.before.args in
-    (omega arith, bare_more a.page.now l.g l.invariant.1 (sym c.before.zeros.ensures ∙ not_false _ c.if1.false))
+    (omega arith, bare_more a.page.now l.g l.invariant.1 (sym c.before.zeros.ensures ∙ not-false _ c.if1.false))
 
 returns-2 : tie.Need-returns-2 invariant-loop decreases-loop
 returns-2 c =

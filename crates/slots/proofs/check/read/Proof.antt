@@ -4,7 +4,7 @@ use mathlib.Core.Path.{◌≡◌, sym, ap, ◌∙◌}
 use Prim.Native.Nat.{◌-◌, ◌%◌, ◌≤◌}
 use native.Mathlib.Omega.{arith}
 use borrow.Author.Rules.{rules}
-use borrow.Author.Tests.{not_false}
+use borrow.Author.Tests.{not-false}
 use Rattle.sizes.specs.Sizes.{last_slot}
 use Rattle.slots.specs.Count.{candidates_to, few_candidates}
 use Rattle.slots.specs.Read.{Read, read_free, read_count, read_uncounted}
@@ -51,7 +51,7 @@ loop-again-2 : tie.Need-loop-preserved-2 invariant-loop decreases-loop
 loop-again-2 c =
     let l = c.before.before.before.loop in
     let a = c.before.before.before.before.before.before.before.before.args in
-    let z = sym c.before.zeros.ensures ∙ not_false _ c.if1.false in (
+    let z = sym c.before.zeros.ensures ∙ not-false _ c.if1.false in (
       omega arith,
       omega arith,
       read_free a.page.now l.won l.bad l.s 32 z l.invariant.2,
