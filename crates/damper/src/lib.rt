@@ -1,5 +1,5 @@
-// The C face of a front before a table: each call with plain numbers, the front's words before the table's. A slice passes as a
-// pointer and a length. No call asks anything of its caller, since nothing would check it.
+// The calls of bindings/c/toggleash_damp.h, a front before a table: each call with plain numbers, the front's words before the
+// table's, under the name by which `damper_c` exports it. No call asks anything of its caller, since nothing would check it.
 #![tactic(auto)]
 
 ghost use Rattle.std.specs.Prelude.{◌≡◌};
@@ -44,29 +44,25 @@ fn counts(answer: Checked) -> Front
 // ---- the calls of bindings/c/toggleash_damp.h
 
 // The version of the table's words and of these calls, in the name: that of `toggleash`.
-#[unsafe(no_mangle)]
-pub extern "C" fn toggleash_damp_version_6() -> u32
+pub fn toggleash_damp_version_6() -> u32
     ensures { result ≡ 6 }
 {
     6
 }
 
-#[unsafe(no_mangle)]
-pub extern "C" fn toggleash_damp_clear(front: &mut [u32]) -> u32
+pub fn toggleash_damp_clear(front: &mut [u32]) -> u32
     ensures { HasCleared front.old front.new result }
 {
     damping::held::clear(front)
 }
 
-#[unsafe(no_mangle)]
-pub extern "C" fn toggleash_damp_check(front: &[u32]) -> Front
+pub fn toggleash_damp_check(front: &[u32]) -> Front
     ensures { result ≡ held (check_front (seen_front front.now)) }
 {
     counts(damping::held::check(front))
 }
 
-#[unsafe(no_mangle)]
-pub extern "C" fn toggleash_damp_announce(
+pub fn toggleash_damp_announce(
     front: &mut [u32],
     words: &mut [u32],
     address: u32,
@@ -81,8 +77,7 @@ pub extern "C" fn toggleash_damp_announce(
     change(damping::announce(front, words, address, length, hop, feed, preference))
 }
 
-#[unsafe(no_mangle)]
-pub extern "C" fn toggleash_damp_withdraw(
+pub fn toggleash_damp_withdraw(
     front: &mut [u32],
     words: &mut [u32],
     address: u32,
@@ -95,15 +90,13 @@ pub extern "C" fn toggleash_damp_withdraw(
     change(damping::withdraw(front, words, address, length, feed))
 }
 
-#[unsafe(no_mangle)]
-pub extern "C" fn toggleash_damp_tick(front: &mut [u32], words: &mut [u32]) -> Front
+pub fn toggleash_damp_tick(front: &mut [u32], words: &mut [u32]) -> Front
     ensures { HasTicked front.old words.old front.new words.new result }
 {
     counts(damping::tick::tick(front, words))
 }
 
-#[unsafe(no_mangle)]
-pub extern "C" fn toggleash_damp_run(
+pub fn toggleash_damp_run(
     front: &mut [u32],
     words: &mut [u32],
     feed: &[u8],
@@ -117,8 +110,7 @@ pub extern "C" fn toggleash_damp_run(
 
 // ---- the same, testing the front and of the table what they touch
 
-#[unsafe(no_mangle)]
-pub extern "C" fn toggleash_damp_announce_local(
+pub fn toggleash_damp_announce_local(
     front: &mut [u32],
     words: &mut [u32],
     address: u32,
@@ -133,8 +125,7 @@ pub extern "C" fn toggleash_damp_announce_local(
     change(damping::announce_local(front, words, address, length, hop, feed, preference))
 }
 
-#[unsafe(no_mangle)]
-pub extern "C" fn toggleash_damp_withdraw_local(
+pub fn toggleash_damp_withdraw_local(
     front: &mut [u32],
     words: &mut [u32],
     address: u32,
@@ -147,15 +138,13 @@ pub extern "C" fn toggleash_damp_withdraw_local(
     change(damping::withdraw_local(front, words, address, length, feed))
 }
 
-#[unsafe(no_mangle)]
-pub extern "C" fn toggleash_damp_tick_local(front: &mut [u32], words: &mut [u32]) -> Front
+pub fn toggleash_damp_tick_local(front: &mut [u32], words: &mut [u32]) -> Front
     ensures { HasTickedLocally front.old words.old front.new words.new result }
 {
     counts(damping::tick::tick_local(front, words))
 }
 
-#[unsafe(no_mangle)]
-pub extern "C" fn toggleash_damp_run_local(
+pub fn toggleash_damp_run_local(
     front: &mut [u32],
     words: &mut [u32],
     feed: &[u8],

@@ -1,4 +1,5 @@
-// The calls of compressed tables for C: the words that a table needs compressed, the build, and the lookup in what was built.
+// The calls of compressed tables for C, which `packing_c` exports: the words that a table needs compressed, the build, and the
+// lookup in what was built.
 //
 //     words ── packed_need ──▶ how many words to lend
 //       └───── packed_build ─▶ packed, carried anywhere ── packed_lookup ──▶ match
@@ -59,29 +60,25 @@ fn counts(answer: packed_build::Built) -> Built
 // ---- the calls of bindings/c/toggleash_packed.h
 
 // The version of the table's words and of these calls, in the name: that of `toggleash`.
-#[unsafe(no_mangle)]
-pub extern "C" fn toggleash_packed_version_6() -> u32
+pub fn toggleash_packed_version_6() -> u32
     ensures { result ≡ 6 }
 {
     6
 }
 
-#[unsafe(no_mangle)]
-pub extern "C" fn toggleash_packed_need(words: &[u32]) -> Needed
+pub fn toggleash_packed_need(words: &[u32]) -> Needed
     ensures { result ≡ needed (need_on (seen 4 words.now)) }
 {
     size(packed_build::need(words))
 }
 
-#[unsafe(no_mangle)]
-pub extern "C" fn toggleash_packed_build(words: &[u32], packed: &mut [u32]) -> Built
+pub fn toggleash_packed_build(words: &[u32], packed: &mut [u32]) -> Built
     ensures { HasBuilt words.now packed.old packed.new result }
 {
     counts(packed_build::build(words, packed))
 }
 
-#[unsafe(no_mangle)]
-pub extern "C" fn toggleash_packed_lookup(packed: &[u32], address: u32) -> Matched
+pub fn toggleash_packed_lookup(packed: &[u32], address: u32) -> Matched
     ensures { result ≡ matched (walk 4 packed.now address) }
 {
     let answer: Match = packed::lookup(packed, address);

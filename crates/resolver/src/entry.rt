@@ -4,7 +4,7 @@ ghost use Rattle.resolver.specs.Entry.{absent, plain_at};
 
 // A hop's interface, or 0 and the gateway to look up in turn.
 #[repr(C)]
-#[derive(Drop)]
+#[derive(Clone, Copy)]
 pub struct Hop {
     pub interface: u32,
     pub gateway: u32,

@@ -28,19 +28,17 @@ pub fn resolve_plain(words: &[u32], entries: &[u32], address: u32) -> Resolved
     r
 }
 
-// ---- the calls of bindings/c/toggleash_resolve.h
+// ---- the calls of bindings/c/toggleash_resolve.h, which `resolver_c` exports
 
 // The version of the table's words and of these calls, in the name: that of `toggleash`.
-#[unsafe(no_mangle)]
-pub extern "C" fn toggleash_resolve_version_6() -> u32
+pub fn toggleash_resolve_version_6() -> u32
     ensures { result ≡ 6 }
 {
     6
 }
 
 // The interface of an address, with the entries as they are.
-#[unsafe(no_mangle)]
-pub extern "C" fn toggleash_resolve(words: &[u32], entries: &[Hop], address: u32) -> Resolved
+pub fn toggleash_resolve(words: &[u32], entries: &[Hop], address: u32) -> Resolved
     ensures { HasResolved words.now (hops entries.now) address result }
 {
     let mut way = way::begin(words, entries.len(), address);

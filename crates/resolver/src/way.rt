@@ -19,7 +19,7 @@ pub struct Resolved {
 
 // While lookups are left, the last of those made counted, `at` is the entry of the hop that it gave, and the gateway the last
 // used. With none left the other fields are the answer.
-#[derive(Drop)]
+#[derive(Clone, Copy)]
 pub struct Way {
     pub left: u32,
     pub at: usize,

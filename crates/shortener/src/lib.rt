@@ -1,4 +1,4 @@
-// The shortest list for a program in C: a library of its own, above `shorten`.
+// The shortest list for a program in C: a library of its own, above `shorten`, which `shortener_c` exports.
 #![tactic(auto)]
 
 ghost use Rattle.std.specs.Prelude.{◌≡◌};
@@ -8,20 +8,14 @@ use answers::{Written, size};
 use writing::Counted;
 
 // The version of the table's words and of this call, in the name: that of `toggleash`.
-#[unsafe(no_mangle)]
-pub extern "C" fn toggleash_shortest_version_6() -> u32
+pub fn toggleash_shortest_version_6() -> u32
     ensures { result ≡ 6 }
 {
     6
 }
 
 // Writes the shortest list that forwards as the table does, with a scratch of at least as many words.
-#[unsafe(no_mangle)]
-pub extern "C" fn toggleash_shortest(
-    words: &[u32],
-    scratch: &mut [u32],
-    buffer: &mut [u8],
-) -> Written
+pub fn toggleash_shortest(words: &[u32], scratch: &mut [u32], buffer: &mut [u8]) -> Written
     ensures { HasWritten words.now scratch.old buffer.old
         result scratch.new buffer.new }
 {

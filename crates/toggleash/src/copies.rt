@@ -1,4 +1,4 @@
-// The copy's calls of the C face: its need, its build from the bytes of a written-out list, and its lookup.
+// The copy's calls: its need, its build from the bytes of a written-out list, and its lookup.
 ghost use Rattle.std.specs.Prelude.{◌≡◌, List};
 ghost use Rattle.routes.specs.Route.{Route, IsList};
 ghost use Rattle.routes.specs.Match.{longest};
@@ -56,22 +56,19 @@ fn counts(answer: lengths_build::Built) -> Built
 
 // ---- the calls
 
-#[unsafe(no_mangle)]
-pub extern "C" fn toggleash_copy_need(bytes: &[u8]) -> Needed
+pub fn toggleash_copy_need(bytes: &[u8]) -> Needed
     ensures { result ≡ needed (need_on (listed_in bytes.now)) }
 {
     size(lengths_build::need(bytes))
 }
 
-#[unsafe(no_mangle)]
-pub extern "C" fn toggleash_copy_build(bytes: &[u8], words: &mut [u32]) -> Built
+pub fn toggleash_copy_build(bytes: &[u8], words: &mut [u32]) -> Built
     ensures { HasBuilt bytes.now words.old words.new result }
 {
     counts(lengths_build::build(bytes, words))
 }
 
-#[unsafe(no_mangle)]
-pub extern "C" fn toggleash_copy_lookup(words: &[u32], address: u32) -> Matched
+pub fn toggleash_copy_lookup(words: &[u32], address: u32) -> Matched
     ensures value { result ≡ matched (walk words.now address) }
     ensures of_a_list { (rs : List Route) → IsList 32 rs → Laid rs words.now
         → result ≡ matched (gives (longest 32 address rs)) }

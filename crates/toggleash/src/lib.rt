@@ -1,5 +1,5 @@
-// The C face: each call of the library with plain numbers, exported under the names of bindings/c/toggleash.h. A slice passes as
-// a pointer and a length. No call asks anything of its caller, since nothing would check it.
+// The calls of bindings/c/toggleash.h: each call of the library with plain numbers, under the name by which `toggleash_c` exports
+// it. No call asks anything of its caller, since nothing would check it.
 #![tactic(auto)]
 
 pub mod copies; // the copy's calls
@@ -43,44 +43,38 @@ fn write_out(words: &[u32], family: Family, buffer: &mut [u8]) -> Written
 
 // The version is in the name, so that a caller made for another one does not link (bindings/c/toggleash.h). It rises with any
 // change that such a caller would not notice: of a call, of its answer, or of what words are a table or a copy.
-#[unsafe(no_mangle)]
-pub extern "C" fn toggleash_version_6() -> u32
+pub fn toggleash_version_6() -> u32
     ensures { result ≡ 6 }
 {
     6
 }
 
-#[unsafe(no_mangle)]
-pub extern "C" fn toggleash_clear(words: &mut [u32]) -> u32
+pub fn toggleash_clear(words: &mut [u32]) -> u32
     ensures { HasCleared v4 words.old words.new result }
 {
     number(audit::clear(words))
 }
 
-#[unsafe(no_mangle)]
-pub extern "C" fn toggleash_check(words: &[u32]) -> Counted
+pub fn toggleash_check(words: &[u32]) -> Counted
     ensures { result ≡ counted (check_on 32 (seen 4 words.now)) }
 {
     counts(audit::check(words))
 }
 
-#[unsafe(no_mangle)]
-pub extern "C" fn toggleash_lookup(words: &[u32], address: u32) -> Found
+pub fn toggleash_lookup(words: &[u32], address: u32) -> Found
     ensures { result ≡ looked (lookup_on 32 (seen 4 words.now) (walk 4 words.now address) address) }
 {
     finding(lookup::walk_of(words, address))
 }
 
-#[unsafe(no_mangle)]
-pub extern "C" fn toggleash_within(words: &[u32], address: u32, length: u32) -> Total
+pub fn toggleash_within(words: &[u32], address: u32, length: u32) -> Total
     ensures { result ≡ totalled (within_on 32 (seen 4 words.now)
         (totalWalk 4 words.now address length) address length) }
 {
     inside(within::within(words, address, length))
 }
 
-#[unsafe(no_mangle)]
-pub extern "C" fn toggleash_announce(
+pub fn toggleash_announce(
     words: &mut [u32],
     address: u32,
     length: u32,
@@ -93,27 +87,19 @@ pub extern "C" fn toggleash_announce(
     change(update::announce(words, address, length, hop, feed, preference))
 }
 
-#[unsafe(no_mangle)]
-pub extern "C" fn toggleash_withdraw(
-    words: &mut [u32],
-    address: u32,
-    length: u32,
-    feed: u32,
-) -> Updated
+pub fn toggleash_withdraw(words: &mut [u32], address: u32, length: u32, feed: u32) -> Updated
     ensures { HasUpdated v4 words.old words.new (withdrawn address length feed) result }
 {
     change(update::withdraw(words, address, length, feed))
 }
 
-#[unsafe(no_mangle)]
-pub extern "C" fn toggleash_write_out(words: &[u32], buffer: &mut [u8]) -> Written
+pub fn toggleash_write_out(words: &[u32], buffer: &mut [u8]) -> Written
     ensures { HasWritten v4 words.now buffer.old buffer.new result }
 {
     write_out(words, Family::V4, buffer)
 }
 
-#[unsafe(no_mangle)]
-pub extern "C" fn toggleash_run(words: &mut [u32], feed: &[u8], reply: &mut [u8]) -> Ran
+pub fn toggleash_run(words: &mut [u32], feed: &[u8], reply: &mut [u8]) -> Ran
     ensures { HasRun v4 words.old feed.now reply.old words.new reply.new result }
 {
     report(feed::run(words, feed, reply))

@@ -1,5 +1,5 @@
-// The calls of the C face that test what they touch, and no more, of both families: on a table as the calls of their names
-// without `local`, on any other words safe too.
+// The calls that test what they touch, and no more, of both families: on a table as the calls of their names without `local`, on
+// any other words safe too.
 ghost use Rattle.numbers.specs.Number.{number as number_of};
 ghost use Rattle.routes.specs.Family.{v4, v6};
 ghost use Rattle.candidates.specs.Answers.{announce as announced, withdraw as withdrawn};
@@ -11,8 +11,7 @@ use families::Family;
 
 // ---- IPv4
 
-#[unsafe(no_mangle)]
-pub extern "C" fn toggleash_announce_local(
+pub fn toggleash_announce_local(
     words: &mut [u32],
     address: u32,
     length: u32,
@@ -26,20 +25,13 @@ pub extern "C" fn toggleash_announce_local(
     change(update::announce_local(words, address, length, hop, feed, preference))
 }
 
-#[unsafe(no_mangle)]
-pub extern "C" fn toggleash_withdraw_local(
-    words: &mut [u32],
-    address: u32,
-    length: u32,
-    feed: u32,
-) -> Updated
+pub fn toggleash_withdraw_local(words: &mut [u32], address: u32, length: u32, feed: u32) -> Updated
     ensures { HasUpdatedLocally v4 words.old words.new (withdrawn address length feed) result }
 {
     change(update::withdraw_local(words, address, length, feed))
 }
 
-#[unsafe(no_mangle)]
-pub extern "C" fn toggleash_run_local(words: &mut [u32], feed: &[u8], reply: &mut [u8]) -> Ran
+pub fn toggleash_run_local(words: &mut [u32], feed: &[u8], reply: &mut [u8]) -> Ran
     ensures { HasRunLocally v4 words.old feed.now reply.old
         words.new reply.new result }
 {
@@ -48,8 +40,7 @@ pub extern "C" fn toggleash_run_local(words: &mut [u32], feed: &[u8], reply: &mu
 
 // ---- IPv6
 
-#[unsafe(no_mangle)]
-pub extern "C" fn toggleash_v6_announce_local(
+pub fn toggleash_v6_announce_local(
     words: &mut [u32],
     address: Ipv6,
     length: u32,
@@ -64,8 +55,7 @@ pub extern "C" fn toggleash_v6_announce_local(
     change(update::announce_local_v6(words, bytes, length, hop, feed, preference))
 }
 
-#[unsafe(no_mangle)]
-pub extern "C" fn toggleash_v6_withdraw_local(
+pub fn toggleash_v6_withdraw_local(
     words: &mut [u32],
     address: Ipv6,
     length: u32,
@@ -78,8 +68,7 @@ pub extern "C" fn toggleash_v6_withdraw_local(
     change(update::withdraw_local_v6(words, bytes, length, feed))
 }
 
-#[unsafe(no_mangle)]
-pub extern "C" fn toggleash_v6_run_local(words: &mut [u32], feed: &[u8], reply: &mut [u8]) -> Ran
+pub fn toggleash_v6_run_local(words: &mut [u32], feed: &[u8], reply: &mut [u8]) -> Ran
     ensures { HasRunLocally v6 words.old feed.now reply.old
         words.new reply.new result }
 {

@@ -1,4 +1,4 @@
-// The IPv6 calls of the C face: each as the IPv4 call of its name, on a table of sixteen levels.
+// The IPv6 calls: each as the IPv4 call of its name, on a table of sixteen levels.
 ghost use Rattle.std.specs.Prelude.{◌≡◌};
 ghost use Rattle.numbers.specs.Number.{number as number_of};
 ghost use Rattle.routes.specs.Family.{v6};
@@ -27,22 +27,19 @@ pub struct Ipv6 {
 // The levels of a table.
 const LEVELS: u32 = 16;
 
-#[unsafe(no_mangle)]
-pub extern "C" fn toggleash_v6_clear(words: &mut [u32]) -> u32
+pub fn toggleash_v6_clear(words: &mut [u32]) -> u32
     ensures { HasCleared v6 words.old words.new result }
 {
     number(audit::clear_any(words))
 }
 
-#[unsafe(no_mangle)]
-pub extern "C" fn toggleash_v6_check(words: &[u32]) -> Counted
+pub fn toggleash_v6_check(words: &[u32]) -> Counted
     ensures { result ≡ counted (check_on 128 (seen 16 words.now)) }
 {
     counts(audit::check_of(words, LEVELS))
 }
 
-#[unsafe(no_mangle)]
-pub extern "C" fn toggleash_v6_lookup(words: &[u32], address: Ipv6) -> Found
+pub fn toggleash_v6_lookup(words: &[u32], address: Ipv6) -> Found
     ensures { result ≡ looked (lookup_on 128 (seen 16 words.now)
         (walk 16 words.now (number_of address.bytes)) (number_of address.bytes)) }
 {
@@ -50,8 +47,7 @@ pub extern "C" fn toggleash_v6_lookup(words: &[u32], address: Ipv6) -> Found
     finding(lookup::walk_v6(words, bytes))
 }
 
-#[unsafe(no_mangle)]
-pub extern "C" fn toggleash_v6_within(words: &[u32], address: Ipv6, length: u32) -> Total
+pub fn toggleash_v6_within(words: &[u32], address: Ipv6, length: u32) -> Total
     ensures { result ≡ totalled (within_on 128 (seen 16 words.now)
         (totalWalk 16 words.now (number_of address.bytes) length) (number_of address.bytes) length) }
 {
@@ -59,8 +55,7 @@ pub extern "C" fn toggleash_v6_within(words: &[u32], address: Ipv6, length: u32)
     inside(within::within_v6(words, bytes, length))
 }
 
-#[unsafe(no_mangle)]
-pub extern "C" fn toggleash_v6_announce(
+pub fn toggleash_v6_announce(
     words: &mut [u32],
     address: Ipv6,
     length: u32,
@@ -75,13 +70,7 @@ pub extern "C" fn toggleash_v6_announce(
     change(update::announce_v6(words, bytes, length, hop, feed, preference))
 }
 
-#[unsafe(no_mangle)]
-pub extern "C" fn toggleash_v6_withdraw(
-    words: &mut [u32],
-    address: Ipv6,
-    length: u32,
-    feed: u32,
-) -> Updated
+pub fn toggleash_v6_withdraw(words: &mut [u32], address: Ipv6, length: u32, feed: u32) -> Updated
     ensures { HasUpdated v6 words.old words.new
         (withdrawn (number_of address.bytes) length feed) result }
 {
@@ -89,15 +78,13 @@ pub extern "C" fn toggleash_v6_withdraw(
     change(update::withdraw_v6(words, bytes, length, feed))
 }
 
-#[unsafe(no_mangle)]
-pub extern "C" fn toggleash_v6_write_out(words: &[u32], buffer: &mut [u8]) -> Written
+pub fn toggleash_v6_write_out(words: &[u32], buffer: &mut [u8]) -> Written
     ensures { HasWritten v6 words.now buffer.old buffer.new result }
 {
     write_out(words, Family::V6, buffer)
 }
 
-#[unsafe(no_mangle)]
-pub extern "C" fn toggleash_v6_run(words: &mut [u32], feed: &[u8], reply: &mut [u8]) -> Ran
+pub fn toggleash_v6_run(words: &mut [u32], feed: &[u8], reply: &mut [u8]) -> Ran
     ensures { HasRun v6 words.old feed.now reply.old words.new reply.new result }
 {
     report(feed::run_of(words, Family::V6, feed, reply))

@@ -1,0 +1,84 @@
+// The C calls that test what they touch, and no more, of both families: on a table as the calls of their names without `local`,
+// on any other words safe too.
+ghost use Rattle.numbers.specs.Number.{number as number_of};
+ghost use Rattle.routes.specs.Family.{v4, v6};
+ghost use Rattle.candidates.specs.Answers.{announce as announced, withdraw as withdrawn};
+ghost use Rattle.toggleash.specs.Local.{HasUpdatedLocally, HasRunLocally};
+
+use answers::{Ran, Updated};
+use toggleash::six::Ipv6;
+
+// ---- IPv4
+
+#[unsafe(no_mangle)]
+pub extern "C" fn toggleash_announce_local(
+    words: &mut [u32],
+    address: u32,
+    length: u32,
+    hop: u32,
+    feed: u32,
+    preference: u8,
+) -> Updated
+    ensures { HasUpdatedLocally v4 words.old words.new
+        (announced address length hop feed preference) result }
+{
+    toggleash::local::toggleash_announce_local(words, address, length, hop, feed, preference)
+}
+
+#[unsafe(no_mangle)]
+pub extern "C" fn toggleash_withdraw_local(
+    words: &mut [u32],
+    address: u32,
+    length: u32,
+    feed: u32,
+) -> Updated
+    ensures { HasUpdatedLocally v4 words.old words.new (withdrawn address length feed) result }
+{
+    toggleash::local::toggleash_withdraw_local(words, address, length, feed)
+}
+
+#[unsafe(no_mangle)]
+pub extern "C" fn toggleash_run_local(words: &mut [u32], feed: &[u8], reply: &mut [u8]) -> Ran
+    ensures { HasRunLocally v4 words.old feed.now reply.old
+        words.new reply.new result }
+{
+    toggleash::local::toggleash_run_local(words, feed, reply)
+}
+
+// ---- IPv6
+
+#[unsafe(no_mangle)]
+pub extern "C" fn toggleash_v6_announce_local(
+    words: &mut [u32],
+    address: Ipv6,
+    length: u32,
+    hop: u32,
+    feed: u32,
+    preference: u8,
+) -> Updated
+    ensures { HasUpdatedLocally v6 words.old words.new
+        (announced (number_of address.bytes) length hop feed preference) result }
+{
+    toggleash::local::toggleash_v6_announce_local(words, address, length, hop, feed, preference)
+}
+
+#[unsafe(no_mangle)]
+pub extern "C" fn toggleash_v6_withdraw_local(
+    words: &mut [u32],
+    address: Ipv6,
+    length: u32,
+    feed: u32,
+) -> Updated
+    ensures { HasUpdatedLocally v6 words.old words.new
+        (withdrawn (number_of address.bytes) length feed) result }
+{
+    toggleash::local::toggleash_v6_withdraw_local(words, address, length, feed)
+}
+
+#[unsafe(no_mangle)]
+pub extern "C" fn toggleash_v6_run_local(words: &mut [u32], feed: &[u8], reply: &mut [u8]) -> Ran
+    ensures { HasRunLocally v6 words.old feed.now reply.old
+        words.new reply.new result }
+{
+    toggleash::local::toggleash_v6_run_local(words, feed, reply)
+}
