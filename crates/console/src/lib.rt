@@ -1,7 +1,7 @@
 // The program's body: reads a feed, runs it on lent words and prints what came of it.
 #![tactic(auto)]
 
-mod address;
+mod addresses;
 mod lines;
 mod reads;
 mod text;
@@ -10,21 +10,27 @@ pub mod through; // the same through a front
 ghost use Rattle.std.specs.Prelude.{◌≤◌, length};
 
 use families::Family;
-use libc::STDOUT_FILENO;
+use std::io;
+use std::io::Read;
 
 // Reads a family's feed of at most 4,096 bytes from an open file, runs it on the lent words and prints a line for each record
 // replied to, and two lines on the whole. A longer input prints `too long` alone.
-pub fn show(fd: i32, family: Family, words: &mut [u32], reply: &mut [u8]) {
+pub fn show<R: Print, I: Read + Drop>(
+    rt: &R,
+    mut file: I,
+    family: Family,
+    words: &mut [u32],
+    reply: &mut [u8],
+) -> io::Result<()> {
     let mut input = [0u8; 4097];
-    let n = io::read_full(fd, &mut input);
+    let n = reads::fill(&mut file, &mut input)?;
     if n > 4096 {
-        io::write_all(STDOUT_FILENO, b"too long\n");
-        return;
+        return rt.write_all(b"too long\n");
     }
     // No record has a longer line for its length than a lookup of IPv4, 52 bytes for 5: all lines are under 43,000 bytes.
-    let mut out = io::large_buffer();
+    let mut out = [0u8; 65536];
     let k = output(family, words, &input[..n], reply, &mut out);
-    io::write_all(STDOUT_FILENO, &out[..k]);
+    rt.write_all(&out[..k])
 }
 
 // The whole output for a feed, at the front of `out`. Hands back its length.

@@ -1,7 +1,7 @@
 // A line for each record replied to, from the bytes of the record and of its reply.
 ghost use Rattle.std.specs.Prelude.{◌≤◌, ◌<◌, length};
 
-use crate::address::address;
+use crate::addresses::address;
 use crate::reads::{byte_at, two_at};
 use crate::text;
 use families::{Family, Role};

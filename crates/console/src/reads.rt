@@ -1,5 +1,23 @@
-// Bytes of a record or a reply as numbers. What is past the end counts as 0.
-ghost use Rattle.std.specs.Prelude.{◌+◌, ◌*◌, ◌<◌, ◌≡◌, get_or};
+// Bytes read from a file, and bytes of a record or a reply as numbers. What is past the end counts as 0.
+ghost use Rattle.std.specs.Prelude.{◌+◌, ◌*◌, ◌<◌, ◌≤◌, ◌≡◌, get_or, length, IfOk};
+
+use std::io;
+use std::io::Read;
+
+// Fills the bytes from the front, as far as the file goes, and hands back how many it gave.
+pub(crate) fn fill<I: Read>(file: &mut I, input: &mut [u8]) -> io::Result<usize>
+    ensures { IfOk result (λ n. n ≤ length input.new) }
+{
+    let mut n = 0;
+    while n < input.len() {
+        let more = file.read(&mut input[n..])?;
+        if more == 0 {
+            return Ok(n);
+        }
+        n += more;
+    }
+    Ok(n)
+}
 
 pub(crate) fn byte_at(bytes: &[u8], i: usize) -> u64
     ensures { (result ≡ get_or bytes.now i 0) × (result < 256) }

@@ -1,6 +1,8 @@
 // Text in a lent buffer: each function writes at a place and hands back the place after it. What does not fit is left out.
 ghost use Rattle.std.specs.Prelude.{◌≤◌, length};
 
+use std::io::{Cursor, Write};
+
 pub(crate) fn byte(out: &mut [u8], at: usize, b: u8) -> usize
     requires { at ≤ length out.old }
     ensures { result ≤ length out.new }
@@ -25,23 +27,28 @@ pub(crate) fn word(out: &mut [u8], at: usize, text: &[u8]) -> usize
     to
 }
 
+// Decimal digits, none of them a 0 in front of others. No number has more than 20, so they all fit.
 pub(crate) fn number(out: &mut [u8], at: usize, n: u64) -> usize
     requires { at ≤ length out.old }
     ensures { result ≤ length out.new }
 {
-    let mut digits = [0u8; 20];
-    let k = io::decimal(n, &mut digits);
-    word(out, at, &digits[..k])
+    let mut digits = Cursor::new([0u8; 20]);
+    let _ = write!(digits, "{n}");
+    let k = digits.position().min(20) as usize;
+    let text = digits.into_inner();
+    word(out, at, &text[..k])
 }
 
-// Lower-case hex digits, none of them a 0 in front of others.
+// Lower-case hex digits, none of them a 0 in front of others. No number has more than 16.
 pub(crate) fn hex(out: &mut [u8], at: usize, n: u64) -> usize
     requires { at ≤ length out.old }
     ensures { result ≤ length out.new }
 {
-    let mut digits = [0u8; 16];
-    let k = io::hex(n, 1, &mut digits);
-    word(out, at, &digits[..k])
+    let mut digits = Cursor::new([0u8; 16]);
+    let _ = write!(digits, "{n:x}");
+    let k = digits.position().min(16) as usize;
+    let text = digits.into_inner();
+    word(out, at, &text[..k])
 }
 
 // A name and a number, as ` via 1`.

@@ -3,27 +3,33 @@
 ghost use Rattle.std.specs.Prelude.{◌≤◌, ◌<◌, length};
 
 use super::lines::Place;
-use super::{ended, holds, refused, text};
+use super::{ended, holds, reads, refused, text};
 use damping::held::Checked;
 use damping_run::Progress;
 use damping_run::ask::TICK;
 use families::Family;
-use libc::STDOUT_FILENO;
+use std::io;
+use std::io::Read;
 
 // Reads an IPv4 feed of at most 4,096 bytes, with ticks, from an open file, runs it through the lent words of a front and of a
 // table, and prints the lines of the program, with one for each tick.
-pub fn show(fd: i32, front: &mut [u32], words: &mut [u32], reply: &mut [u8]) {
+pub fn show<R: Print, I: Read + Drop>(
+    rt: &R,
+    mut file: I,
+    front: &mut [u32],
+    words: &mut [u32],
+    reply: &mut [u8],
+) -> io::Result<()> {
     let mut input = [0u8; 4097];
-    let n = io::read_full(fd, &mut input);
+    let n = reads::fill(&mut file, &mut input)?;
     if n > 4096 {
-        io::write_all(STDOUT_FILENO, b"too long\n");
-        return;
+        return rt.write_all(b"too long\n");
     }
     // A tick has no longer a line than 20 bytes, and there are no more ticks than replies of 5 bytes fit: with the other lines,
     // all are under 60,000 bytes.
-    let mut out = io::large_buffer();
+    let mut out = [0u8; 65536];
     let k = output(front, words, &input[..n], reply, &mut out);
-    io::write_all(STDOUT_FILENO, &out[..k]);
+    rt.write_all(&out[..k])
 }
 
 // The whole output for a feed, at the front of `out`. Hands back its length.

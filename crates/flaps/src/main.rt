@@ -2,14 +2,14 @@
 // with 4,096 reply bytes.
 #![tactic(auto)]
 
-use libc::STDIN_FILENO;
 use rows::FRONT_WORDS;
+use std::io;
 
-fn main() {
+fn main(rt: HostRuntime) -> io::Result<()> {
     let mut front = [0u32; FRONT_WORDS];
     let mut words = [0u32; 12288];
     let mut reply = [0u8; 4096];
     damping::held::clear(&mut front);
     audit::clear(&mut words);
-    console::through::show(STDIN_FILENO, &mut front, &mut words, &mut reply);
+    console::through::show(&rt, rt.reader(), &mut front, &mut words, &mut reply)
 }

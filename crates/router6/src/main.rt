@@ -3,11 +3,11 @@
 #![tactic(auto)]
 
 use families::Family;
-use libc::STDIN_FILENO;
+use std::io;
 
-fn main() {
+fn main(rt: HostRuntime) -> io::Result<()> {
     let mut words = [0u32; 55296];
     let mut reply = [0u8; 4096];
     audit::clear_any(&mut words);
-    console::show(STDIN_FILENO, Family::V6, &mut words, &mut reply);
+    console::show(&rt, rt.reader(), Family::V6, &mut words, &mut reply)
 }
