@@ -14,7 +14,8 @@ use borrow.Author.Tests.{eq-eqb, ne_eqb, eqb-true, eqb-false}
 use Rattle.logic.specs.Cases.{same}
 use Rattle.logic.specs.Bools.{not_true, not_false}
 use Rattle.routes.specs.Route.{stray}
-use Rattle.numbers.specs.Number.{number, AreBytes, number_byte, number_rest, number_some, number_end}
+use Rattle.numbers.specs.Number.{number, AreBytes, number_some, number_end}
+use Rattle.numbers.proofs.Number.{number_byte, number_rest}
 
 -- ---- sixteen_of
 

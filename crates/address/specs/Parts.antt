@@ -55,7 +55,8 @@ module _ (bs : List ℕ) (m : ℕ) (h : m ≤ length bs) where
   filled_zero i s =
       let zs = zeros (length bs - m) in
       let e : i ≡ length (take m bs) + (i - m) = omega (arith, length-take-le m bs h) in
-      ap (λ (j : ℕ). get_or (take m bs ++ zs) j 0) e ∙ get_or-append-add (take m bs) zs (i - m) 0 ∙ zeros_byte (length bs - m) (i - m)
+      ap (λ (j : ℕ). get_or (take m bs ++ zs) j 0) e ∙ get_or-append-add (take m bs) zs (i - m) 0
+      ∙ zeros_byte (length bs - m) (i - m)
 
   pub filled-bytes : AreBytes bs → AreBytes (filled m bs)
   filled-bytes ok i = less i m (λ s _. rw (filled-own i s) (ok i)) (λ s _. omega (arith, filled_zero i s))

@@ -57,7 +57,7 @@ fn level(length: u32) -> usize
 }
 
 // Where a prefix stands: the level of its array, and its length and value there.
-#[derive(Drop)]
+#[derive(Clone, Copy)]
 pub struct Place {
     pub level: usize,
     pub depth: usize,

@@ -15,7 +15,7 @@ use replies::{Match, Reply};
 use sizes::HOP_BOUND;
 
 #[repr(C)]
-#[derive(Drop)]
+#[derive(Clone, Copy)]
 pub struct Counted {
     pub refusal: u32,
     pub routes: u32,
@@ -23,7 +23,7 @@ pub struct Counted {
 }
 
 #[repr(C)]
-#[derive(Drop)]
+#[derive(Clone, Copy)]
 pub struct Found {
     pub refusal: u32,
     pub found: u32,
@@ -33,14 +33,14 @@ pub struct Found {
 }
 
 #[repr(C)]
-#[derive(Drop)]
+#[derive(Clone, Copy)]
 pub struct Total {
     pub refusal: u32,
     pub prefixes: u32,
 }
 
 #[repr(C)]
-#[derive(Drop)]
+#[derive(Clone, Copy)]
 pub struct Updated {
     pub refusal: u32,
     pub hop: u32,
@@ -48,14 +48,14 @@ pub struct Updated {
 }
 
 #[repr(C)]
-#[derive(Drop)]
+#[derive(Clone, Copy)]
 pub struct Written {
     pub refusal: u32,
     pub bytes: u64,
 }
 
 #[repr(C)]
-#[derive(Drop)]
+#[derive(Clone, Copy)]
 pub struct Ran {
     pub refusal: u32,
     pub stop: u32,
@@ -66,14 +66,14 @@ pub struct Ran {
 }
 
 #[repr(C)]
-#[derive(Drop)]
+#[derive(Clone, Copy)]
 pub struct Needed {
     pub refusal: u32,
     pub words: u64,
 }
 
 #[repr(C)]
-#[derive(Drop)]
+#[derive(Clone, Copy)]
 pub struct Matched {
     pub refusal: u32,
     pub found: u32,

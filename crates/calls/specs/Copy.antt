@@ -5,12 +5,12 @@
 --       │                      └───── copy_build ─▶ copy, its words on the card ── copy_lookup ──▶ match
 --       └──────────────────── lookup ──────────────────────────────────────────────────────────▶ the same, and the block
 use Rattle.std.specs.Prelude.{◌≡◌, refl, List, ◌++◌, ℕ, ◌+◌, ◌*◌, ◌≤◌, ◌<◌, length, get_or, take, drop}
-use Rattle.std.proofs.Common.{sym, ap, ◌∙◌, arith, le-ltb}
+use Rattle.std.proofs.Common.{sym, ap, ◌∙◌, arith}
 use Rattle.std.proofs.Math.Seq.{take-append_seam}
 use Rattle.routes.specs.Family.{v4}
 use Rattle.routes.specs.Route.{Route}
 use Rattle.routes.specs.Route as routes
-use Rattle.routes.specs.Match.{Match, none, found, longest}
+use Rattle.routes.specs.Match.{Match, none, found}
 use Rattle.routes.specs.Answers as answers
 use Rattle.routes.specs.Seen.{gives, refuses}
 use Rattle.candidates.specs.Candidate.{Candidate, IsList}
@@ -18,17 +18,14 @@ use Rattle.candidates.specs.Winners.{winners}
 use Rattle.candidates.specs.Bytes.{written, written_plainly}
 use Rattle.candidates.specs.Seen.{Seen, misfit, foreign, table, lookup_on}
 use Rattle.logic.specs.Cases.{less}
-use Rattle.rivals.specs.Won.{winners_list}
 use Rattle.encoded.specs.Round.{written_long}
 use Rattle.words.specs.Table.{seen}
 use Rattle.lookup.specs.Walk.{walk}
-use Rattle.lengths.specs.Marks.{markers, words_for}
+use Rattle.lengths.specs.Marks.{words_for}
 use Rattle.listing.specs.Listed.{listed, listed_in}
 use Rattle.lengths_build.specs.Answer.{need_on}
-use Rattle.listing.specs.Written.{written_listed, written-plain}
+use Rattle.listing.proofs.Written.{written_listed, written-plain}
 use Rattle.lengths.specs.Layout as layout
-use Rattle.lengths.specs.Laid.{Laid, laid_walk, laid_front}
-use Rattle.lengths_build.specs.Build.{Leaves}
 use Rattle.answers.specs.Numbers.{looked, wrote}
 use Rattle.toggleash.specs.Face.{HasWritten}
 use Rattle.answers.specs.Numbers.{needed, matched}
@@ -86,19 +83,20 @@ pub any_room : (cs : List Candidate) → IsList 32 cs → (r : Needed) → r ≡
 any_room cs l r e = e ∙ rw (written_listed cs l)
 
 -- in records of kind 1 too
-pub any_room_plain : (rs : List Route) → routes.IsList 32 rs → (r : Needed) → r ≡ needed (need_on (listed_in (written_plainly rs)))
+pub any_room_plain : (rs : List Route) → routes.IsList 32 rs → (r : Needed)
+    → r ≡ needed (need_on (listed_in (written_plainly rs)))
     → r ≡ record { refusal = 0; words = words_for rs }
 any_room_plain rs l r e = e ∙ rw (written-plain rs l)
 
 -- ---- what was written out is the list of a table
 
-record Out (ws bs : List ℕ) : Type 0 where
-  arrays : ℕ
-  list : List Candidate
-  table : seen 4 ws ≡ table arrays list
-  bytes : bs ≡ written v4 list
+pub record Out (ws bs : List ℕ) : Type 0 where
+  pub arrays : ℕ
+  pub list : List Candidate
+  pub table : seen 4 ws ≡ table arrays list
+  pub bytes : bs ≡ written v4 list
 
-out : (ws b c : List ℕ) (r : Written) → HasWritten v4 ws b c r → r.refusal ≡ 0 → Out ws (take r.bytes c)
+pub out : (ws b c : List ℕ) (r : Written) → HasWritten v4 ws b c r → r.refusal ≡ 0 → Out ws (take r.bytes c)
 out ws b c r w z = go (seen 4 ws) refl
   where
     number : (n : ℕ) → r ≡ wrote (refuses n) → n ≡ 0
@@ -123,57 +121,26 @@ out ws b c r w z = go (seen 4 ws) refl
 
 -- ---- so it is built, and answers
 
-without_block_lem : (m : Match) (q : ℕ) → matched (gives m) ≡ match_of (looked (answers.matched m q))
+pub without_block_lem : (m : Match) (q : ℕ) → matched (gives m) ≡ match_of (looked (answers.matched m q))
 without_block_lem none q = refl
 without_block_lem (found h l) q = refl
 
 module _ (t : Carried) where
-  abbrev o : Out t.words (take t.wrote.bytes t.buffer')
+  abbrev pub o : Out t.words (take t.wrote.bytes t.buffer')
   o = out t.words t.buffer t.buffer' t.wrote t.writes t.taken
 
-  abbrev cs : List Candidate
+  abbrev pub cs : List Candidate
   cs = o.list
 
   -- its winners
-  abbrev rs : List Route
+  abbrev pub rs : List Route
   rs = winners cs
 
-  is_listed : listed_in t.bytes ≡ listed rs
+  pub is_listed : listed_in t.bytes ≡ listed rs
   is_listed =
       let h = held v4 o.arrays cs t.words o.table in
       ap listed_in (t.front ∙ o.bytes) ∙ written_listed cs h.list
 
-  is_needed : t.need ≡ record { refusal = 0; words = words_for rs }
-  is_needed = t.needs ∙ rw is_listed
-
-  count : t.need.words ≡ words_for rs
-  count = ap (λ (x : Needed). x.words) is_needed
-
-  room : words_for rs ≤ length t.lent
-  room = rw (← count) t.enough
-
-  is_built : t.built ≡ record { refusal = 0; routes = length rs; markers = markers rs }
-  is_built = t.builds.answer ∙ rw (is_listed, le-ltb (length t.lent) (words_for rs) room)
-
-  is_laid : Laid rs t.card
-  is_laid =
-      let l : Leaves rs t.lent t.copy = rw is_listed at t.builds.left in
-      laid_front rs t.copy t.card (rw (← count) t.long) (λ i h. t.sent i (rw count h)) (l.laid room)
-
   -- no other list is seen
-  one : (A : ℕ) (ds : List Candidate) → seen 4 t.words ≡ table A ds → cs ≡ ds
+  pub one : (A : ℕ) (ds : List Candidate) → seen 4 t.words ≡ table A ds → cs ≡ ds
   one A ds e = let q : table o.arrays cs ≡ table A ds = sym o.table ∙ e in cc
-
-  pub as_table : AsTable t
-  as_table =
-      let h = held v4 o.arrays cs t.words o.table in
-      record {
-        needs = ap (λ (x : Needed). x.refusal) is_needed;
-        builds = ap (λ (x : Built). x.refusal) is_built;
-        routes = λ A ds e. ap (λ (x : Built). x.routes) is_built ∙ ap (λ (x : List Candidate). length (winners x)) (one A ds e);
-        lookups = λ a k f g p q.
-            q
-            ∙ ap matched (laid_walk rs t.card (winners_list 32 cs h.list) is_laid a k)
-            ∙ without_block_lem (longest 32 a rs) _
-            ∙ sym (ap match_of (rw o.table at p));
-      }

@@ -5,7 +5,7 @@
 --     toggleash_clear ──▶ words ── toggleash_announce ──▶ . ── toggleash_lookup ──▶ . ── toggleash_withdraw ──▶ words'
 --           0                      refusal, hop, cells         refusal, found, ..
 use Rattle.std.specs.Prelude.{◌≡◌, refl, cond, List, [], ◌∷◌, ℕ, ◌+◌, ◌*◌, eqb, length}
-use Rattle.std.proofs.Common.{sym, ap, ◌∙◌, arith, ne_eqb}
+use Rattle.std.proofs.Common.{sym, arith, ne_eqb}
 use Rattle.logic.specs.Cases.{bool}
 use Rattle.sizes.specs.Sizes.{array_words}
 use Rattle.routes.specs.Family.{Family, levels, width}
@@ -18,16 +18,14 @@ use Rattle.audit.specs.Answer as audit
 use Rattle.audit.specs.declared.Cleared.{Cleared as Answer}
 use Rattle.audit.specs.declared.Cleared.TheVariants as answer
 use Rattle.lookup.specs.Walk.{walk}
-use Rattle.replies.specs.Said.{said_reply}
 use Rattle.answers.specs.Numbers.{refusal}
 use Rattle.toggleash.specs.Face.{HasCleared, HasUpdated}
 use Rattle.answers.specs.Numbers as numbers
 use Rattle.answers.specs.declared.Found.{Found}
 use Rattle.answers.specs.declared.Updated.{Updated}
 use Rattle.calls.specs.Held.{cleared_done}
-use Rattle.feed.specs.Series as rattle
-use Rattle.calls.specs.Below.{clear_below, lookup_below, update_below}
-use Rattle.calls.specs.Sorts.{OfLookup, lookup_looks, OfUpdate, answer_made}
+use Rattle.calls.specs.Below.{clear_below}
+use Rattle.calls.specs.Sorts.{OfLookup, OfUpdate}
 
 -- ---- numbers read as replies
 
@@ -43,13 +41,13 @@ said_lookup r =
     (refused r.refusal)
 
 -- they are read as they were meant
-update_read : (y : Reply) → OfUpdate y → said_update (numbers.updated y) ≡ y
+pub update_read : (y : Reply) → OfUpdate y → said_update (numbers.updated y) ≡ y
 update_read (done h c) p = refl
 update_read (found h l q) p = absurd p
 update_read (none q) p = absurd p
 update_read (refused n) p = rw (ne_eqb n 0 (λ e. omega arith))
 
-lookup_read : (y : Reply) → OfLookup y → said_lookup (numbers.looked y) ≡ y
+pub lookup_read : (y : Reply) → OfLookup y → said_lookup (numbers.looked y) ≡ y
 lookup_read (done h c) p = absurd p
 lookup_read (found h l q) p = refl
 lookup_read (none q) p = refl
@@ -95,19 +93,3 @@ clear_done {F} {A} {words} c = let b = clear_below F c.lent words 0 c.clears in 
 -- words that were cleared are a table that holds nothing
 pub cleared : {F : Family} {A : ℕ} {words : List ℕ} → Cleared F A words → seen (levels F) words ≡ table A []
 cleared {F} {A} {words} c = cleared_done F A c.lent words c.size (clear_done c)
-
-pub asked-below : {F : Family} {ws vs : List ℕ} {x : Record} {y : Reply} → Asked F ws x y vs → rattle.Asked (levels F) ws x y vs
-asked-below {F} {ws} {vs} (updated {u} r p) =
-    let b = update_below F ws vs u r p in
-    let e : said_update r ≡ said_reply b.answer =
-    ap said_update p.answer ∙ update_read _ (answer_made F (seen (levels F) ws) u) ∙ sym b.promise.answer in
-    rw e (rattle.updated b.answer b.promise)
-asked-below {F} {ws} (looked {a} r p) =
-    let b = lookup_below F ws a r p in
-    let e : said_lookup r ≡ said_reply b.answer = ap said_lookup p ∙ lookup_read _ (lookup_looks F ws a) ∙ sym b.promise in
-    rw e (rattle.looked b.answer b.promise)
-
-pub series_below : {F : Family} {ws vs : List ℕ} {xs : List Record} {ys : List Reply} → Series F ws xs ys vs
-    → rattle.Series (levels F) ws xs ys vs
-series_below nothing = rattle.nothing
-series_below (more a s) = rattle.more (asked-below a) (series_below s)

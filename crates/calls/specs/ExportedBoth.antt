@@ -25,7 +25,7 @@ use Rattle.feed.specs.Runs.{HasRun as Made, run_answer, report_of}
 use Rattle.feed.specs.declared.Report.{Report}
 use Rattle.feed.specs.declared.Ran.{Ran}
 use Rattle.feed.specs.declared.Ran.TheVariants.{Stopped}
-use Rattle.weaves.specs.Feeds.{Weave, flip, heard, kept, kept_both, Union, Meets, Closes, bytes, read_back}
+use Rattle.weaves.specs.Feeds.{Weave, flip, heard, kept, kept_both, Union, Closes, bytes, read_back}
 use Rattle.answers.specs.Numbers.{counted, looked, totalled, ran}
 use Rattle.toggleash.specs.Face.{HasWritten, HasRun}
 use Rattle.answers.specs.declared.Counted.{Counted}
@@ -37,7 +37,7 @@ use Rattle.calls.specs.Held.{stopped}
 use Rattle.calls.specs.Round.{filled-front}
 use Rattle.calls.specs.Both as rattle
 use Rattle.calls.specs.Below.{Below, lookup_below, within_below, check_below, write_below, run-below}
-use Rattle.calls.specs.Exported.{Cleared, Series, cleared, series_below}
+use Rattle.calls.specs.Exported.{Cleared, Series, cleared}
 
 -- ---- words that stand for a list
 
@@ -95,21 +95,21 @@ module _ {F : Family} {A : ℕ} {us : List Update} (c : Run F A us) where
   report = report_of (run F A [] (bytes F c.sent c.rest) (length c.reply))
 
   -- an answer of the run below, which is not refused either
-  abbrev b : Below (λ t. ran (run_answer t))
+  abbrev pub b : Below (λ t. ran (run_answer t))
       (Made F c.words (bytes F c.sent c.rest) c.reply c.words' c.reply') c.ran
   b = run-below F c.words (bytes F c.sent c.rest) c.reply c.words' c.reply' c.ran c.runs
 
-  is_stopped : b.answer ≡ Stopped report
+  pub is_stopped : b.answer ≡ Stopped report
   is_stopped = stopped b.answer report (rw (cleared c.cleared) at b.promise.answer)
 
-  told-ran : c.ran ≡ ran (run_answer (Stopped report))
+  pub told-ran : c.ran ≡ ran (run_answer (Stopped report))
   told-ran = b.told ∙ ap (λ (x : Ran). ran (run_answer x)) is_stopped
 
   pub taken : c.ran.refusal ≡ 0
   taken = ap (λ (x : Fields). x.refusal) told-ran
 
   -- the run below
-  abbrev under : rattle.Run F A us
+  abbrev pub under : rattle.Run F A us
   under = record {
     words = c.words;
     cleared = cleared c.cleared;
@@ -139,21 +139,6 @@ pub record RanBoth {F : Family} {A : ℕ} {xs ys zs : List Update} (w : Weave xs
   pub union : Union (kept (width F) A xs) (kept (width F) A ys) (kept_both (width F) A xs ys)
   pub left : Holds F A (kept_both (width F) A xs ys) j.words'
 
-pub demand_3_run_exported : {F : Family} {A : ℕ} {xs ys zs : List Update} (w : Weave xs ys zs) → Meets (width F) A xs ys
-    → (j : Run F A zs) (f : Run F A xs) (s : Run F A ys) → RanBoth w j f s
-demand_3_run_exported w m j f s =
-    let b = rattle.demand_3_run w m (under j) (under f) (under s) in
-    record {
-      first = b.first;
-      second = b.second;
-      accepted = rw (told-ran j, told-ran f, told-ran s) b.accepted;
-      refused = rw (told-ran j, told-ran f, told-ran s) b.refused;
-      first_list = b.called.first.list;
-      second_list = b.called.second.list;
-      union = b.called.independent.union;
-      left = holds b.left;
-    }
-
 -- ---- by toggleash_announce and toggleash_withdraw
 
 -- the updates us sent one by one to cleared words, each call as its contract allows, and what their numbers say
@@ -172,27 +157,3 @@ pub record SentBoth {F : Family} {A : ℕ} {xs ys zs : List Update} (w : Weave x
   pub second_list : seen (levels F) s.words' ≡ table A (kept (width F) A ys)
   pub union : Union (kept (width F) A xs) (kept (width F) A ys) (kept_both (width F) A xs ys)
   pub left : Holds F A (kept_both (width F) A xs ys) j.words'
-
--- the calls below
-abbrev calls : {F : Family} {A : ℕ} {us : List Update} → Sent F A us → rattle.Sent F A us
-calls c =
-    record {
-      words = c.words;
-      cleared = cleared c.cleared;
-      replies = c.replies;
-      words' = c.words';
-      calls = series_below c.calls;
-    }
-
-pub demand_3_sent_exported : {F : Family} {A : ℕ} {xs ys zs : List Update} (w : Weave xs ys zs) → Meets (width F) A xs ys
-    → (j : Sent F A zs) (f : Sent F A xs) (s : Sent F A ys) → SentBoth w j f s
-demand_3_sent_exported w m j f s =
-    let b = rattle.demand_3_sent w m (calls j) (calls f) (calls s) in
-    record {
-      first = b.first;
-      second = b.second;
-      first_list = b.first_list;
-      second_list = b.second_list;
-      union = b.union;
-      left = holds b.left;
-    }

@@ -2,7 +2,7 @@
 -- toggleash_run, the second in an order that comes from the first's by the moves. The answers agree, cells excepted, and the
 -- words are then seen alike, so that later calls are answered alike. Assumes nothing.
 use Rattle.std.specs.Prelude.{◌≡◌, List, ℕ}
-use Rattle.routes.specs.Family.{Family, levels, width}
+use Rattle.routes.specs.Family.{Family, levels}
 use Rattle.routes.specs.Answers.{Reply}
 use Rattle.candidates.specs.Candidate.{Candidate}
 use Rattle.candidates.specs.Answers.{Update, records}
@@ -10,12 +10,11 @@ use Rattle.candidates.specs.Bytes.{Sent as Bytes, meanings}
 use Rattle.candidates.specs.Seen.{table}
 use Rattle.words.specs.Table.{seen}
 use Rattle.weaves.specs.Feeds.{read_back}
-use Rattle.swaps.specs.Moves.{Moves, Reordered}
+use Rattle.swaps.specs.Moves.{Reordered}
 use Rattle.calls.specs.Moved.{told}
-use Rattle.calls.specs.Moved as rattle
 use Rattle.calls.specs.MovedRuns as runs
-use Rattle.calls.specs.Exported.{Series, series_below}
-use Rattle.calls.specs.ExportedSwapped.{LaterAlike, later_below, RunOf, run_under}
+use Rattle.calls.specs.Exported.{Series}
+use Rattle.calls.specs.ExportedSwapped.{LaterAlike, RunOf, run_under}
 
 -- ---- call by call
 
@@ -35,23 +34,6 @@ pub record Alike {F : Family} {A : ℕ} {cs : List Candidate} {us vs : List Upda
   pub list : seen (levels F) s.words' ≡ seen (levels F) t.words'
   pub later : LaterAlike F s.words' t.words'
 
--- the calls below
-abbrev under : {F : Family} {A : ℕ} {cs : List Candidate} {us : List Update} → Sent F A cs us → rattle.Sent F A cs us
-under s =
-    record {
-      words = s.words;
-      table = s.table;
-      replies = s.replies;
-      words' = s.words';
-      calls = series_below s.calls;
-    }
-
-pub moved_exported : {F : Family} {A : ℕ} {cs : List Candidate} {us vs : List Update} → Moves (width F) A cs us vs
-    → (s : Sent F A cs us) (t : Sent F A cs vs) → Alike s t
-moved_exported m s t =
-    let e = rattle.moved_sent m (under s) (under t) in
-    record { answers = e.answers; list = e.list; later = later_below e.later }
-
 -- ---- as feeds
 
 -- a log of the updates us, run as a feed
@@ -67,11 +49,5 @@ pub record LogsAlike {F : Family} {A : ℕ} {cs : List Candidate} {us vs : List 
   pub later : LaterAlike F p.ran.words' q.ran.words'
 
 -- the run below
-abbrev logged : {F : Family} {A : ℕ} {cs : List Candidate} {us : List Update} → Logged F A cs us → runs.Logged F A cs us
+abbrev pub logged : {F : Family} {A : ℕ} {cs : List Candidate} {us : List Update} → Logged F A cs us → runs.Logged F A cs us
 logged p = record { sent = p.sent; meant = p.meant; ran = run_under p.ran }
-
-pub moved_run_exported : {F : Family} {A : ℕ} {cs : List Candidate} {us vs : List Update} → Moves (width F) A cs us vs
-    → (p : Logged F A cs us) (q : Logged F A cs vs) → LogsAlike p q
-moved_run_exported m p q =
-    let e = runs.moved_run m (logged p) (logged q) in
-    record { answers = e.answers; list = e.list; later = later_below e.later }

@@ -4,7 +4,6 @@
 --     words, a table ── toggleash_write_out ──▶ bytes ── toggleash_run ──▶ words', seen as the words are
 --     as many words ─── toggleash_clear ──────▶ cleared ──────┘
 use Rattle.std.specs.Prelude.{◌≡◌, List, [], ℕ, ◌+◌, ◌*◌, ◌≤◌, length, take}
-use Rattle.std.proofs.Common.{ap, ◌∙◌, le-ltb}
 use Rattle.routes.specs.Family.{Family, levels, width}
 use Rattle.routes.specs.Bytes.{replies_bytes}
 use Rattle.candidates.specs.Candidate.{Candidate}
@@ -13,12 +12,10 @@ use Rattle.candidates.specs.Bytes.{meanings, announced}
 use Rattle.candidates.specs.Seen.{table, bytes_for}
 use Rattle.words.specs.Table.{seen}
 use Rattle.feed.specs.Runs.{HasRun as Made, run_answer}
-use Rattle.feed.specs.declared.Ran.{Ran}
 use Rattle.answers.specs.Numbers.{ran}
 use Rattle.toggleash.specs.Face.{HasCleared, HasWritten, HasRun}
 use Rattle.answers.specs.declared.Written.{Written}
 use Rattle.answers.specs.declared.Ran.{Ran as Fields}
-use Rattle.calls.specs.Held.{held}
 use Rattle.calls.specs.Round as rattle
 use Rattle.calls.specs.Below.{Below, clear_below, write_below, run-below}
 
@@ -61,12 +58,12 @@ pub record Again {F : Family} {A : ℕ} {cs : List Candidate} (t : Trip F A cs) 
   }
 
 -- the calls below
-abbrev runs : {F : Family} {A : ℕ} {cs : List Candidate} (t : Trip F A cs) → Below (λ x. ran (run_answer x))
+abbrev pub runs : {F : Family} {A : ℕ} {cs : List Candidate} (t : Trip F A cs) → Below (λ x. ran (run_answer x))
     (Made F t.cleared (take t.wrote.bytes t.buffer') t.reply t.words' t.reply') t.ran
 runs {F} t =
     run-below F t.cleared (take t.wrote.bytes t.buffer') t.reply t.words' t.reply' t.ran t.runs
 
-abbrev under : {F : Family} {A : ℕ} {cs : List Candidate} → Trip F A cs → rattle.Trip F A cs
+abbrev pub under : {F : Family} {A : ℕ} {cs : List Candidate} → Trip F A cs → rattle.Trip F A cs
 under {F} t =
     let w = write_below F t.words t.buffer t.buffer' t.wrote t.writes in
     let c = clear_below F t.lent t.cleared t.refusal t.clears in
@@ -88,15 +85,4 @@ under {F} t =
       reply' = t.reply';
       ran = (runs t).answer;
       runs = (runs t).promise;
-    }
-
-pub again_exported : {F : Family} {A : ℕ} {cs : List Candidate} (t : Trip F A cs) → Again t
-again_exported {F} {A} {cs} t =
-    let h = held F A cs t.words t.table in
-    let a = rattle.again (under t) in
-    record {
-      wrote = t.writes.answer ∙ rw (t.table, le-ltb (length t.buffer) (bytes_for F (length cs)) t.fits);
-      cleared = t.clears.answer ∙ rw (t.same, h.size);
-      list = a.list;
-      answer = (runs t).told ∙ ap (λ (x : Ran). ran (run_answer x)) a.answer;
     }

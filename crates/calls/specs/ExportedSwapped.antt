@@ -2,11 +2,11 @@
 -- two calls of toggleash_run whose feeds differ by the swap, on words that stand for one list. Assumes nothing.
 use Rattle.std.specs.Prelude.{◌≡◌, ◌≢◌, List, ℕ, length}
 use Rattle.std.proofs.Common.{ap, ◌∙◌}
-use Rattle.routes.specs.Family.{Family, levels, width}
+use Rattle.routes.specs.Family.{Family, levels}
 use Rattle.routes.specs.Answers.{Reply}
 use Rattle.candidates.specs.Candidate.{Candidate}
-use Rattle.candidates.specs.Answers.{Update, Record, update, plain, leaves}
-use Rattle.candidates.specs.Bytes.{Sent, means, meanings, AllFit}
+use Rattle.candidates.specs.Answers.{Update, Record, update, plain}
+use Rattle.candidates.specs.Bytes.{Sent, AllFit}
 use Rattle.candidates.specs.Runs.{run}
 use Rattle.candidates.specs.Seen.{table}
 use Rattle.words.specs.Table.{seen}
@@ -15,24 +15,18 @@ use Rattle.feed.specs.declared.Report.{Report}
 use Rattle.feed.specs.declared.Ran.{Ran}
 use Rattle.feed.specs.declared.Ran.TheVariants.{Stopped}
 use Rattle.weaves.specs.Feeds.{Closes, bytes}
-use Rattle.swaps.specs.Moves.{Move}
 use Rattle.answers.specs.Numbers.{ran}
 use Rattle.toggleash.specs.Face.{HasRun}
 use Rattle.answers.specs.declared.Ran.{Ran as Fields}
 use Rattle.calls.specs.Held.{stopped}
 use Rattle.calls.specs.Below.{Below, run-below}
-use Rattle.calls.specs.Exported.{Asked, Series, asked-below, series_below}
-use Rattle.calls.specs.Swapped as rattle
-use Rattle.calls.specs.SwappedFeeds.{neighbours}
+use Rattle.calls.specs.Exported.{Asked, Series}
 use Rattle.calls.specs.SwappedRuns as runs
 
 -- later calls tell two such runs of words not apart
 pub record LaterAlike (F : Family) (ws vs : List ℕ) : Type 0 where
   pub calls : {ws' vs' : List ℕ} {xs : List Record} {ys zs : List Reply} → Series F ws xs ys ws' → Series F vs xs zs vs'
       → (ys ≡ zs) × (seen (levels F) ws' ≡ seen (levels F) vs')
-
-pub later_below : {F : Family} {ws vs : List ℕ} → rattle.LaterAlike F ws vs → LaterAlike F ws vs
-later_below l = record { calls = λ a b. l.calls (series_below a) (series_below b) }
 
 -- ---- four calls
 
@@ -46,33 +40,6 @@ pub record InTurn (F : Family) (A : ℕ) (cs : List Candidate) (u v : Update) : 
   pub second : Reply
   pub calls_first : Asked F words (update u) first between
   pub calls-second : Asked F between (update v) second words'
-
--- the calls below
-abbrev pub under : {F : Family} {A : ℕ} {cs : List Candidate} {u v : Update} → InTurn F A cs u v → rattle.InTurn F A cs u v
-under p =
-    record {
-      words = p.words;
-      is = p.is;
-      between = p.between;
-      words' = p.words';
-      first = p.first;
-      second = p.second;
-      calls_first = asked-below p.calls_first;
-      calls-second = asked-below p.calls-second;
-    }
-
-pub record CallsSwapped {F : Family} {A : ℕ} {cs : List Candidate} {u v : Update}
-    (p : InTurn F A cs u v) (q : InTurn F A cs v u) : Type 0 where
-  pub one : plain p.first ≡ plain q.second
-  pub other : plain p.second ≡ plain q.first
-  pub list : seen (levels F) p.words' ≡ seen (levels F) q.words'
-  pub later : LaterAlike F p.words' q.words'
-
-pub calls_swapped_exported : {F : Family} {A : ℕ} {cs : List Candidate} {u v : Update} → Move (width F) A cs u v
-    → (p : InTurn F A cs u v) (q : InTurn F A cs v u) → CallsSwapped p q
-calls_swapped_exported m p q =
-    let e = rattle.calls_swapped m (under p) (under q) in
-    record { one = e.one; other = e.other; list = e.list; later = later_below e.later }
 
 -- ---- two runs
 
@@ -94,7 +61,7 @@ module _ {F : Family} {A : ℕ} {cs : List Candidate} {ss : List Sent} (c : RunO
   abbrev pub report : Report
   report = report_of (run F A cs (bytes F ss c.rest) (length c.reply))
 
-  abbrev b : Below (λ t. ran (run_answer t))
+  abbrev pub b : Below (λ t. ran (run_answer t))
       (Made F c.words (bytes F ss c.rest) c.reply c.words' c.reply') c.ran
   b = run-below F c.words (bytes F ss c.rest) c.reply c.words' c.reply' c.ran c.runs
 
@@ -129,9 +96,9 @@ pub record RunsSwapped {F : Family} {A : ℕ} {cs : List Candidate} {ss ts : Lis
   pub below : runs.RunsSwapped (run_under p) (run_under q)
   pub later : LaterAlike F p.words' q.words'
 
-pub runs_swapped_exported : {F : Family} {A : ℕ} {cs : List Candidate} (xs zs : List Sent) (u v : Update) (x y : Sent)
-    → Move (width F) A (leaves (width F) A cs (meanings xs)) u v → means x ≡ update u → means y ≡ update v
-    → (p : RunOf F A cs (neighbours xs x y zs)) (q : RunOf F A cs (neighbours xs y x zs)) → RunsSwapped p q
-runs_swapped_exported xs zs u v x y m ex ey p q =
-    let e = runs.runs_swapped xs zs u v x y m ex ey (run_under p) (run_under q) in
-    record { below = e; later = later_below e.later }
+pub record CallsSwapped {F : Family} {A : ℕ} {cs : List Candidate} {u v : Update}
+    (p : InTurn F A cs u v) (q : InTurn F A cs v u) : Type 0 where
+  pub one : plain p.first ≡ plain q.second
+  pub other : plain p.second ≡ plain q.first
+  pub list : seen (levels F) p.words' ≡ seen (levels F) q.words'
+  pub later : LaterAlike F p.words' q.words'

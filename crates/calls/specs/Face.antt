@@ -17,7 +17,8 @@ use Rattle.listing.specs.Listed.{listed, listed_in}
 use Rattle.lengths_build.specs.Answer.{need_on, build_on}
 use Rattle.listing.specs.Records.{Bytes}
 use Rattle.lengths.specs.Layout as copy
-use Rattle.lengths_build.specs.Sharp.{Alike, words_sharp}
+use Rattle.lengths_build.specs.Sharp.{Alike}
+use Rattle.lengths_build.proofs.Sharp.{words_sharp}
 use Rattle.answers.specs.Numbers.{counted, looked, totalled}
 use Rattle.toggleash.specs.Face.{HasCleared, HasUpdated, HasWritten, HasRun}
 use Rattle.answers.specs.Numbers.{needed, matched}

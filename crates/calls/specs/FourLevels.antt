@@ -3,9 +3,11 @@
 --     header │ array 1 ──cell 10──► array 2 ──cell 1──► array 3 ──cell 1──► array 4
 --              10.0.0.0/8           10.1.0.0/16         10.1.1.0/24         10.1.1.1/32
 --              feed 1               feed 2              feed 3              feeds 1 and 4
-use Rattle.std.specs.Prelude.{◌≡◌, refl, ◌⊎◌, ◌≢◌, List, [], ◌∷◌, ℕ, zero, suc, ◌+◌, ◌-◌, ◌*◌, ◌/◌, ◌^◌, ◌≤◌, ◌<◌, length, get_or, set}
+use Rattle.std.specs.Prelude.{◌≡◌, refl, ◌⊎◌, ◌≢◌, List, [], ◌∷◌, ℕ, zero, suc, ◌+◌, ◌-◌, ◌*◌, ◌/◌, ◌^◌, ◌≤◌, ◌<◌, length, get_or}
+use Rattle.std.specs.Prelude.{set}
 use Rattle.std.proofs.Math.Path.{sym}
-use Rattle.std.proofs.Common.{ap, ap₂, ◌∙◌, inl, inr, ⊎_elim, div-le_self, arith, length-set, get_or-set_same, get_or-set_other, shr-shr, shr_lt}
+use Rattle.std.proofs.Common.{ap, ap₂, ◌∙◌, inl, inr, ⊎_elim, div-le_self, arith, length-set, get_or-set_same, get_or-set_other}
+use Rattle.std.proofs.Common.{shr-shr, shr_lt}
 use Rattle.std.proofs.Math.Seq.{ext_get_or}
 use Rattle.sizes.specs.Sizes.{array_words, slot_at, slot_end, cell_count, cells_at, cell_slots, totals_at, total_at, array_at}
 use Rattle.sizes.specs.Sizes.{word_at, cell_at, hop_bound}
@@ -33,8 +35,9 @@ use Rattle.tree.specs.Arrays.{Arrays, lev, node}
 use Rattle.tree.specs.Tree.{node-level}
 use Rattle.tree.specs.Need.{node_child}
 use Rattle.gather.specs.Views.{feed_view, word_held, view_shape}
-use Rattle.gather.specs.Hung.{gathered_same}
-use Rattle.gather.specs.WordSet.{TreeWordSet, tree_put}
+use Rattle.gather.proofs.Hung.{gathered_same}
+use Rattle.gather.specs.WordSet.{TreeWordSet}
+use Rattle.gather.proofs.WordSet.{tree_put}
 use Rattle.totals.specs.Sums.{Sums}
 use Rattle.words.specs.Words.{feeds_of, arrays_of, array_count, words_of, slots_of, bests_of, blocks_of, totals_of}
 use Rattle.words.specs.TableBut.{TableBut}
@@ -350,7 +353,8 @@ module _ (ws : List ℕ) (a x f n h : ℕ) (array : 1 ≤ a) (inside : array_at 
   tag_kept : get_or (posted ws a x f w) (array_at a) 0 ≡ get_or ws (array_at a) 0
   tag_kept =
       let e : array_at a ≡ word_at a 0 = omega arith in
-      ap (λ (k : ℕ). get_or (anew ps a) k 0) e ∙ anew-low ps a room 0 (omega arith) ∙ ap (λ (k : ℕ). get_or ps k 0) (sym e) ∙ tag_same
+      ap (λ (k : ℕ). get_or (anew ps a) k 0) e ∙ anew-low ps a room 0 (omega arith) ∙ ap (λ (k : ℕ). get_or ps k 0) (sym e)
+      ∙ tag_same
 
   outside : (k : ℕ) → (k < array_at a) ⊎ (array_at (a + 1) ≤ k) → get_or (posted ws a x f w) k 0 ≡ get_or ws k 0
   outside k o =

@@ -5,18 +5,16 @@
 --     words, a table ── u₁ u₂ u₃ ──▶ words'           seen alike, though the layouts may differ
 --     words, alike ──── u₂ u₁ u₃ ──▶ words'
 use Rattle.std.specs.Prelude.{◌≡◌, refl, List, [], ◌∷◌, ℕ}
-use Rattle.std.proofs.Common.{sym, ap, ◌∙◌}
-use Rattle.routes.specs.Family.{Family, levels, width}
+use Rattle.std.proofs.Common.{ap}
+use Rattle.routes.specs.Family.{Family, levels}
 use Rattle.routes.specs.Answers.{Reply}
 use Rattle.candidates.specs.Candidate.{Candidate}
 use Rattle.candidates.specs.Answers.{Update, plain, answer, after, records, replies, leaves}
 use Rattle.candidates.specs.Seen.{table}
-use Rattle.laws.specs.Families.{width_low}
 use Rattle.words.specs.Table.{seen}
-use Rattle.feed.specs.Series.{Series, all_answered}
-use Rattle.swaps.specs.Moves.{Moves, Told, tolds, ends, Reordered}
-use Rattle.swaps.specs.Any.{moved}
-use Rattle.calls.specs.Swapped.{LaterAlike, later_alike, is_table}
+use Rattle.feed.specs.Series.{Series}
+use Rattle.swaps.specs.Moves.{Told, tolds, ends, Reordered}
+use Rattle.calls.specs.Swapped.{LaterAlike}
 
 -- the updates us sent one by one to a table of A arrays that stands for cs, each call as its contract allows
 pub record Sent (F : Family) (A : ℕ) (cs : List Candidate) (us : List Update) : Type 0 where
@@ -49,18 +47,3 @@ told_is W A cs (u ∷ us) =
 pub ends_is : (W A : ℕ) (cs : List Candidate) (us : List Update) → leaves W A cs (records us) ≡ ends W A cs us
 ends_is W A cs [] = refl
 ends_is W A cs (u ∷ us) = ends_is W A (after W A cs u) us
-
-pub moved_sent : {F : Family} {A : ℕ} {cs : List Candidate} {us vs : List Update} → Moves (width F) A cs us vs
-    → (s : Sent F A cs us) (t : Sent F A cs vs) → Alike s t
-moved_sent {F} {A} {cs} {us} {vs} m s t =
-    let e = moved (width F) (width_low F) A cs us vs (is_table F A cs s.words s.table) m in
-    let p = all_answered (levels F) A cs s.table s.calls in
-    let q = all_answered (levels F) A cs t.table t.calls in
-    let x : seen (levels F) s.words' ≡ table A (ends (width F) A cs us) = p.list ∙ ap (table A) (ends_is (width F) A cs us) in
-    let y : seen (levels F) t.words' ≡ table A (ends (width F) A cs us) =
-    q.list ∙ ap (table A) (ends_is (width F) A cs vs ∙ sym e.list) in
-    record {
-      answers = rw (p.answers, q.answers, told_is (width F) A cs us, told_is (width F) A cs vs) e.answers;
-      list = x ∙ sym y;
-      later = later_alike F A (ends (width F) A cs us) s.words' t.words' x y;
-    }

@@ -4,24 +4,22 @@
 --     words ── run: u₁ u₂ u₃ ──▶ words', reply'        the replies, read back from reply', are the same in another order, cells
 --     words ── run: u₂ u₁ u₃ ──▶ words', reply'        excepted; and the words stand for one list again
 use Rattle.std.specs.Prelude.{◌≡◌, List, [], ◌++◌, ℕ, length, drop}
-use Rattle.std.proofs.Common.{sym, ap, ◌∙◌}
+use Rattle.std.proofs.Common.{ap, ◌∙◌}
 use Rattle.routes.specs.Family.{Family, levels, width}
 use Rattle.routes.specs.Bytes.{replies_bytes}
 use Rattle.candidates.specs.Candidate.{Candidate}
 use Rattle.candidates.specs.Answers.{Update, Record, records, replies, leaves}
 use Rattle.candidates.specs.Bytes.{Sent, meanings}
 use Rattle.candidates.specs.Seen.{table}
-use Rattle.laws.specs.Families.{width_low}
 use Rattle.encoded.specs.Replies.{answers_back}
 use Rattle.words.specs.Table.{seen}
 use Rattle.weaves.specs.Feeds.{read_back}
 use Rattle.weaves.specs.Fed.{as_many}
-use Rattle.swaps.specs.Moves.{Moves, ends, Reordered}
-use Rattle.swaps.specs.Any.{moved}
-use Rattle.calls.specs.Swapped.{LaterAlike, later_alike, is_table}
+use Rattle.swaps.specs.Moves.{ends, Reordered}
+use Rattle.calls.specs.Swapped.{LaterAlike, is_table}
 use Rattle.calls.specs.SwappedFeeds.{feed-replies, feed_list}
 use Rattle.calls.specs.SwappedRuns.{RunOf, feed_run, ran_to, run-replies, run_list}
-use Rattle.calls.specs.Moved.{told, told_is, ends_is}
+use Rattle.calls.specs.Moved.{told, ends_is}
 
 -- a log of the updates us, run as a feed
 pub record Logged (F : Family) (A : ℕ) (cs : List Candidate) (us : List Update) : Type 0 where
@@ -38,7 +36,7 @@ pub record LogsAlike {F : Family} {A : ℕ} {cs : List Candidate} {us vs : List 
 
 module _ {F : Family} {A : ℕ} {cs : List Candidate} {us : List Update} (p : Logged F A cs us) where
   -- the replies read back are those of the list
-  read : read_back us p.ran.reply' ≡ replies (width F) A cs (records us)
+  pub read : read_back us p.ran.reply' ≡ replies (width F) A cs (records us)
   read =
       let c = p.ran in
       let spare : List ℕ = drop (length (ran_to c).end.replies) c.reply in
@@ -46,18 +44,7 @@ module _ {F : Family} {A : ℕ} {cs : List Candidate} {us : List Update} (p : Lo
       ap (read_back us) (run-replies c ∙ ap (λ (bs : List ℕ). bs ++ spare) e)
       ∙ rw (as_many us) at (answers_back F A cs (records us) [] spare (is_table F A cs c.words c.is).list.candidates)
 
-  left : seen (levels F) p.ran.words' ≡ table A (ends (width F) A cs us)
+  pub left : seen (levels F) p.ran.words' ≡ table A (ends (width F) A cs us)
   left =
       run_list p.ran
       ∙ ap (table A) (feed_list (feed_run p.ran) ∙ ap (leaves (width F) A cs) p.meant ∙ ends_is (width F) A cs us)
-
-pub moved_run : {F : Family} {A : ℕ} {cs : List Candidate} {us vs : List Update} → Moves (width F) A cs us vs
-    → (p : Logged F A cs us) (q : Logged F A cs vs) → LogsAlike p q
-moved_run {F} {A} {cs} {us} {vs} m p q =
-    let e = moved (width F) (width_low F) A cs us vs (is_table F A cs p.ran.words p.ran.is) m in
-    let y : seen (levels F) q.ran.words' ≡ table A (ends (width F) A cs us) = left q ∙ ap (table A) (sym e.list) in
-    record {
-      answers = rw (read p, read q, told_is (width F) A cs us, told_is (width F) A cs vs) e.answers;
-      list = left p ∙ sym y;
-      later = later_alike F A (ends (width F) A cs us) p.ran.words' q.ran.words' (left p) y;
-    }

@@ -12,7 +12,7 @@ use Rattle.candidates.specs.Candidate.{Candidate}
 use Rattle.candidates.specs.Answers.{replies}
 use Rattle.candidates.specs.Bytes.{meanings, announced, written}
 use Rattle.candidates.specs.Seen.{Seen, table, bytes_for, front_on}
-use Rattle.encoded.specs.Round.{round_trip}
+use Rattle.encoded.proofs.Round.{round_trip}
 use Rattle.words.specs.Table.{seen}
 use Rattle.audit.specs.Answer.{HasCleared}
 use Rattle.audit.specs.declared.Cleared.{Cleared}

@@ -11,7 +11,7 @@ use Rattle.routes.specs.Answers.{Reply}
 use Rattle.routes.specs.Seen.{gives}
 use Rattle.candidates.specs.Answers.{records}
 use Rattle.candidates.specs.Seen.{check_on}
-use Rattle.candidates.specs.Small.{Case, list_before, list_after, got, gots, small, small_cases, further, further-cases}
+use Rattle.candidates.specs.Small.{Case, list_before, list_after, got}
 use Rattle.words.specs.Table.{seen}
 use Rattle.audit.specs.Answer.{HasCleared, check_answer}
 use Rattle.audit.specs.declared.Cleared.TheVariants.{Done}
@@ -41,7 +41,7 @@ pub record AsSaid (c : Case) (p : Played c) : Type 0 where
   pub answer : p.told ≡ c.gives
   pub arrays : check_answer p.counts ≡ gives (record { routes = length (list_after c); arrays = c.arrays })
 
-as_said : (c : Case) → got c ≡ c → (p : Played c) → AsSaid c p
+pub as_said : (c : Case) → got c ≡ c → (p : Played c) → AsSaid c p
 as_said c e p =
     let t = cleared_done v4 c.room p.lent p.cleared p.size p.clears in
     let b = all_answered 4 c.room [] t p.took in
@@ -58,15 +58,3 @@ as_said c e p =
 abbrev pub Each : (Case → Type 0) → List Case → Type 0
 Each P [] = Unit {0}
 Each P (c ∷ cs) = P c × Each P cs
-
-each : (cs : List Case) → gots cs ≡ cs → Each (λ c. (p : Played c) → AsSaid c p) cs
-each [] e = tt
-each (c ∷ cs) e = (as_said c (cc), each cs (cc))
-
--- P1 to P12
-pub small_called : Each (λ c. (p : Played c) → AsSaid c p) small
-small_called = each small small_cases.0
-
--- the A = 4 case, bad input, and the traps of the trade
-pub further_called : Each (λ c. (p : Played c) → AsSaid c p) further
-further_called = each further further-cases

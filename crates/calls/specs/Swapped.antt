@@ -4,19 +4,16 @@
 --     words  ── u ──▶ . ── v ──▶ words'        words stand for one list on both lines, and so do words': the answers agree, cells
 --     words  ── v ──▶ . ── u ──▶ words'        excepted, and all later ones, cells included
 use Rattle.std.specs.Prelude.{◌≡◌, List, ℕ}
-use Rattle.std.proofs.Common.{sym, ap, ◌∙◌}
+use Rattle.std.proofs.Common.{ap}
 use Rattle.routes.specs.Family.{Family, levels, width}
 use Rattle.routes.specs.Answers.{Reply}
 use Rattle.candidates.specs.Candidate.{Candidate}
 use Rattle.candidates.specs.Answers.{Update, Record, update, answer, after, plain}
 use Rattle.candidates.specs.Seen.{table}
-use Rattle.laws.specs.Families.{width_low}
 use Rattle.words.specs.Table.{seen}
 use Rattle.feed.specs.Series.{Series, Asked, answered}
-use Rattle.swaps.specs.Moves.{Table, Move}
-use Rattle.swaps.specs.Any.{swapped}
+use Rattle.swaps.specs.Moves.{Table}
 use Rattle.calls.specs.Held.{held}
-use Rattle.calls.specs.Sharp.{layout_unseen}
 
 -- ---- words that stand for one list
 
@@ -24,10 +21,6 @@ use Rattle.calls.specs.Sharp.{layout_unseen}
 pub record LaterAlike (F : Family) (ws vs : List ℕ) : Type 0 where
   pub calls : {ws' vs' : List ℕ} {xs : List Record} {ys zs : List Reply} → Series (levels F) ws xs ys ws'
       → Series (levels F) vs xs zs vs' → (ys ≡ zs) × (seen (levels F) ws' ≡ seen (levels F) vs')
-
-pub later_alike : (F : Family) (A : ℕ) (cs : List Candidate) (ws vs : List ℕ) → seen (levels F) ws ≡ table A cs
-    → seen (levels F) vs ≡ table A cs → LaterAlike F ws vs
-later_alike F A cs ws vs p q = record { calls = λ a b. layout_unseen F A cs p q a b }
 
 -- the list fits the arrays, as that of every table does
 pub is_table : (F : Family) (A : ℕ) (cs : List Candidate) (ws : List ℕ) → seen (levels F) ws ≡ table A cs → Table (width F) A cs
@@ -66,15 +59,3 @@ module _ {F : Family} {A : ℕ} {cs : List Candidate} {u v : Update} (p : InTurn
 
   pub end_is : seen (levels F) p.words' ≡ table A (after (width F) A (after (width F) A cs u) v)
   end_is = (answered (levels F) A (after (width F) A cs u) between_is p.calls-second).list
-
-pub calls_swapped : {F : Family} {A : ℕ} {cs : List Candidate} {u v : Update} → Move (width F) A cs u v
-    → (p : InTurn F A cs u v) (q : InTurn F A cs v u) → CallsSwapped p q
-calls_swapped {F} {A} {cs} {u} {v} m p q =
-    let s = swapped (width F) (width_low F) A cs u v (is_table F A cs p.words p.is) m in
-    let e : seen (levels F) p.words' ≡ seen (levels F) q.words' = end_is p ∙ ap (table A) s.list ∙ sym (end_is q) in
-    record {
-      one = ap plain (first_is p) ∙ s.one ∙ ap plain (sym (second_is q));
-      other = ap plain (second_is p) ∙ s.other ∙ ap plain (sym (first_is q));
-      list = e;
-      later = later_alike F A (after (width F) A (after (width F) A cs v) u) p.words' q.words' (e ∙ end_is q) (end_is q);
-    }

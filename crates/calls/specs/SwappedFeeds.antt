@@ -15,7 +15,8 @@ use Rattle.candidates.specs.Runs.{Ran, fresh, run}
 use Rattle.laws.specs.Families.{width_low}
 use Rattle.encoded.specs.Encoded.{ended}
 use Rattle.weaves.specs.Feeds.{Closes, bytes}
-use Rattle.weaves.specs.Enough.{closed, run_enough}
+use Rattle.weaves.specs.Enough.{closed}
+use Rattle.weaves.proofs.Enough.{run_enough}
 use Rattle.swaps.specs.Moves.{Table, Move}
 use Rattle.swaps.specs.Any.{swap}
 use Rattle.swaps.specs.Proved.{Holds, table_holds, after_holds}

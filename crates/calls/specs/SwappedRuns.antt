@@ -4,12 +4,10 @@
 --     words ── run: before, x, y, after ──▶ words', reply'      the words stand for one list again, and the reply bytes to before
 --     words ── run: before, y, x, after ──▶ words', reply'      and to after are the same
 use Rattle.std.specs.Prelude.{◌≡◌, ◌≢◌, List, ◌++◌, ℕ, length, drop}
-use Rattle.std.proofs.Common.{sym, ap, ◌∙◌}
-use Rattle.routes.specs.Family.{Family, levels, width}
+use Rattle.std.proofs.Common.{ap, ◌∙◌}
+use Rattle.routes.specs.Family.{Family, levels}
 use Rattle.candidates.specs.Candidate.{Candidate}
-use Rattle.candidates.specs.Answers.{Update, update}
-use Rattle.candidates.specs.Answers as answers
-use Rattle.candidates.specs.Bytes.{Sent, means, meanings, AllFit}
+use Rattle.candidates.specs.Bytes.{Sent, AllFit}
 use Rattle.candidates.specs.Runs.{Ran, run}
 use Rattle.candidates.specs.Seen.{table}
 use Rattle.laws.specs.Given.{given_one}
@@ -18,9 +16,8 @@ use Rattle.feed.specs.Runs.{HasRun, report_of}
 use Rattle.feed.specs.declared.Report.{Report}
 use Rattle.feed.specs.declared.Ran.TheVariants.{Stopped}
 use Rattle.weaves.specs.Feeds.{Closes, bytes}
-use Rattle.swaps.specs.Moves.{Move}
-use Rattle.calls.specs.Swapped.{LaterAlike, later_alike, is_table}
-use Rattle.calls.specs.SwappedFeeds.{neighbours, FeedRun, outcome, FeedsSwapped, feeds_swapped}
+use Rattle.calls.specs.Swapped.{LaterAlike}
+use Rattle.calls.specs.SwappedFeeds.{FeedRun, outcome, FeedsSwapped}
 
 -- a run of the records ss on words that stand for cs, as its contract allows, which did not stop for want of reply room
 pub record RunOf (F : Family) (A : ℕ) (cs : List Candidate) (ss : List Sent) : Type 0 where
@@ -67,17 +64,3 @@ pub record RunsSwapped {F : Family} {A : ℕ} {cs : List Candidate} {ss ts : Lis
   pub other_replies : q.reply' ≡ (ran_to q).end.replies ++ drop (length (ran_to q).end.replies) q.reply
   pub list : seen (levels F) p.words' ≡ seen (levels F) q.words'
   pub later : LaterAlike F p.words' q.words'
-
-pub runs_swapped : {F : Family} {A : ℕ} {cs : List Candidate} (xs zs : List Sent) (u v : Update) (x y : Sent)
-    → Move (width F) A (answers.leaves (width F) A cs (meanings xs)) u v → means x ≡ update u → means y ≡ update v
-    → (p : RunOf F A cs (neighbours xs x y zs)) (q : RunOf F A cs (neighbours xs y x zs)) → RunsSwapped p q
-runs_swapped {F} {A} {cs} xs zs u v x y m ex ey p q =
-    let f = feeds_swapped F A cs xs zs u v x y (is_table F A cs p.words p.is) m ex ey (feed_run p) (feed_run q) in
-    let e : seen (levels F) p.words' ≡ seen (levels F) q.words' = run_list p ∙ ap (table A) f.list ∙ sym (run_list q) in
-    record {
-      feeds = f;
-      one_replies = run-replies p;
-      other_replies = run-replies q;
-      list = e;
-      later = later_alike F A (ran_to q).end.list p.words' q.words' (e ∙ run_list q) (run_list q);
-    }

@@ -5,7 +5,6 @@
 --     cleared words ── first ─▶ words of its list          so they answer by the join
 --     cleared words ── second ▶ words of its list
 use Rattle.std.specs.Prelude.{◌≡◌, ◌≢◌, List, [], ◌++◌, ℕ, ◌+◌, ◌≤◌, length, drop}
-use Rattle.std.proofs.Common.{ap, ◌∙◌, le-ltb}
 use Rattle.routes.specs.Family.{Family, levels, width}
 use Rattle.routes.specs.Answers.{Reply}
 use Rattle.routes.specs.Bytes.{replies_bytes}
@@ -17,8 +16,8 @@ use Rattle.candidates.specs.Runs.{Ran, run}
 use Rattle.candidates.specs.Seen.{table, lookup_on, check_on, bytes_for, count_on, front_on, run_on, ran_on, replied_on}
 use Rattle.laws.specs.Given.{given_one}
 use Rattle.words.specs.Table.{seen}
-use Rattle.weaves.specs.Feeds.{Weave, flip, heard, said, kept, kept_both, Meets, Independent, Closes, bytes, read_back, Answered}
-use Rattle.weaves.specs.Fed.{read_said, Fed, answered, Together, demand_3_fed}
+use Rattle.weaves.specs.Feeds.{Weave, flip, heard, said, kept, kept_both, Independent, Closes, bytes, read_back, Answered}
+use Rattle.weaves.specs.Fed.{Fed}
 
 -- what the run promises of the words ws, a feed and the reply bytes b, where it leaves vs and c and has the outcome o
 pub record Promise (F : Family) (ws feed b vs c : List ℕ) (o : Ran) : Type 0 where
@@ -60,10 +59,10 @@ module _ {F : Family} {A : ℕ} {us : List Update} (c : Call F A us) where
   abbrev o : Ran
   o = run F A [] (bytes F c.sent c.rest) (length c.reply)
 
-  ran_is : o ≡ c.ran
+  pub ran_is : o ≡ c.ran
   ran_is = given_one (rw c.cleared at c.runs.answer)
 
-  abbrev fed : Fed F A us
+  abbrev pub fed : Fed F A us
   fed = record {
     sent = c.sent;
     meant = c.meant;
@@ -74,22 +73,9 @@ module _ {F : Family} {A : ℕ} {us : List Update} (c : Call F A us) where
     enough = rw ran_is c.enough;
   }
 
-  left : Left c
-  left =
-      record {
-        answer = rw ran_is at (answered fed);
-        replies =
-            (rw c.cleared at c.runs.replies)
-            ∙ ap (λ (x : List ℕ). x ++ drop (length x) c.reply) (answered fed).replies;
-        list = (rw c.cleared at c.runs.list) ∙ ap (table A) (answered fed).list;
-      }
-
   -- the replies, read back from the reply bytes
   abbrev pub replied : List Reply
   replied = read_back us c.reply'
-
-  replied-said : replied ≡ said (width F) A us
-  replied-said = ap (read_back us) left.replies ∙ read_said F A us _
 
 -- ---- three calls
 
@@ -115,29 +101,3 @@ pub record Called {F : Family} {A : ℕ} {xs ys zs : List Update} (w : Weave xs 
   pub front : (room : ℕ) → front_on F (seen (levels F) j.words') room ≡ front_on F (table A (kept_both (width F) A xs ys)) room
   pub out : (room : ℕ) → bytes_for F (length (kept_both (width F) A xs ys)) ≤ room
       → front_on F (seen (levels F) j.words') room ≡ written F (kept_both (width F) A xs ys)
-
-pub demand_3_called : {F : Family} {A : ℕ} {xs ys zs : List Update} (w : Weave xs ys zs) → Meets (width F) A xs ys
-    → (j : Call F A zs) (f : Call F A xs) (s : Call F A ys) → Called w j f s
-demand_3_called {F} {A} {xs} {ys} {zs} w m j f s =
-    record {
-      joint = left j;
-      first = left f;
-      second = left s;
-      first_read = rw (replied-said j, replied-said f) t.independent.first_heard;
-      second_read = rw (replied-said j, replied-said s) t.independent.second-heard;
-      independent = t.independent;
-      accepted = rw (← ran_is j, ← ran_is f, ← ran_is s) t.accepted;
-      refused = rw (← ran_is j, ← ran_is f, ← ran_is s) t.refused;
-      list = l;
-      lookups = λ walked a. rw l;
-      check = rw l;
-      count = λ room. rw l;
-      front = λ room. rw l;
-      out = λ room h. rw (l, le-ltb room (bytes_for F (length (kept_both (width F) A xs ys))) h);
-    }
-  where
-    t : Together w (fed j) (fed f) (fed s)
-    t = demand_3_fed w m (fed j) (fed f) (fed s)
-
-    l : seen (levels F) j.words' ≡ table A (kept_both (width F) A xs ys)
-    l = (left j).list ∙ ap (table A) t.independent.joined

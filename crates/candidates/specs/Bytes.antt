@@ -6,7 +6,8 @@
 --     looks       kind  address
 use Rattle.std.specs.Prelude.{List, [], ◌∷◌, ◌++◌, ℕ, ◌^◌, ◌<◌}
 use Rattle.numbers.specs.Digits.{one, two, digits}
-use Rattle.routes.specs.Family.{Family, v4, levels, width, Role, announcing, withdrawing, looking, announcing_for, withdrawing_for}
+use Rattle.routes.specs.Family.{Family, v4, levels, width, Role, announcing, withdrawing, looking, announcing_for}
+use Rattle.routes.specs.Family.{withdrawing_for}
 use Rattle.routes.specs.Family.{kind_of}
 use Rattle.routes.specs.Route.{Route}
 use Rattle.candidates.specs.Candidate.{Candidate}

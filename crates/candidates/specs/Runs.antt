@@ -44,7 +44,8 @@ sent_of F feed i j announcing = announces (number_at (levels F) feed i) (get_or 
 sent_of F feed i j withdrawing = withdraws (number_at (levels F) feed i) (get_or feed j 0)
 sent_of F feed i j looking = looks (number_at (levels F) feed i)
 sent_of F feed i j announcing_for =
-    announces_for (number_at (levels F) feed i) (get_or feed j 0) (two_at feed (j + 1)) (get_or feed (j + 3) 0) (get_or feed (j + 4) 0)
+    announces_for (number_at (levels F) feed i) (get_or feed j 0) (two_at feed (j + 1)) (get_or feed (j + 3) 0)
+    (get_or feed (j + 4) 0)
 sent_of F feed i j withdrawing_for = withdraws_for (number_at (levels F) feed i) (get_or feed j 0) (get_or feed (j + 1) 0)
 sent_of F feed i j unknown = looks 0
 

@@ -1,10 +1,11 @@
 -- A row replaced or put in, as a step of the front. Assumes nothing.
-use Rattle.std.specs.Prelude.{◌≡◌, ◌≢◌, true, false, ◌||◌, List, ℕ, suc, ◌+◌, ◌-◌, ◌*◌, ◌/◌, ◌%◌, ◌^◌, ◌<◌, ◌≤◌, min, length, ltb, eqb}
+use Rattle.std.specs.Prelude.{◌≡◌, ◌≢◌, true, false, ◌||◌, List, ℕ, suc, ◌+◌, ◌-◌, ◌*◌, ◌/◌, ◌%◌, ◌^◌, ◌<◌, ◌≤◌, min, length, ltb}
+use Rattle.std.specs.Prelude.{eqb}
 use Rattle.std.proofs.Common.{sym, ap, ◌∙◌, arith, lt-ltb, le-ltb, eq-eqb, ne_eqb}
 use Rattle.std.proofs.lemmas.Bool.{false≢true}
 use Rattle.candidates.specs.Keyed.{put}
 use Rattle.candidates.specs.Candidate.{place}
-use Rattle.front.specs.Place.{Mark, mark, Place, placed, key, has, mark_at, IsFront, kept_of, most_penalty, most_places, held_over}
+use Rattle.front.specs.Place.{Mark, Place, placed, key, has, mark_at, IsFront, kept_of, most_penalty, most_places, held_over}
 use Rattle.front.specs.Front.{raised, charged, charge, keeping}
 use Rattle.restraint.specs.Places.{put_in_place}
 use Rattle.restraint.specs.Keeps.{charge_keeps, kept_keeps, penalty_low}

@@ -12,7 +12,7 @@ ghost use Rattle.charge.specs.Calls.{Became, Found, Charges, Keeps};
 use rows::{LAST_PLACE, MOST_PLACES, ROW_WORDS};
 
 // Where a candidate stands, or would stand, with the last two words of its row, both 0 where it has no place.
-#[derive(Drop)]
+#[derive(Clone, Copy)]
 pub struct Spot {
     pub at: usize,
     pub mark: u32,

@@ -3,7 +3,8 @@
 --
 --     item 4 changes no statement: leading zeros of an exclusive or count equal leading bits (numbers/specs/Agree)
 --     item 13 is measured: docs/MEASURED.md
-use Rattle.std.specs.Prelude.{◌≡◌, ◌≢◌, Bool, true, false, not, ◌||◌, List, [], ◌∷◌, ◌++◌, ℕ, ◌*◌, ◌^◌, ◌≤◌, ◌<◌, ltb, eqb, length, take}
+use Rattle.std.specs.Prelude.{◌≡◌, ◌≢◌, Bool, true, false, not, ◌||◌, List, [], ◌∷◌, ◌++◌, ℕ, ◌*◌, ◌^◌, ◌≤◌, ◌<◌, ltb, eqb}
+use Rattle.std.specs.Prelude.{length, take}
 use Rattle.routes.specs.Family.{Family, v4, v6, levels, width, unknown, role_of}
 use Rattle.routes.specs.Route.{Route, hop_at, held as hop_for}
 use Rattle.routes.specs.Room.{level}
@@ -93,7 +94,8 @@ pub record Item1 : Type 0 where
   pub answers : (t : copy.Carried) → copy.AsTable t
   -- "Refusals: 2 for bytes that aren't one whole written-out list, of any room; then 9 for fewer words"
   pub refusals : (bytes ws vs : List ℕ) (r : Copied) → HasCopied bytes ws vs r
-      → r.refusal ≡ first 2 (is_unlisted (listed_in bytes)) (first 9 (ltb (length ws) (copy_words (routes_in (listed_in bytes)))) 0)
+      → r.refusal ≡ first 2 (is_unlisted (listed_in bytes))
+      (first 9 (ltb (length ws) (copy_words (routes_in (listed_in bytes)))) 0)
   pub kept : (bytes ws vs : List ℕ) (r : Copied) → HasCopied bytes ws vs r → r.refusal ≢ 0 → vs ≡ ws
   -- a list is whole by its form, and its room is no reason: the list of any table
   pub any_room : (cs : List Candidate) → IsList 32 cs → listed_in (written v4 cs) ≡ listed (winners cs)

@@ -15,7 +15,8 @@ use Rattle.words.specs.Table.{seen}
 use Rattle.swaps.specs.Moves.{withdrawals, announcements, ahead}
 use Rattle.swaps.specs.Fourth as fourth
 use Rattle.calls.specs.Swapped.{first_is, second_is, end_is}
-use Rattle.calls.specs.ExportedSwapped.{InTurn, under, CallsSwapped, calls_swapped_exported}
+use Rattle.calls.specs.ExportedSwapped.{InTurn, CallsSwapped}
+use Rattle.calls.proofs.ExportedSwapped.{under, calls_swapped_exported}
 
 -- each update is accepted in the one order where it is in the other
 record Done {F : Family} {A : ℕ} {cs : List Candidate} {u v : Update}

@@ -23,7 +23,7 @@ use Rattle.laws.specs.Block.{block_smallest}
 use Rattle.laws.specs.Given.{refused_one, given_refused}
 use Rattle.laws.specs.Families.{width_low}
 use Rattle.rivals.specs.Won.{are_good, found_won, winners_hop, winners_list}
-use Rattle.rivals.specs.Lowest.{best-lowest}
+use Rattle.rivals.proofs.Lowest.{best-lowest}
 use Rattle.rivals.specs.Updates.{faulty-sound, sound-target}
 use Rattle.words.specs.Table.{seen}
 use Rattle.words.specs.View.{seen_misfit, seen-cases}
@@ -36,12 +36,12 @@ use Rattle.answers.specs.Numbers.{wrote as wrote_short}
 use Rattle.shortener.specs.Stated.{written-shortest}
 use Rattle.answers.specs.declared.Written.{Written as Shortened}
 use Rattle.listing.specs.Listed.{Listed, unlisted, listed, listed_in}
-use Rattle.listing.specs.Written.{written_listed}
+use Rattle.listing.proofs.Written.{written_listed}
 use Rattle.lengths.specs.Marks.{words_for as copy_words}
 use Rattle.lengths_build.specs.Answer.{build_on as copy_on}
 use Rattle.toggleash.specs.Copies.{built as copied}
 use Rattle.toggleash.specs.declared.copies.Built.{Built as Copied}
-use Rattle.calls.specs.Copy.{as_table}
+use Rattle.calls.proofs.Copy.{as_table}
 use Rattle.words.specs.Words.{arrays_of, array_count}
 use Rattle.packed.specs.Laid.{Laid, mask_chosen}
 use Rattle.packed_build.specs.Need.{words_for as packed_words}
@@ -49,31 +49,30 @@ use Rattle.packed_build.specs.Answer.{build_on as pack_on}
 use Rattle.packing.specs.Face.{built as packed_built}
 use Rattle.packing.specs.Carried.{without_block as match_in, as_table as packed_as_table}
 use Rattle.packing.specs.declared.Built.{Built as PackedBuilt}
-use Rattle.replayed.specs.Fed.{fed-forwards}
-use Rattle.replayed.specs.Card.{as_forwarded}
+use Rattle.replayed.proofs.Fed.{fed-forwards}
+use Rattle.replayed.proofs.Card.{as_forwarded}
 use Rattle.front.specs.Place.{Place}
 use Rattle.front.specs.Front.{both}
 use Rattle.front.specs.Seen.{front}
-use Rattle.restraint.specs.Ended.{left_by, run-five}
+use Rattle.restraint.specs.Ended.{left_by}
+use Rattle.restraint.proofs.Ended.{run-five}
 use Rattle.rows.specs.Row.{places_of, IsWords}
 use Rattle.damping.specs.View.{seen_front, seen_front_lem}
 use Rattle.damper.specs.Behind.{seen_without}
 use Rattle.answers.specs.Numbers.{looked, updated}
 use Rattle.answers.specs.declared.Found.{Found}
-use Rattle.answers.specs.declared.Ran.{Ran}
 use Rattle.calls.specs.Held as known
 use Rattle.calls.specs.Counts.{path_alone_c}
 use Rattle.calls.specs.Swapped.{end_is}
 use Rattle.calls.specs.ExportedNever.{never_exported}
-use Rattle.calls.specs.ExportedSwapped.{under}
-use Rattle.calls.specs.ExportedMoved.{moved_run_exported}
+use Rattle.calls.proofs.ExportedSwapped.{under}
+use Rattle.calls.proofs.ExportedMoved.{moved_run_exported}
 use Rattle.claim.specs.Demands.{is_foreign, list_in, wrong_size, no_table, held_in}
 use Rattle.claim.specs.Refusals.{by_size}
-use Rattle.claim.specs.Proved.{demands}
 use Rattle.claim.specs.Unseen.{unseen}
 use Rattle.claim.specs.Log.{withdrawn, announced, moved_ahead, fourth_missing}
 use Rattle.claim.specs.Items.{is_unlisted, routes_in, without_block, Item1, Item2, Item3, Item5, Item6, Item7}
-use Rattle.claim.specs.Items.{Item8, FourthMissing, Item9, Item10, Item11, Item12, Item14}
+use Rattle.claim.specs.Items.{Item8, FourthMissing, Item10, Item11, Item12, Item14}
 
 -- ---- 1
 
@@ -134,7 +133,7 @@ module _ (F : Family) (A : ℕ) (cs : List Candidate) (ws : List ℕ) (e : seen 
       let w = found_won cs a l f c (omega (arith, t.2)) (are_good W (width_low F) cs k.list) q in
       rw (winners_hop cs (a * 256 + l), ne_eqb (winning cs (a * 256 + l)) 0 (λ z. omega arith)) refl)
 
-  abbrev u : Update
+  abbrev pub u : Update
   u = announce a l h f p
 
   accepted : answer W A cs u ≡ done h (reloaded W cs (put key (candidate a l f p h) cs) a l)
@@ -226,21 +225,12 @@ fourth = fourth_missing
 -- ---- 9
 
 -- a kind that is none of the family's stops a run before its first record
-stops : (F : Family) (A : ℕ) (cs : List Candidate) (k : ℕ) (feed : List ℕ) (room : ℕ) → role_of F k ≡ unknown
+pub stops : (F : Family) (A : ℕ) (cs : List Candidate) (k : ℕ) (feed : List ℕ) (room : ℕ) → role_of F k ≡ unknown
     → (run F A cs (k ∷ feed) room).stop ≡ 2
 stops F A cs k feed room u =
     ap (λ (o : Outcome). o.stop)
     (runs_stop F (length feed) A (k ∷ feed) room (fresh cs) 2
     (halts_2 F (k ∷ feed) room 0 0 (omega arith) (rw u refl)) (λ z. omega arith))
-
-pub item_9 : Item9
-item_9 = record {
-  both = demands;
-  other = λ F A cs ws e k u feed b vs c r p.
-      ap (λ (x : Ran). x.stop) (rw e at p.answer) ∙ stops F A cs k feed (length b) u;
-  four = (refl, refl, refl);
-  six = (refl, refl, refl, refl, refl);
-}
 
 -- ---- 10
 

@@ -1,7 +1,7 @@
 -- The claim is proved: the three demands hold of the C calls of IPv4 and of IPv6. Assumes nothing.
 use Rattle.std.specs.Prelude.{◌≡◌, List, [], ℕ}
 use Rattle.std.proofs.Common.{arith}
-use Rattle.routes.specs.Family.{Family, v4, v6, levels}
+use Rattle.routes.specs.Family.{Family, levels}
 use Rattle.candidates.specs.Candidate.{Candidate}
 use Rattle.candidates.specs.Seen.{table}
 use Rattle.laws.specs.Families.{levels_some, levels_few}
@@ -9,11 +9,10 @@ use Rattle.words.specs.Table.{seen}
 use Rattle.words.specs.View.{table_of}
 use Rattle.feed.specs.Series.{all_answered}
 use Rattle.toggleash.specs.Local.{update_same, run_same}
-use Rattle.calls.specs.Exported.{cleared, series_below}
-use Rattle.calls.specs.ExportedRound.{again_exported}
-use Rattle.claim.specs.Demands.{Demand2, InARow, Demands}
-use Rattle.claim.specs.Refusals as refusals
-use Rattle.claim.specs.Sessions as sessions
+use Rattle.calls.specs.Exported.{cleared}
+use Rattle.calls.proofs.Exported.{series_below}
+use Rattle.calls.proofs.ExportedRound.{again_exported}
+use Rattle.claim.specs.Demands.{Demand2, InARow}
 
 pub demand_2 : (F : Family) (A : ℕ) (cs : List Candidate) (ws : List ℕ) → seen (levels F) ws ≡ table A cs → Demand2 F A cs ws
 demand_2 F A cs ws e =
@@ -33,13 +32,3 @@ in_a_row F = record {
   answers = λ A ws vs xs ys c s. (all_answered (levels F) A [] (cleared c) (series_below s)).answers;
   list = λ A ws vs xs ys c s. (all_answered (levels F) A [] (cleared c) (series_below s)).list;
 }
-
-pub demands : (F : Family) → Demands F
-demands F = record { safe = refusals.demand_1 F; right = demand_2 F; then_held = in_a_row F; any_order = sessions.demand_3 F }
-
--- "Next on our list is IPv6 by the same method"
-pub ipv4 : Demands v4
-ipv4 = demands v4
-
-pub ipv6 : Demands v6
-ipv6 = demands v6

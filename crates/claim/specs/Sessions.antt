@@ -13,11 +13,12 @@ use Rattle.words.specs.Table.{seen}
 use Rattle.feed.specs.Series.{answered}
 use Rattle.weaves.specs.Feeds.{read_back}
 use Rattle.weaves.specs.Fed.{as_many}
-use Rattle.weaves.specs.Joined.{demand_3_family}
+use Rattle.weaves.proofs.Joined.{demand_3_family}
 use Rattle.answers.specs.declared.Ran.{Ran}
 use Rattle.calls.specs.Held.{held}
 use Rattle.calls.specs.Both as below
-use Rattle.calls.specs.Exported.{cleared, asked-below}
+use Rattle.calls.specs.Exported.{cleared}
+use Rattle.calls.proofs.Exported.{asked-below}
 use Rattle.calls.specs.ExportedBoth.{holds}
 use Rattle.calls.specs.SwappedFeeds.{replies-append, leaves-append, FeedRun, feed-replies, feed_list}
 use Rattle.claim.specs.Calls.{Fed, Session, nothing, call, feed, Begun}

@@ -8,24 +8,19 @@ use Rattle.routes.specs.Seen.{refuses}
 use Rattle.candidates.specs.Answers.{Update}
 use Rattle.replies.specs.Said.{said_reply}
 use Rattle.replies.specs.declared.Reply.{Reply}
-use Rattle.feed.specs.declared.Ran.{Ran as Outcome}
-use Rattle.feed.specs.declared.Ran.TheVariants.{Stopped, Refused as Unfit}
-use Rattle.feed.specs.Runs.{run_answer}
 use Rattle.damping.specs.declared.held.Checked.{Checked}
 use Rattle.damping.specs.declared.held.Checked.TheVariants as checked
 use Rattle.damping.specs.Update.{HasDamped}
-use Rattle.damping.specs.Frame.{still, frame, words, tick_still}
+use Rattle.damping.specs.Frame.{still, frame, words}
+use Rattle.damping.proofs.Frame.{tick_still}
 use Rattle.damping.specs.Locally.{HasDampedLocally}
 use Rattle.damping.specs.Held.{check_answer, HasTicked as Ticked}
 use Rattle.damping.specs.Ticks.{HasTickedLocally as TickedLocally}
-use Rattle.damping_run.specs.Runs.{reported, HasRun as Run}
-use Rattle.damping_run.specs.Locally.{HasRunLocally as RunLocally}
-use Rattle.answers.specs.Numbers.{updated, ran}
-use Rattle.damper.specs.Face.{held, HasUpdated, HasTicked, HasRun}
-use Rattle.damper.specs.Face.{HasUpdatedLocally, HasTickedLocally, HasRunLocally}
+use Rattle.answers.specs.Numbers.{updated}
+use Rattle.damper.specs.Face.{held, HasUpdated, HasTicked}
+use Rattle.damper.specs.Face.{HasUpdatedLocally, HasTickedLocally}
 use Rattle.damper.specs.declared.Front.{Front}
 use Rattle.answers.specs.declared.Updated.{Updated}
-use Rattle.answers.specs.declared.Ran.{Ran as Fields}
 
 pub made : (fs ws gs vs : List ℕ) (u : Update) (y : Reply) (r : Updated) → HasDamped fs ws gs vs u y → r ≡ updated (said_reply y)
     → HasUpdated fs ws gs vs u r
@@ -67,25 +62,3 @@ pub ticked_locally : (fs ws gs vs : List ℕ) (y : Checked) (r : Front) → Tick
     → r ≡ held (check_answer y) → HasTickedLocally fs ws gs vs r
 ticked_locally fs ws gs vs y r p e =
     record { count = y; call = p; answer = e; table = λ t. ticked fs ws gs vs y r (p.table t) e }
-
-run_refused : (y : Outcome) (n : ℕ) → run_answer y ≡ refuses n → y ≡ Unfit n
-run_refused (Stopped r) n e = let z : ◌≡◌ {A = ℕ} 0 1 = cc in absurd (omega arith)
-run_refused (Unfit m) n e = cc
-
-pub ran_so : (fs ws feed b gs vs c : List ℕ) (y : Outcome) (r : Fields) → Run fs ws feed b gs vs c y → r ≡ ran (run_answer y)
-    → HasRun fs ws feed b gs vs c r
-ran_so fs ws feed b gs vs c y r p e =
-    record {
-      answer = e ∙ ap ran p.answer;
-      list = p.list;
-      places = p.places;
-      replies = p.replies;
-      kept = λ n z. p.kept n (run_refused y n (p.answer ∙ ap reported z));
-      front = p.front;
-      series = p.series;
-    }
-
-pub ran_locally : (fs ws feed b gs vs c : List ℕ) (y : Outcome) (r : Fields) → RunLocally fs ws feed b gs vs c y
-    → r ≡ ran (run_answer y) → HasRunLocally fs ws feed b gs vs c r
-ran_locally fs ws feed b gs vs c y r p e =
-    record { outcome = y; call = p; answer = e; table = λ t. ran_so fs ws feed b gs vs c y r (p.table t) e }

@@ -1,7 +1,7 @@
 -- What the numbers of the front's C face say: the refusal's number, or 0 and the values; every field not meant is 0. Assumes
 -- nothing.
 use Rattle.std.specs.Prelude.{◌≡◌, ◌⊎◌, List, ℕ, ◌≤◌}
-use Rattle.routes.specs.Answers.{Reply, refused}
+use Rattle.routes.specs.Answers.{refused}
 use Rattle.routes.specs.Seen.{Answer, gives, refuses}
 use Rattle.candidates.specs.Answers.{Update}
 use Rattle.words.specs.Table.{seen}

@@ -77,7 +77,11 @@ counting_none fs n e =
       within = omega arith;
       few = omega arith;
       left =
-          omega (arith, ap (λ (m : ℕ). backs (firsts (row_at fs) 0 m)) (z ∙ e), ap backs (collect-firsts (row_at fs) 0 most_places));
+          omega (
+            arith,
+            ap (λ (m : ℕ). backs (firsts (row_at fs) 0 m)) (z ∙ e),
+            ap backs (collect-firsts (row_at fs) 0 most_places),
+          );
     }
 
 back_more : (r : Row) (b m : ℕ) → b + r.x % 2 + m ≡ b + cond (eqb (r.x % 2) 1) (suc m) m

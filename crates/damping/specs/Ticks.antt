@@ -3,18 +3,15 @@
 --
 --     the first of 1 and 2 (no front)    both memories stay
 --     else                               a tick, by the table's local calls, and the answer of the check after it
-use Rattle.std.specs.Prelude.{◌≡◌, refl, ◌≢◌, false, List, ℕ, length}
+use Rattle.std.specs.Prelude.{◌≡◌, refl, ◌≢◌, List, ℕ}
 use Rattle.std.proofs.Common.{sym, ap, ◌∙◌}
 use Rattle.routes.specs.Seen.{gives}
-use Rattle.candidates.specs.Seen.{misfits}
 use Rattle.words.specs.TableBut.{Table}
 use Rattle.front.specs.Seen.{held_in}
 use Rattle.rows.specs.Row.{places_of, IsWords}
-use Rattle.rows.specs.Told.{words_from}
-use Rattle.damping.specs.Locally.{refusal_before, before_none, before_table}
+use Rattle.damping.specs.Locally.{refusal_before, before_table}
 use Rattle.damping.specs.Tick.{TickedLocally}
-use Rattle.damping.specs.Behind.{ticked_table}
-use Rattle.damping.specs.Held.{check_answer, given_not, HasTicked, ticks, tick_refused}
+use Rattle.damping.specs.Held.{check_answer, HasTicked, tick_refused}
 use Rattle.damping.specs.declared.held.Checked as code
 use Rattle.damping.specs.declared.held.Checked.TheVariants as checked
 
@@ -38,15 +35,4 @@ tick_locally_refused fs ws n e z = record {
   kept = λ _ _. (refl, refl);
   front = λ w. w;
   table = λ t. tick_refused fs ws n (e ∙ sym (before_table fs ws 0 t)) z;
-}
-
-pub ticks_locally : (fs ws gs vs : List ℕ) (r : code.Checked) → IsWords fs → misfits (length ws) ≡ false
-    → TickedLocally fs ws gs vs → check_answer r ≡ gives (held_in (places_of gs)) → HasTickedLocally fs ws gs vs r
-ticks_locally fs ws gs vs r w m k e = record {
-  first = λ n. absurd (n (sym (before_none fs ws 0 m refl (words_from fs w))));
-  work = λ _. k;
-  answer = λ _. e;
-  kept = λ n z. absurd (given_not (held_in (places_of gs)) n (sym e ∙ ap check_answer z));
-  front = λ _. k.places.words;
-  table = λ t. ticks fs ws gs vs r w t (ticked_table fs ws gs vs t k) e;
 }

@@ -1,19 +1,17 @@
 -- Records and ticks answered by their calls, and what the feed's bytes say of the one that is next. Assumes nothing.
-use mathlib.Core.Path.{◌≡◌, sym, ap, ◌∙◌}
+use mathlib.Core.Path.{◌≡◌, ◌∙◌}
 use mathlib.Core.Logic.{◌≢◌}
-use mathlib.Core.Bool.{Bool, true, false, cond, true≢false}
+use mathlib.Core.Bool.{Bool, true, false, cond}
 use mathlib.Core.List.{List}
 use Prim.Native.Nat.{ℕ, ◌+◌, ◌≤◌, ◌<◌}
 use native.Mathlib.Omega.{arith}
 use lib.ListN.{length, get_or}
-use lib.Dec.{eqb}
-use borrow.Author.Tests.{eq-eqb, ne_eqb}
+use borrow.Author.Tests.{eq-eqb}
 use Rattle.logic.specs.Cases.{bool}
 use Rattle.numbers.specs.Digits.{two_at, four_at}
 use Rattle.numbers.specs.Four.{four_at_lem}
-use Rattle.routes.specs.Family.{v4, Role, ending, unknown, role_of, is_unknown}
+use Rattle.routes.specs.Family.{v4, Role, is_unknown}
 use Rattle.routes.specs.Answers.{Reply, done, is_done}
-use Rattle.laws.specs.Families.{end_kind}
 use Rattle.candidates.specs.Answers.{announce, withdraw}
 use Rattle.candidates.specs.Runs.{size, role_at}
 use Rattle.candidates.specs.Seen.{lookup_on}
@@ -22,15 +20,14 @@ use Rattle.words.specs.Table.{seen}
 use Rattle.replies.specs.Said.{said_reply}
 use Rattle.replies.specs.declared.Reply as code
 use Rattle.lookup.specs.Walk.{walk}
-use Rattle.feed.specs.Turns.{announce_at, withdraw_at, lookup_at, here, one}
+use Rattle.feed.specs.Turns.{announce_at, withdraw_at, lookup_at}
 use Rattle.front.specs.Front.{asks, accepts}
 use Rattle.front.specs.Runs.{tick_kind, ticks_at, event_at, size_at, halts}
-use Rattle.restraint.specs.Turns.{Clear, tick_there, halts-plain, halts-full, halts_tick}
+use Rattle.restraint.specs.Turns.{Clear, halts-plain, halts-full, halts_tick}
 use Rattle.damping.specs.Locally.{HasDampedLocally}
 use Rattle.damping.specs.Tick.{TickedLocally}
 use Rattle.damping_run.specs.Locally.{AskedLocally, updated, looked, ticked}
-use Rattle.damping_run.specs.Turns.{bytes_of, Whole, Asks, Answers, Takes}
-use Rattle.damping_run.specs.declared.Progress.{Progress}
+use Rattle.damping_run.specs.Turns.{bytes_of, Asks}
 
 -- ---- the calls: each answer is its promise's
 
@@ -55,63 +52,11 @@ module _ (r : Role) (fs ws feed : List ℕ) (i : ℕ) (known : Bool) (h : Asks r
   pub asks_body : (s : Role) → r ≡ s → i + size v4 s ≤ length feed
   asks_body s e = rw e at h.body
 
-  pub asks_whole : (s : Role) (n : ℕ) → r ≡ s → 4 + n ≤ size v4 s → Whole fs ws feed i n known
-  asks_whole s n e le = record { ready = h.ready; body = omega (arith, asks_body s e, le) }
-
-  -- of the roles that the code tells apart, two are of no record
-  pub not_ending : r ≡ ending → ⊥
-  not_ending e = h.more e
-
-  pub not_unknown : r ≡ unknown → ⊥
-  not_unknown e = true≢false (sym (ap is_unknown e) ∙ h.known)
-
 -- ---- by the kind
 
 module _ (fs ws gs vs feed : List ℕ) (i : ℕ) where
   pub asked_tick : get_or feed i 0 ≡ tick_kind → TickedLocally fs ws gs vs → AskedLocally fs ws (event_at feed i) (done 0 0) gs vs
   asked_tick e t = rw (eq-eqb (get_or feed i 0) tick_kind e) (ticked t)
-
-  pub asked_record : (y : Reply) (r : Role) → get_or feed i 0 ≢ tick_kind → r ≡ role_at v4 feed i
-      → AskedLocally fs ws (asks (here v4 feed i r)) y gs vs → AskedLocally fs ws (event_at feed i) y gs vs
-  asked_record y r n e a = rw (ne_eqb (get_or feed i 0) tick_kind n, ← e) a
-
-pub answers_asks : (fs ws feed : List ℕ) (i : ℕ) (known : Bool) → Answers fs ws feed i known → get_or feed i 0 ≢ tick_kind
-    → (r : Role) → r ≡ role_at v4 feed i → Asks r fs ws feed i known
-answers_asks fs ws feed i known a n r e = rw e (a.asks (ne_eqb (get_or feed i 0) tick_kind n))
-
--- where no test stops the run
-pub takes_answers : (p : Progress) (fs ws feed b : List ℕ) (known : Bool) → Takes p fs ws feed b known
-    → Answers fs ws feed p.at known
-takes_answers p fs ws feed b known t =
-    record {
-      ready = t.ready;
-      there = there;
-      asks = λ n. (let c = t.clear.plain n in
-          record {
-            ready = t.ready;
-            known = c.known;
-            more = λ e. (let z = end_kind v4 (get_or feed p.at 0) e in omega (arith, c.more));
-            body = c.body;
-          });
-    }
-  where
-    there : p.at < length feed
-    there =
-        bool (ticks_at feed p.at)
-        (λ k. tick_there feed p.at k)
-        (λ k. omega (arith, (t.clear.plain k).body, plain.size_pos v4 (role_at v4 feed p.at)))
-
--- ---- the bytes of a kind
-
-pub size_tick : (k : ℕ) → k ≡ tick_kind → (1 ≡ bytes_of k) × (1 ≤ 22)
-size_tick k e = (rw (eq-eqb k tick_kind e), omega arith)
-
-pub size_none : (k : ℕ) (r : Role) → k ≢ tick_kind → r ≡ role_of v4 k → is_unknown r ≡ true → (0 ≡ bytes_of k) × (0 ≤ 22)
-size_none k r z e u = (rw (ne_eqb k tick_kind z, ← e, u), omega arith)
-
-pub size_some : (k n : ℕ) (r : Role) → k ≢ tick_kind → r ≡ role_of v4 k → is_unknown r ≡ false → n ≡ size v4 r → n ≤ 22
-    → (n ≡ bytes_of k) × (n ≤ 22)
-size_some k n r z e u s h = (s ∙ rw (ne_eqb k tick_kind z, ← e, u), h)
 
 -- ---- the tests before it
 
@@ -172,16 +117,3 @@ module _ (feed : List ℕ) (room at out n : ℕ) (e : n ≡ bytes_of (get_or fee
 -- a tick is no update
 pub accepts_at : (feed : List ℕ) (i : ℕ) (y : Reply) → cond (ticks_at feed i) false (is_done y) ≡ accepts (event_at feed i) y
 accepts_at feed i y = bool (ticks_at feed i) (λ t. rw t) (λ t. rw t)
-
-pub count_tick : (k : ℕ) (b : Bool) → k ≡ tick_kind → (0 ≡ one (cond (eqb k tick_kind) false b)) × (0 ≤ 1)
-count_tick k b e = (rw (eq-eqb k tick_kind e), omega arith)
-
-pub count_other : (k n : ℕ) (r : code.Reply) → k ≢ tick_kind → n ≡ one (is_done (said_reply r)) → n ≤ 1
-    → (n ≡ one (cond (eqb k tick_kind) false (is_done (said_reply r)))) × (n ≤ 1)
-count_other k n r z e h = (e ∙ rw (ne_eqb k tick_kind z), h)
-
-pub last_0 : (stop : ℕ) → stop ≡ 0 → (1 ≡ one (eqb stop 0)) × (1 ≤ 1)
-last_0 stop e = (rw e, omega arith)
-
-pub last_other : (stop : ℕ) → stop ≢ 0 → (0 ≡ one (eqb stop 0)) × (0 ≤ 1)
-last_other stop n = (rw (ne_eqb stop 0 n), omega arith)

@@ -10,7 +10,7 @@ use mathlib.Core.List.{List}
 use Prim.Native.Nat.{ℕ, ◌+◌, ◌-◌, ◌≤◌}
 use native.Mathlib.Nat.{add-zero}
 use native.Mathlib.Omega.{arith}
-use lib.ListN.{length, take, drop, take-append-drop}
+use lib.ListN.{length, take, drop}
 use lib.Seq.{length-sets, length-take-le, drop-drop}
 use Rattle.logic.specs.Cases.{bool}
 use Rattle.numbers.specs.Wrote.{Wrote}
@@ -35,10 +35,10 @@ use Rattle.damping.specs.Refuse.{refusal_through, refusal_first, refusal_alien, 
 use Rattle.damping.specs.Locally.{Ready, refusal_before, before_none, before_table}
 use Rattle.damping_run.specs.Series.{nothing}
 use Rattle.damping_run.specs.Runs.{HasRun}
-use Rattle.damping_run.specs.Locally.{AskedLocally, Note, halts_at, Gone, nowhere, further, report_at, RanLocally}
+use Rattle.damping_run.specs.Locally.{AskedLocally, Note, halts_at, Gone, nowhere, further, RanLocally}
 use Rattle.damping_run.specs.Locally.{HasRunLocally}
 use Rattle.damping_run.specs.Tables.{gone_words, ran_table}
-use Rattle.damping_run.specs.Turns.{first, note_of, Takes, Took, told_at}
+use Rattle.damping_run.specs.Turns.{first, note_of, Takes, Took}
 use Rattle.damping_run.specs.Steps.{Comes, comes_first, comes_on}
 use Rattle.damping_run.specs.declared.Progress.{Progress}
 use Rattle.damping_run.proofs.Answers.{accepts_at}
@@ -141,27 +141,6 @@ module _ (fs₀ ws₀ feed b₀ fs ws b : List ℕ) (p : Progress) (k : Bool) (s
           let o : p.out + (q.out - p.out) ≡ q.out = omega (arith, t.past) in
           let d : ℕ = q.out - p.out in
           rw (← o) (sym (drop-drop d p.out b) ∙ ap (drop d) g.rest ∙ drop-drop d p.out b₀)
-
-  -- ---- the end
-
-  pub stopped : (r : Report) → stop ≢ 5 → r ≡ told_at p stop → RanLocally fs₀ ws₀ feed b₀ fs ws b (Stopped r)
-  stopped r h e =
-      record {
-        note = note_of p b;
-        gone = g.gone;
-        stopped = λ z. h (sym halted_at ∙ z);
-        answer = ap Stopped (e ∙ told ∙ ap (λ (s : ℕ). report_at s (note_of p b)) (sym halted_at));
-        replies = rw (out_length, ← g.rest) (sym (take-append-drop p.out b));
-      }
-    where
-      told : told_at p stop ≡ report_at stop (note_of p b)
-      told = λ i. record {
-        stop = stop;
-        consumed = (told_at p stop).consumed;
-        written = sym out_length i;
-        accepted = p.accepted;
-        refused = p.refused;
-      }
 
 -- ---- the test at the start
 

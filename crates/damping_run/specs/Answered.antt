@@ -13,7 +13,7 @@ use Rattle.front.specs.Front.{Event, asks, tick, Both, both, taken}
 use Rattle.front.specs.Seen.{FrontSeen, alien, front}
 use Rattle.rows.specs.Row.{places_of, IsWords}
 use Rattle.damping.specs.View.{seen_front_lem}
-use Rattle.damping.specs.Behind.{ticked_table}
+use Rattle.damping.proofs.Behind.{ticked_table}
 use Rattle.damping_run.specs.Series.{Asked, updated, looked, ticked}
 use Rattle.damping_run.specs.Locally.{AskedLocally}
 use Rattle.damping_run.specs.Locally as local

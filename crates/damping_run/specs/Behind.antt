@@ -13,7 +13,8 @@ use Rattle.feed.specs.Runs as plain
 use Rattle.feed.specs.declared.Ran.{Ran}
 use Rattle.front.specs.Front.{both}
 use Rattle.front.specs.Seen.{ran_behind}
-use Rattle.restraint.specs.Fed.{fed, behind, as_without}
+use Rattle.restraint.specs.Fed.{fed, behind}
+use Rattle.restraint.proofs.Fed.{as_without}
 use Rattle.rows.specs.Row.{places_of, IsWords}
 use Rattle.damping.specs.View.{seen_front_lem}
 use Rattle.damping_run.specs.Runs.{standing, HasRun}

@@ -1,6 +1,6 @@
 -- A run by local calls on a front and a table is the run: at each turn what is left of the run, from how far it has come, is the
 -- whole run. Assumes nothing.
-use Rattle.std.specs.Prelude.{◌≡◌, refl, Bool, true, false, cond, List, ◌++◌, ℕ, suc, ◌+◌, ◌-◌, length, drop, eqb}
+use Rattle.std.specs.Prelude.{◌≡◌, refl, Bool, true, false, cond, List, ◌++◌, ℕ, suc, ◌-◌, length, drop, eqb}
 use Rattle.std.proofs.Common.{sym, ap, subst, ◌∙◌, add-zero, arith}
 use Rattle.routes.specs.Answers.{Reply}
 use Rattle.routes.specs.Seen.{gives}
@@ -37,7 +37,8 @@ state_of n fs ws =
     }
 
 -- a front stays one, whatever the table's words
-pub gone_words : {feed fs ws gs vs : List ℕ} {room : ℕ} {n : Note} → IsWords fs → Gone feed room fs ws n gs vs → IsWords gs
+pub gone_words : {feed : List ℕ} {room : ℕ} {fs ws gs vs : List ℕ} {n : Note} → IsWords fs → Gone feed room fs ws n gs vs
+    → IsWords gs
 gone_words w nowhere = w
 gone_words w (further g e a) = asked_words (gone_words w g) a
 

@@ -15,7 +15,7 @@ ghost use Rattle.damping_run.specs.Turns.{first, Takes, Took, told_at};
 use feed::{Ran, Report};
 
 // How far a run has come: feed bytes consumed, reply bytes written, accepted updates, refused records.
-#[derive(Drop)]
+#[derive(Clone, Copy)]
 pub struct Progress {
     pub at: usize,
     pub out: usize,

@@ -3,7 +3,8 @@ use Rattle.std.specs.Prelude.{◌≡◌, refl, false, List, [], ◌∷◌, ◌++
 use Rattle.std.proofs.Common.{sym, ap, ◌∙◌, append_assoc, append-nil, add-zero, arith, length-append}
 use Rattle.numbers.specs.Digits.{one, two, digits}
 use Rattle.numbers.specs.Number.{number_at}
-use Rattle.numbers.specs.Back.{digits-length, number_back}
+use Rattle.numbers.specs.Back.{digits-length}
+use Rattle.numbers.proofs.Back.{number_back}
 use Rattle.routes.specs.Family.{Family, v4, v6, levels, width, role_of, is_unknown}
 use Rattle.routes.specs.Answers.{Reply, is_done, is_refused, count}
 use Rattle.routes.specs.Bytes.{reply_bytes, replies_bytes}
@@ -77,7 +78,7 @@ size_back F x =
     of (announces_for a l h f p) = omega arith
     of (withdraws_for a l f) = omega arith
 
-known-role : (x : Sent) → is_unknown (role x) ≡ false
+pub known-role : (x : Sent) → is_unknown (role x) ≡ false
 known-role (announces a l h) = refl
 known-role (withdraws a l) = refl
 known-role (looks a) = refl
@@ -85,7 +86,7 @@ known-role (announces_for a l h f p) = refl
 known-role (withdraws_for a l f) = refl
 
 -- none is an end
-kind_some : (F : Family) (x : Sent) → 1 ≤ kind F x
+pub kind_some : (F : Family) (x : Sent) → 1 ≤ kind F x
 kind_some v4 (announces a l h) = omega arith
 kind_some v4 (withdraws a l) = omega arith
 kind_some v4 (looks a) = omega arith
@@ -101,59 +102,27 @@ kind_some v6 (withdraws_for a l f) = omega arith
 
 module _ (F : Family) (A : ℕ) (pre : List ℕ) (x : Sent) (ys : List ℕ) (room : ℕ) (s : State)
     (f : Fits F x) (e : s.consumed ≡ length pre) (h : length s.replies + 5 ≤ room) where
-  abbrev feed : List ℕ
+  abbrev pub feed : List ℕ
   feed = pre ++ (sent_bytes F x ++ ys)
 
-  k : get_or feed s.consumed 0 ≡ kind F x
+  pub k : get_or feed s.consumed 0 ≡ kind F x
   k = kind_back F pre s.consumed e x ys
 
-  o : role_at F feed s.consumed ≡ role x
+  pub o : role_at F feed s.consumed ≡ role x
   o = role_there F pre s.consumed e x ys f
 
-  l : length feed ≡ length pre + (length (sent_bytes F x) + length ys)
+  pub l : length feed ≡ length pre + (length (sent_bytes F x) + length ys)
   l = length-append pre (sent_bytes F x ++ ys) ∙ ap (λ (n : ℕ). length pre + n) (length-append (sent_bytes F x) ys)
 
-  turn_clear : halts F feed room s.consumed (length s.replies) ≡ 5
-  turn_clear =
-      clear_halts F feed room s.consumed (length s.replies) (record {
-        known = ap is_unknown o ∙ known-role x;
-        body = rw (o, size_back F x) (omega (arith, l));
-        more = omega (arith, k, kind_some F x);
-        free = h;
-      })
-
-  turn-taken : taken F A feed s ≡ take F A s (length (sent_bytes F x)) (means x)
+  pub turn-taken : taken F A feed s ≡ take F A s (length (sent_bytes F x)) (means x)
   turn-taken = rw (o, size_back F x, sent_back F pre s.consumed e x ys f)
 
 module _ (F : Family) where
   -- ---- all of them
 
-  abbrev takes : ℕ → State → List Sent → State
+  abbrev pub takes : ℕ → State → List Sent → State
   takes A s [] = s
   takes A s (x ∷ xs) = takes A (take F A s (length (sent_bytes F x)) (means x)) xs
-
-  runs-records : (n A : ℕ) (xs : List Sent) (pre ys : List ℕ) (room : ℕ) (s : State) → AllFit F xs → s.consumed ≡ length pre
-      → length s.replies + 5 * length xs ≤ room
-      → runs F (length xs + n) A (pre ++ (all_bytes F xs ++ ys)) room s
-      ≡ runs F n A (pre ++ (all_bytes F xs ++ ys)) room (takes A s xs)
-  runs-records n A [] pre ys room s f e h = let z : 0 + n ≡ n = omega arith in rw z
-  runs-records n A (x ∷ xs) pre ys room s f e h =
-      let b : List ℕ = sent_bytes F x in
-      let bs : List ℕ = all_bytes F xs in
-      let z : suc (length xs) + n ≡ suc (length xs + n) = omega arith in
-      let i : (pre ++ b) ++ (bs ++ ys) ≡ pre ++ ((b ++ bs) ++ ys) = simp append_assoc in
-      let t : State = take F A s (length b) (means x) in
-      let l : length t.replies ≡ length s.replies + length (reply_bytes (reply (width F) A s.list (means x))) =
-      length-append s.replies _ in
-      let q : length (pre ++ b) ≡ length pre + length b = length-append pre b in
-      let j : pre ++ ((b ++ bs) ++ ys) ≡ pre ++ (b ++ (bs ++ ys)) = simp append_assoc in
-      let p = turn_clear F A pre x (bs ++ ys) room s f.0 e (omega arith) in
-      let r = turn-taken F A pre x (bs ++ ys) room s f.0 e (omega arith) in
-      rw (z, j)
-      (runs_on F (length xs + n) A (pre ++ (b ++ (bs ++ ys))) room s p
-      ∙ ap (λ (t : State). runs F (length xs + n) A (pre ++ (b ++ (bs ++ ys))) room t) r
-      ∙ rw (i ∙ j) at (runs-records n A xs (pre ++ b) ys room t f.1 (omega arith)
-      (omega (arith, reply_short (reply (width F) A s.list (means x))))))
 
   -- ---- what they come to
 
@@ -167,7 +136,7 @@ module _ (F : Family) where
         refused = s.refused + count is_refused (replies (width F) A s.list (meanings xs));
       }
 
-  takes_ended : (A : ℕ) (xs : List Sent) (s : State) → takes A s xs ≡ ended A s xs
+  pub takes_ended : (A : ℕ) (xs : List Sent) (s : State) → takes A s xs ≡ ended A s xs
   takes_ended A [] s = λ i. record {
     list = s.list;
     consumed = sym (add-zero s.consumed) i;
@@ -194,35 +163,6 @@ module _ (F : Family) where
       c : s.consumed + length (sent_bytes F x) + length (all_bytes F xs) ≡ s.consumed + length (sent_bytes F x ++ all_bytes F xs)
       c = omega (arith, length-append (sent_bytes F x) (all_bytes F xs))
 
-  enough : (xs : List Sent) → length xs ≤ length (all_bytes F xs)
+  pub enough : (xs : List Sent) → length xs ≤ length (all_bytes F xs)
   enough [] = omega arith
   enough (x ∷ xs) = omega (arith, length-append (sent_bytes F x) (all_bytes F xs), enough xs)
-
-  -- a feed of records alone: each is answered as by the list, and the run stops for want of a byte
-  pub run-records : (A : ℕ) (cs : List Candidate) (xs : List Sent) (room : ℕ) → AllFit F xs → 5 * length xs ≤ room
-      → run F A cs (all_bytes F xs) room ≡ record { stop = 1; end = ended A (fresh cs) xs }
-  run-records A cs xs room f h =
-      let bs : List ℕ = all_bytes F xs in
-      let e : length bs ≡ length xs + (length bs - length xs) = omega (arith, enough xs) in
-      let g : bs ++ [] ≡ bs = append-nil bs in
-      ap (λ (n : ℕ). runs F n A bs room (fresh cs)) e
-      ∙ (rw g at (runs-records (length bs - length xs) A xs [] [] room (fresh cs) f refl (omega arith)))
-      ∙ ap (λ (s : State). runs F (length bs - length xs) A bs room s) (takes_ended A xs (fresh cs))
-      ∙ runs_end F (length bs - length xs) A bs room (ended A (fresh cs) xs) (omega arith)
-
-  -- with an end, and whatever follows it
-  pub run-ended : (A : ℕ) (cs : List Candidate) (xs : List Sent) (ys : List ℕ) (room : ℕ) → AllFit F xs → 5 * length xs ≤ room
-      → run F A cs (all_bytes F xs ++ (0 ∷ ys)) room ≡ record { stop = 0; end = finish (ended A (fresh cs) xs) }
-  run-ended A cs xs ys room f h =
-      let n : ℕ = length (all_bytes F xs) in
-      let l : length bs ≡ n + suc (length ys) = length-append (all_bytes F xs) (0 ∷ ys) in
-      let e : length bs ≡ length xs + suc (length bs - length xs - 1) = omega (arith, enough xs) in
-      let k : get_or bs (0 + n) 0 ≡ 0 = byte (all_bytes F xs) (0 ∷ ys) (0 + n) 0 (omega arith) in
-      ap (λ (n : ℕ). runs F n A bs room (fresh cs)) e
-      ∙ runs-records (suc (length bs - length xs - 1)) A xs [] (0 ∷ ys) room (fresh cs) f refl (omega arith)
-      ∙ ap (λ (s : State). runs F (suc (length bs - length xs - 1)) A bs room s) (takes_ended A xs (fresh cs))
-      ∙ runs_stop F (length bs - length xs - 1) A bs room (ended A (fresh cs) xs) 0
-      (halts_0 F bs room (0 + n) (length (ended A (fresh cs) xs).replies) (omega arith) k) (λ q. omega arith)
-    where
-      bs : List ℕ
-      bs = all_bytes F xs ++ (0 ∷ ys)

@@ -21,7 +21,7 @@ use Rattle.rivals.specs.Append.{Inside, inside_le, inside_weaken, inside-append}
 use Rattle.rivals.specs.Won.{Good, is_good}
 use Rattle.rivals.specs.Need.{need-prefixes}
 use Rattle.rivals.specs.Updates.{faulty-sound, plain_done, answer-plain}
-use Rattle.encoded.specs.Encoded.{size_back, run-ended}
+use Rattle.encoded.specs.Encoded.{size_back}
 
 -- ---- a last candidate added
 
@@ -82,7 +82,7 @@ module _ (W : ℕ) (w : W < 256) (A : ℕ) where
     pub accepted : count is_done (replies W A xs (meanings (announced ys))) ≡ length ys
     pub refused : count is_refused (replies W A xs (meanings (announced ys))) ≡ 0
 
-  load : (lo : ℕ) (xs ys : List Candidate) → Inside key 0 lo xs → Ordered key lo ys → Every (IsCandidate W) ys
+  pub load : (lo : ℕ) (xs ys : List Candidate) → Inside key 0 lo xs → Ordered key lo ys → Every (IsCandidate W) ys
       → Every Good (xs ++ ys) → need W (winners (xs ++ ys)) ≤ A → Loaded xs ys
   load lo xs [] i f p q h = record { list = sym (append-nil xs); accepted = refl; refused = refl }
   load lo xs (y ∷ ys) i f p q h =
@@ -102,18 +102,14 @@ module _ (W : ℕ) (w : W < 256) (A : ℕ) where
         refused = rw (e, done_refused (answer W A xs (sent y)) d) (omega (arith, more.refused));
       }
 
-  pub loaded : (cs : List Candidate) → IsList W cs → need W (winners cs) ≤ A → Loaded [] cs
-  loaded cs l h =
-      load 0 [] cs (omega arith) l.sorted l.candidates (every_map (IsCandidate W) Good (is_good W w) cs l.candidates) h
-
-as_many : (cs : List Candidate) → length (announced cs) ≡ length cs
+pub as_many : (cs : List Candidate) → length (announced cs) ≡ length cs
 as_many [] = refl
 as_many (c ∷ cs) = ap suc (as_many cs)
 
 -- ---- the bytes
 
 module _ (F : Family) where
-  fit : (cs : List Candidate) → Every (IsCandidate (width F)) cs → AllFit F (announced cs)
+  pub fit : (cs : List Candidate) → Every (IsCandidate (width F)) cs → AllFit F (announced cs)
   fit [] p = tt
   fit (c ∷ cs) p =
       let w = p.0.route.wf in
@@ -140,41 +136,3 @@ module _ (F : Family) where
   -- 10n + 1 bytes for n candidates of IPv4, 22n + 1 for those of IPv6
   pub written_long : (cs : List Candidate) → length (written F cs) ≡ bytes_for F (length cs)
   written_long cs = length-append (all_bytes F (announced cs)) (0 ∷ []) ∙ omega (arith, bytes_long cs)
-
-  -- candidates written out and fed, with reply room enough, to a cleared table of the same room give that list again
-  pub round_trip : (A : ℕ) (cs : List Candidate) (room : ℕ) → IsList (width F) cs → need (width F) (winners cs) ≤ A
-      → 5 * length cs ≤ room
-      → run F A [] (written F cs) room ≡ record {
-        stop = 0;
-        end = record {
-          list = cs;
-          consumed = bytes_for F (length cs);
-          replies = replies_bytes (replies (width F) A [] (meanings (announced cs)));
-          accepted = length cs;
-          refused = 0;
-        };
-      }
-  round_trip A cs room l h g =
-      run-ended F A [] (announced cs) [] room (fit cs l.candidates) (rw (as_many cs) g)
-      ∙ (λ i. record {
-        stop = 0;
-        end = record {
-          list = q.list i;
-          consumed = c i;
-          replies = replies_bytes (replies (width F) A [] (meanings (announced cs)));
-          accepted = a i;
-          refused = b i;
-        };
-      })
-    where
-      q : Loaded (width F) (width_low F) A [] cs
-      q = loaded (width F) (width_low F) A cs l h
-
-      c : 0 + length (all_bytes F (announced cs)) + 1 ≡ bytes_for F (length cs)
-      c = omega (arith, bytes_long cs)
-
-      a : 0 + count is_done (replies (width F) A [] (meanings (announced cs))) ≡ length cs
-      a = omega (arith, q.accepted)
-
-      b : 0 + count is_refused (replies (width F) A [] (meanings (announced cs))) ≡ 0
-      b = omega (arith, q.refused)

@@ -22,7 +22,7 @@ module _ (F : Family) (A : ℕ) (feed : List ℕ) (room : ℕ) (s : State) where
   records_stop (suc n) h = rw (ne_eqb _ 5 h)
 
 -- more than the bytes left is as good as the bytes left
-records_enough : (F : Family) (n m A : ℕ) (feed : List ℕ) (room : ℕ) (s : State)
+pub records_enough : (F : Family) (n m A : ℕ) (feed : List ℕ) (room : ℕ) (s : State)
     → length feed ≤ s.consumed + n → length feed ≤ s.consumed + m
     → records_from F n A feed room s ≡ records_from F m A feed room s
 unfolding records_from
@@ -33,20 +33,6 @@ records_enough F (suc n) (suc m) A feed room s h k =
     let p = size_pos F (role_at F feed s.consumed) in
     ap (λ (xs : List Record). cond (eqb (halts F feed room s.consumed (length s.replies)) 5) (ahead F feed s ∷ xs) [])
     (records_enough F n m A feed room (taken F A feed s) (omega arith) (omega arith))
-
--- as many as there are bytes are enough, before a record and after it
-pub records_on_lem : (F : Family) (A : ℕ) (feed : List ℕ) (room : ℕ) (s : State)
-    → halts F feed room s.consumed (length s.replies) ≡ 5
-    → records_from F (length feed) A feed room s ≡ ahead F feed s ∷ records_from F (length feed) A feed room (taken F A feed s)
-unfolding records_from
-records_on_lem F A feed room s e =
-    let c = halts_clear F feed room s.consumed (length s.replies) e in
-    let p = size_pos F (role_at F feed s.consumed) in
-    let l : length feed ≡ suc (length feed - 1) = omega (arith, c.body) in
-    ap (λ (n : ℕ). records_from F n A feed room s) l
-    ∙ rw e
-    (ap (λ (xs : List Record). ahead F feed s ∷ xs)
-    (records_enough F (length feed - 1) (length feed) A feed room (taken F A feed s) (omega arith) (omega arith)))
 
 -- ---- what a run comes to, by its records
 

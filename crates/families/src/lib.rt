@@ -5,7 +5,7 @@ ghost use Rattle.std.specs.Prelude.{◌≡◌, ◌≤◌};
 ghost use Rattle.routes.specs.Family.{v4, v6, levels as levelsOf, kind_of, announcing_for, role_of, is_unknown};
 ghost use Rattle.families.specs.Said.{said_family, said_role, family_for};
 
-#[derive(Drop)]
+#[derive(Clone, Copy)]
 pub enum Family {
     V4,
     V6,
@@ -22,7 +22,7 @@ pub fn levels(family: Family) -> usize
 }
 
 // What a record asks for: with a feed's number and a preference, or without.
-#[derive(Drop)]
+#[derive(Clone, Copy)]
 pub enum Role {
     Ending,
     Announcing,

@@ -23,10 +23,12 @@ use Rattle.laws.specs.Encoded.{reply_short}
 use Rattle.laws.specs.Families.{levels_some, levels_few}
 use Rattle.candidates.specs.Candidate.{Candidate}
 use Rattle.candidates.specs.Answers.{reply, replies}
-use Rattle.candidates.specs.Runs.{State, Ran as Outcome, size, role_at, ahead, finish, halts, taken, runs, fresh, run, records_from}
+use Rattle.candidates.specs.Runs.{State, Ran as Outcome, size, role_at, ahead, finish, halts, taken, runs, fresh, run}
+use Rattle.candidates.specs.Runs.{records_from}
 use Rattle.candidates.specs.Seen.{Seen, misfit, foreign, table, misfits}
 use Rattle.encoded.specs.Turns.{Clear, size_pos, halts_clear, runs_on, runs_stop, runs_enough}
-use Rattle.encoded.specs.Taken.{records_stop, records_on_lem}
+use Rattle.encoded.specs.Taken.{records_stop}
+use Rattle.encoded.proofs.Taken.{records_on_lem}
 use Rattle.words.specs.Table.{seen}
 use Rattle.words.specs.CheckReflects.{Fits}
 use Rattle.words.specs.View.{seen_table, seen-cases, seen_misfit, table_fits}

@@ -2,7 +2,8 @@
 -- replies in one way only, as those answers. Assumes nothing.
 --
 --     reply   16 h h c c   19 7   17 h h l q   18 q     the kind of a reply says where the next begins
-use Rattle.std.specs.Prelude.{◌≡◌, refl, ◌≢◌, Bool, true, false, List, [], ◌∷◌, ◌++◌, ℕ, zero, suc, ◌%◌, eqb, length, get_or, take, drop}
+use Rattle.std.specs.Prelude.{◌≡◌, refl, ◌≢◌, Bool, true, false, List, [], ◌∷◌, ◌++◌, ℕ, zero, suc, ◌%◌, eqb, length, get_or}
+use Rattle.std.specs.Prelude.{take, drop}
 use Rattle.std.proofs.Common.{sym, ap, ◌∙◌, append-nil, arith, take_at}
 use Rattle.logic.specs.Cases.{bool}
 use Rattle.numbers.specs.Joined.{joined-append}

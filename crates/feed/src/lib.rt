@@ -16,7 +16,7 @@ use families::{Family, Role};
 use replies::{Reply, accepts, put, refuses};
 
 // How far a run has come: feed bytes consumed, reply bytes written, accepted updates, refused records.
-#[derive(Drop)]
+#[derive(Clone, Copy)]
 struct Progress {
     at: usize,
     out: usize,
@@ -25,7 +25,7 @@ struct Progress {
 }
 
 // What is told of a run: its stop, feed bytes consumed, reply bytes written, accepted updates, refused records.
-#[derive(Drop)]
+#[derive(Clone, Copy)]
 pub struct Report {
     pub stop: u32,
     pub consumed: usize,
@@ -34,7 +34,7 @@ pub struct Report {
     pub refused: usize,
 }
 
-#[derive(Drop)]
+#[derive(Clone, Copy)]
 pub enum Ran {
     Stopped(Report),
     Refused(u32),

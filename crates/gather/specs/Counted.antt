@@ -9,7 +9,8 @@ use Rattle.sizes.specs.Sizes.{slot_words, last_slot}
 use Rattle.routes.specs.Collect.{own, collect, routes}
 use Rattle.slots.specs.Taken.{taken}
 use Rattle.tree.specs.Shape.{Shape}
-use Rattle.tree.specs.Taken.{First, taken_in, taken_to, taken-routes}
+use Rattle.tree.specs.Taken.{First, taken_in, taken_to}
+use Rattle.tree.proofs.Taken.{taken-routes}
 use Rattle.slots.specs.Word.{IsFeed}
 use Rattle.slots.specs.Slot.{won_free}
 use Rattle.slots.specs.Count.{sum_feeds}
@@ -24,7 +25,7 @@ sum_same a b f zero e = refl
 sum_same a b f (suc n) e =
     ap₂ ◌+◌ (e f (omega arith) (omega arith)) (sum_same a b (suc f) n (λ j x y. e j (omega arith) (omega arith)))
 
-sum-add : (a b : ℕ → ℕ) (f n : ℕ) → sum_feeds (λ j. a j + b j) f n ≡ sum_feeds a f n + sum_feeds b f n
+pub sum-add : (a b : ℕ → ℕ) (f n : ℕ) → sum_feeds (λ j. a j + b j) f n ≡ sum_feeds a f n + sum_feeds b f n
 unfolding sum_feeds
 sum-add a b f zero = refl
 sum-add a b f (suc n) = let e = sum-add a b (suc f) n in omega arith
@@ -40,7 +41,7 @@ one_count : (d v l f w : ℕ) → length (listed (meant d v l f w)) ≡ length (
 one_count d v l f zero = refl
 one_count d v l f (suc w) = refl
 
-feeds-count : (g : ℕ → ℕ) (d v l f n : ℕ) → length (of_feeds g d v l f n) ≡ sum_feeds (λ j. length (own d v l (g j))) f n
+pub feeds-count : (g : ℕ → ℕ) (d v l f n : ℕ) → length (of_feeds g d v l f n) ≡ sum_feeds (λ j. length (own d v l (g j))) f n
 unfolding of_feeds sum_feeds
 feeds-count g d v l f zero = refl
 feeds-count g d v l f (suc n) =
@@ -51,10 +52,10 @@ feeds-count g d v l f (suc n) =
 
 module _ (g : ℕ → ℕ → ℕ → ℕ) where
   -- the words of one feed
-  abbrev only : ℕ → ℕ → ℕ → ℕ
+  abbrev pub only : ℕ → ℕ → ℕ → ℕ
   only f v l = g v l f
 
-  split_count : (f d v l : ℕ)
+  pub split_count : (f d v l : ℕ)
       → length (collect (only f) (suc d) v l)
       ≡ length (own (suc d) v l (g v l f))
       + (length (collect (only f) d (2 * v) (suc l)) + length (collect (only f) d (2 * v + 1) (suc l)))
@@ -63,24 +64,6 @@ module _ (g : ℕ → ℕ → ℕ → ℕ) where
       length-append (own (suc d) v l (g v l f)) (collect (only f) d (2 * v) (suc l) ++ collect (only f) d (2 * v + 1) (suc l))
       ∙ ap (λ (n : ℕ). length (own (suc d) v l (g v l f)) + n)
       (length-append (collect (only f) d (2 * v) (suc l)) (collect (only f) d (2 * v + 1) (suc l)))
-
-  gather-count : (d v l : ℕ) → length (gather g d v l) ≡ sum_feeds (λ f. length (collect (only f) d v l)) 1 slot_words
-  unfolding gather collect
-  gather-count zero v l = feeds-count (g v l) zero v l 1 slot_words
-  gather-count (suc d) v l =
-      length-append (of_slot (g v l) (suc d) v l) (gather g d (2 * v) (suc l) ++ gather g d (2 * v + 1) (suc l))
-      ∙ ap₂ ◌+◌ (feeds-count (g v l) (suc d) v l 1 slot_words)
-      (length-append (gather g d (2 * v) (suc l)) (gather g d (2 * v + 1) (suc l))
-      ∙ ap₂ ◌+◌ (gather-count d (2 * v) (suc l)) (gather-count d (2 * v + 1) (suc l)))
-      ∙ sym (sum_same (λ f. length (collect (only f) (suc d) v l)) _ 1 slot_words (λ f x y. split_count f d v l)
-      ∙ sum-add (λ f. length (own (suc d) v l (g v l f))) _ 1 slot_words
-      ∙ ap (λ (n : ℕ). sum_feeds (λ f. length (own (suc d) v l (g v l f))) 1 slot_words + n)
-      (sum-add (λ f. length (collect (only f) d (2 * v) (suc l))) (λ f. length (collect (only f) d (2 * v + 1) (suc l)))
-      1 slot_words))
-
-  pub gathered-count : (W : ℕ) → length (gathered W g) ≡ sum_feeds (λ f. length (routes W (λ v l. g v l f))) 1 slot_words
-  unfolding gathered routes
-  gathered-count W = gather-count W 0 0
 
 -- ---- all arrays
 
@@ -95,23 +78,9 @@ candidates_of t (suc n) = candidates_of t n + candidates_in t (suc n)
 array_count : (t : FeedArrays) (a : ℕ) → sum_feeds (λ f. taken_in (feed_view t f) a) 1 slot_words ≡ candidates_in t a
 array_count t a = bool (eqb (t.tag a) 0) (λ e. rw e (sum_none 1 slot_words)) (λ e. rw e)
 
-arrays-count : (t : FeedArrays) (n : ℕ) → sum_feeds (λ f. taken_to (feed_view t f) n) 1 slot_words ≡ candidates_of t n
+pub arrays-count : (t : FeedArrays) (n : ℕ) → sum_feeds (λ f. taken_to (feed_view t f) n) 1 slot_words ≡ candidates_of t n
 unfolding taken_to candidates_of
 arrays-count t zero = sum_none 1 slot_words
 arrays-count t (suc n) =
     sum-add (λ f. taken_to (feed_view t f) n) (λ f. taken_in (feed_view t f) (suc n)) 1 slot_words
     ∙ ap₂ ◌+◌ (arrays-count t n) (array_count t (suc n))
-
--- the candidates of a tree of L levels
-pub tree_count : (A L : ℕ) (t : FeedArrays) → Shape A L (won_view t) → First A (won_view t) → RightWords A t
-    → length (gathered (8 * L) (word_held t)) ≡ candidates_of t A
-tree_count A L t sh fi r =
-    gathered-count (word_held t) (8 * L)
-    ∙ sum_same (λ f. length (routes (8 * L) (λ v l. word_held t v l f))) (λ f. taken_to (feed_view t f) A) 1 slot_words
-    (λ f x y. sym (taken-routes A L (taken_to (feed_view t f) A) (feed_view t f) (view_shape t A L f sh)
-    (first f (record { low = x; high = omega arith })) refl))
-    ∙ arrays-count t A
-  where
-    first : (f : ℕ) → IsFeed f → First A (feed_view t f)
-    first f i a x y h =
-        won_free (t.word a 1) (r a 1 x y (omega arith) (omega arith) (omega arith)) (fi a x y h) f i

@@ -16,26 +16,13 @@ use Rattle.rivals.specs.Maps.{weaken, put_ordered, cut_ordered, find-below, put_
 use Rattle.rivals.specs.Append.{or_else, else_none, Inside, inside_ordered, inside_weaken, inside-append, find-append, find-above}
 use Rattle.slots.specs.Word.{IsFeed}
 use Rattle.gather.specs.Gather.{meant, listed, of_feeds, of_slot, gather, gathered, base}
-use Rattle.gather.specs.Gather.{one_miss, slot_inside, slot_hit, slot_miss}
+use Rattle.gather.specs.Gather.{one_miss}
 
 -- ---- they increase
 
 module _ (g : ℕ → ℕ → ℕ → ℕ) where
-  pub gather-inside : (d v l : ℕ) → l + d < 256 → Inside key (base d v l) ((v + 1) * 2 ^ d * 256 * 8) (gather g d v l)
-  unfolding gather
-  gather-inside zero v l s =
-      inside_weaken key _ _ _ _ (of_slot (g v l) zero v l) (omega arith) (omega arith) (slot_inside (g v l) zero v l)
-  gather-inside (suc d) v l s =
-      inside-append key _ ((v * 2 ^ suc d * 256 + suc l) * 8) _ (of_slot (g v l) (suc d) v l) _
-      (inside_weaken key _ _ _ _ (of_slot (g v l) (suc d) v l) (omega arith) (omega arith) (slot_inside (g v l) (suc d) v l))
-      (inside-append key _ ((2 * v + 1) * 2 ^ d * 256 * 8) _ (gather g d (2 * v) (suc l)) _
-      (inside_weaken key _ _ _ _ (gather g d (2 * v) (suc l)) (omega (arith, dbl v d)) (le_refl _)
-      (gather-inside d (2 * v) (suc l) (omega arith)))
-      (inside_weaken key _ _ _ _ (gather g d (2 * v + 1) (suc l)) (omega arith) (omega (arith, dbl v d, pow-succ' 2 d))
-      (gather-inside d (2 * v + 1) (suc l) (omega arith))))
-
   -- what is found: of the prefix, then of its lower half, then of its upper half
-  gather_split : (d v l k : ℕ)
+  pub gather_split : (d v l k : ℕ)
       → find key (gather g (suc d) v l) k
       ≡ or_else (find key (of_slot (g v l) (suc d) v l) k)
       (or_else (find key (gather g d (2 * v) (suc l)) k) (find key (gather g d (2 * v + 1) (suc l)) k))
@@ -44,61 +31,15 @@ module _ (g : ℕ → ℕ → ℕ → ℕ) where
       find-append key (of_slot (g v l) (suc d) v l) _ k
       ∙ ap (or_else (find key (of_slot (g v l) (suc d) v l) k)) (find-append key (gather g d (2 * v) (suc l)) _ k)
 
-  gather-below : (d v l k : ℕ) → l + d < 256 → k < base d v l → find key (gather g d v l) k ≡ none
-  gather-below d v l k s h =
-      find-below key _ k (gather g d v l) (inside_ordered key _ _ (gather g d v l) (gather-inside d v l s)) h
-
-  gather-above : (d v l k : ℕ) → l + d < 256 → (v + 1) * 2 ^ d * 256 * 8 ≤ k → find key (gather g d v l) k ≡ none
-  gather-above d v l k s h = find-above key _ _ k (gather g d v l) (gather-inside d v l s) h
-
 -- ---- at the place of a prefix and a feed
-
-module _ (g : ℕ → ℕ → ℕ → ℕ) (f : ℕ) (i : IsFeed f) where
-  gather_self : (d v l : ℕ) → l + d < 256 → find key (gather g d v l) (base d v l + f) ≡ meant d v l f (g v l f)
-  unfolding gather
-  gather_self zero v l s = slot_hit (g v l) zero v l f i
-  gather_self (suc d) v l s =
-      gather_split g d v l _
-      ∙ ap₂ or_else (slot_hit (g v l) (suc d) v l f i)
-      (ap₂ or_else (gather-below g d (2 * v) (suc l) _ (omega arith) (omega (arith, dbl v d, i.high)))
-      (gather-below g d (2 * v + 1) (suc l) _ (omega arith) (omega (arith, dbl v d, i.high))))
-      ∙ else_none (meant (suc d) v l f (g v l f))
-
-  gather-find : (d v l m e v' l' : ℕ) → m + e ≡ d → l + m ≡ l' → l + d < 256 → v * 2 ^ m ≤ v' → v' < (v + 1) * 2 ^ m
-      → find key (gather g d v l) (base e v' l' + f) ≡ meant e v' l' f (g v' l' f)
-  unfolding gather
-  gather-find d v l zero e v' l' p q s h h' =
-      let ev : v' ≡ v = omega arith in
-      let el : l' ≡ l = omega arith in
-      let ed : e ≡ d = omega arith in
-      rw (ev, el, ed) (gather_self d v l s)
-  gather-find zero v l (suc m) e v' l' p q s h h' = absurd (omega arith)
-  gather-find (suc d) v l (suc m) e v' l' p q s h h' =
-      gather_split g d v l _
-      ∙ ap₂ or_else (slot_miss (g v l) (suc d) v l k (omega (arith, key_ge (suc m) e (suc d) v v' p h, i.low)))
-      (less v' ((2 * v + 1) * 2 ^ m)
-      (λ t _.
-      ap₂ or_else (gather-find d (2 * v) (suc l) m e v' l' p' (omega arith) (omega arith) (omega (arith, dbl v m)) t)
-      (gather-below g d (2 * v + 1) (suc l) k (omega arith)
-      (omega (arith, key_lt m e d (2 * v + 1) v' l' p' t (omega arith), i.high)))
-      ∙ else_none (meant e v' l' f (g v' l' f)))
-      (λ t _.
-      ap₂ or_else (gather-above g d (2 * v) (suc l) k (omega arith) (omega (arith, key_ge m e d (2 * v + 1) v' p' t)))
-      (gather-find d (2 * v + 1) (suc l) m e v' l' p' (omega arith) (omega arith) t (omega (arith, dbl v m, pow-succ' 2 m)))))
-    where
-      k : ℕ
-      k = base e v' l' + f
-
-      p' : m + e ≡ d
-      p' = omega arith
 
 -- ---- the list depends, at each place, on the word of that place alone
 
-Agree : (W : ℕ) (g h : ℕ → ℕ → ℕ → ℕ) → ℕ → Type 0
+unfoldable pub Agree : (W : ℕ) (g h : ℕ → ℕ → ℕ → ℕ) → ℕ → Type 0
 Agree W g h k = (v l e f : ℕ) → IsFeed f → l + e ≡ W → v < 2 ^ l → base e v l + f ≡ k → g v l f ≡ h v l f
 
 module _ (W : ℕ) (g h : ℕ → ℕ → ℕ → ℕ) (k : ℕ) (a : Agree W g h k) where
-  feeds_agree : (d v l f n : ℕ) → 1 ≤ f → f + n ≤ 5 → l + d ≡ W → v < 2 ^ l
+  pub feeds_agree : (d v l f n : ℕ) → 1 ≤ f → f + n ≤ 5 → l + d ≡ W → v < 2 ^ l
       → find key (of_feeds (g v l) d v l f n) k ≡ find key (of_feeds (h v l) d v l f n) k
   unfolding of_feeds Agree
   feeds_agree d v l f zero x y p b = refl
@@ -111,68 +52,9 @@ module _ (W : ℕ) (g h : ℕ → ℕ → ℕ → ℕ) (k : ℕ) (a : Agree W g 
       (feeds_agree d v l (suc f) n (omega arith) (omega arith) p b)
       ∙ sym (find-append key (listed (meant d v l f (h v l f))) (of_feeds (h v l) d v l (suc f) n) k)
 
-  gather_agree : (d v l : ℕ) → l + d ≡ W → v < 2 ^ l → find key (gather g d v l) k ≡ find key (gather h d v l) k
-  unfolding gather
-  gather_agree zero v l p b = feeds_agree zero v l 1 slot_words (omega arith) (omega arith) p b
-  gather_agree (suc d) v l p b =
-      gather_split g d v l k
-      ∙ ap₂ or_else (feeds_agree (suc d) v l 1 slot_words (omega arith) (omega arith) p b)
-      (ap₂ or_else (gather_agree d (2 * v) (suc l) (omega arith) (omega arith))
-      (gather_agree d (2 * v + 1) (suc l) (omega arith) (omega arith)))
-      ∙ sym (gather_split h d v l k)
-
 -- ---- of the whole width
 
 -- h is g but for the word of feed f₀ at (v₀, l₀)
 abbrev pub OffWord : ℕ → ℕ → ℕ → ℕ → (ℕ → ℕ → ℕ → ℕ) → (ℕ → ℕ → ℕ → ℕ) → Type 0
 OffWord W v₀ l₀ f₀ g h =
     (v l f : ℕ) → IsFeed f → l ≤ W → v < 2 ^ l → ¬ ((v ≡ v₀) × (l ≡ l₀) × (f ≡ f₀)) → g v l f ≡ h v l f
-
-module _ (W : ℕ) (w : W < 256) where
-  pub gathered_ordered : (g : ℕ → ℕ → ℕ → ℕ) → Ordered key 0 (gathered W g)
-  unfolding gathered
-  gathered_ordered g =
-      weaken key (gathered W g) (omega arith) (inside_ordered key _ _ (gathered W g) (gather-inside g W 0 0 (omega arith)))
-
-  pub gathered-find : (g : ℕ → ℕ → ℕ → ℕ) (v l f : ℕ) → l ≤ W → v < 2 ^ l → IsFeed f
-      → find key (gathered W g) (place (v * 2 ^ (W - l)) l f) ≡ meant (W - l) v l f (g v l f)
-  unfolding gathered
-  gathered-find g v l f h b i =
-      gather-find g f i W 0 0 l (W - l) v l (omega arith) (omega arith) (omega arith) (omega arith) (omega arith)
-
-  module _ (g h : ℕ → ℕ → ℕ → ℕ) (v l f : ℕ) (s : l ≤ W) (b : v < 2 ^ l) (i : IsFeed f) (off : OffWord W v l f g h) where
-    K : ℕ
-    K = place (v * 2 ^ (W - l)) l f
-
-    elsewhere : (k : ℕ) → place (v * 2 ^ (W - l)) l f ≢ k → find key (gathered W g) k ≡ find key (gathered W h) k
-    unfolding Agree gathered
-    elsewhere k n =
-        gather_agree W g h k
-        (λ v' l' e f' j p b' q. off v' l' f' j (omega arith) b' (λ z. n (same_place v' l' e f' p q z)))
-        W 0 0 (omega arith) (omega arith)
-      where
-        same_place : (v' l' e f' : ℕ) → l' + e ≡ W → base e v' l' + f' ≡ k → (v' ≡ v) × (l' ≡ l) × (f' ≡ f)
-            → place (v * 2 ^ (W - l)) l f ≡ k
-        same_place v' l' e f' p q z = let d : W - l ≡ e = omega arith in rw (d, ← z.0, ← z.1, ← z.2) q
-
-    -- a word that stands for the candidate c: it is put
-    pub gathered-put : (c : Candidate) → meant (W - l) v l f (h v l f) ≡ some c → key c ≡ place (v * 2 ^ (W - l)) l f
-        → gathered W h ≡ put key c (gathered W g)
-    gathered-put c e q =
-        ext key 0 (gathered W h) (put key c (gathered W g)) (gathered_ordered h)
-        (put_ordered key 0 c (gathered W g) (omega arith) (gathered_ordered g))
-        (λ k. same (key c) k
-        (λ t _. rw (← t)
-        (ap (find key (gathered W h)) q ∙ gathered-find h v l f s b i ∙ e ∙ sym (put_same key c (gathered W g))))
-        (λ n _. sym (put_other key c (gathered W g) k n ∙ elsewhere k (λ z. n (q ∙ z)))))
-
-    -- a word cleared: it is cut
-    pub gathered_cut : h v l f ≡ 0 → gathered W h ≡ cut key (place (v * 2 ^ (W - l)) l f) (gathered W g)
-    unfolding K
-    gathered_cut z =
-        ext key 0 (gathered W h) (cut key K (gathered W g)) (gathered_ordered h)
-        (cut_ordered key 0 K (gathered W g) (gathered_ordered g))
-        (λ k. same K k
-        (λ t _. rw (← t)
-        (gathered-find h v l f s b i ∙ rw z (sym (cut_same key 0 K (gathered W g) (gathered_ordered g)))))
-        (λ n _. sym (cut_other key K k (gathered W g) (λ u. n (sym u)) ∙ elsewhere k n)))

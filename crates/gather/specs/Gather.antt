@@ -55,7 +55,7 @@ one_inside : (d v l f w : ℕ) → Inside key (base d v l + f) (base d v l + suc
 one_inside d v l f zero = omega arith
 one_inside d v l f (suc w) = (omega arith, omega arith)
 
-one_hit : (d v l f w : ℕ) → find key (listed (meant d v l f w)) (base d v l + f) ≡ meant d v l f w
+pub one_hit : (d v l f w : ℕ) → find key (listed (meant d v l f w)) (base d v l + f) ≡ meant d v l f w
 one_hit d v l f zero = refl
 one_hit d v l f (suc w) = find_head key _ [] (base d v l + f) refl
 
@@ -72,45 +72,17 @@ meant_word d v l f p h a b = go (word_of p h) refl
     go (suc w) e = rw (← e, preference_of p h b, hop_of_lem p h b)
 
 module _ (g : ℕ → ℕ) (d v l : ℕ) where
-  feeds-inside : (f n m : ℕ) → f + n ≡ m → Inside key (base d v l + f) (base d v l + m) (of_feeds g d v l f n)
+  pub feeds-inside : (f n m : ℕ) → f + n ≡ m → Inside key (base d v l + f) (base d v l + m) (of_feeds g d v l f n)
   unfolding of_feeds
   feeds-inside f zero m e = omega arith
   feeds-inside f (suc n) m e =
       inside-append key _ (base d v l + suc f) _ (listed (meant d v l f (g f))) _ (one_inside d v l f (g f))
       (feeds-inside (suc f) n m (omega arith))
 
-  -- what is found at a feed is what its word stands for
-  feeds_hit : (f n m j : ℕ) → f + n ≡ m → f ≤ j → j < m → find key (of_feeds g d v l f n) (base d v l + j) ≡ meant d v l j (g j)
-  unfolding of_feeds
-  feeds_hit f zero m j e a b = absurd (omega arith)
-  feeds_hit f (suc n) m j e a b =
-      find-append key (listed (meant d v l f (g f))) (of_feeds g d v l (suc f) n) (base d v l + j)
-      ∙ same f j
-      (λ q _. rw (← q) (ap₂ or_else (one_hit d v l f (g f))
-      (find-below key _ (base d v l + f) (of_feeds g d v l (suc f) n)
-      (inside_ordered key _ _ (of_feeds g d v l (suc f) n) (feeds-inside (suc f) n m (omega arith))) (omega arith))
-      ∙ else_none (meant d v l f (g f))))
-      (λ q _. ap₂ or_else (one_miss d v l f (g f) (base d v l + j) (λ z. q (omega arith)))
-      (feeds_hit (suc f) n m j (omega arith) (omega arith) b))
-
-  feeds_every : (P : Candidate → Type 0) (f n m : ℕ) → f + n ≡ m
+  pub feeds_every : (P : Candidate → Type 0) (f n m : ℕ) → f + n ≡ m
       → ((j : ℕ) → f ≤ j → j < m → Every P (listed (meant d v l j (g j)))) → Every P (of_feeds g d v l f n)
   unfolding of_feeds
   feeds_every P f zero m e p = tt
   feeds_every P f (suc n) m e p =
       every_append P (listed (meant d v l f (g f))) (of_feeds g d v l (suc f) n) (p f (le_refl _) (omega arith))
       (feeds_every P (suc f) n m (omega arith) (λ j a b. p j (omega arith) b))
-
-  pub slot_inside : Inside key (base d v l + 1) (base d v l + 5) (of_slot g d v l)
-  slot_inside = feeds-inside 1 slot_words 5 (omega arith)
-
-  pub slot_hit : (f : ℕ) → IsFeed f → find key (of_slot g d v l) (base d v l + f) ≡ meant d v l f (g f)
-  slot_hit f p = feeds_hit 1 slot_words 5 f (omega arith) p.low (omega (arith, p.high))
-
-  pub slot_miss : (k : ℕ) → base d v l + 5 ≤ k → find key (of_slot g d v l) k ≡ none
-  slot_miss k h = find-above key _ _ k (of_slot g d v l) slot_inside h
-
-  -- what each feed's candidate has, each of the slot's has
-  pub slot_every : (P : Candidate → Type 0) → ((f : ℕ) → IsFeed f → Every P (listed (meant d v l f (g f))))
-      → Every P (of_slot g d v l)
-  slot_every P p = feeds_every P 1 slot_words 5 (omega arith) (λ f a b. p f (record { low = a; high = omega arith }))

@@ -38,7 +38,7 @@ feed-hung-below A L t u p i a h f same none = record {
 
 -- ---- the same words, the same list
 
-feeds_same : (g h : ℕ → ℕ) (d v l f n : ℕ) → ((j : ℕ) → f ≤ j → j < f + n → g j ≡ h j)
+pub feeds_same : (g h : ℕ → ℕ) (d v l f n : ℕ) → ((j : ℕ) → f ≤ j → j < f + n → g j ≡ h j)
     → of_feeds g d v l f n ≡ of_feeds h d v l f n
 unfolding of_feeds
 feeds_same g h d v l f zero e = refl
@@ -46,37 +46,11 @@ feeds_same g h d v l f (suc n) e =
     ap₂ ◌++◌ (ap (λ (w : ℕ). listed (meant d v l f w)) (e f (le_refl _) (omega arith)))
     (feeds_same g h d v l (suc f) n (λ j x y. e j (omega arith) (omega arith)))
 
-module _ (g h : ℕ → ℕ → ℕ → ℕ) (e : (v l f : ℕ) → IsFeed f → g v l f ≡ h v l f) where
-  slot_same : (d v l : ℕ) → of_slot (g v l) d v l ≡ of_slot (h v l) d v l
-  slot_same d v l =
-      feeds_same (g v l) (h v l) d v l 1 slot_words (λ j x y. e v l j (record { low = x; high = omega arith }))
-
-  gather_same : (d v l : ℕ) → gather g d v l ≡ gather h d v l
-  unfolding gather
-  gather_same zero v l = slot_same zero v l
-  gather_same (suc d) v l =
-      ap₂ ◌++◌ (slot_same (suc d) v l) (ap₂ ◌++◌ (gather_same d (2 * v) (suc l)) (gather_same d (2 * v + 1) (suc l)))
-
-  pub gathered_same : (W : ℕ) → gathered W g ≡ gathered W h
-  unfolding gathered
-  gathered_same W = gather_same W 0 0
-
 -- ---- no words, no candidates
 
 module _ (g : ℕ → ℕ → ℕ → ℕ) (e : (v l f : ℕ) → IsFeed f → g v l f ≡ 0) where
-  feeds_none : (d v l f n : ℕ) → 1 ≤ f → f + n ≤ 5 → of_feeds (g v l) d v l f n ≡ []
+  pub feeds_none : (d v l f n : ℕ) → 1 ≤ f → f + n ≤ 5 → of_feeds (g v l) d v l f n ≡ []
   unfolding of_feeds
   feeds_none d v l f zero a b = refl
   feeds_none d v l f (suc n) a b =
       rw (e v l f (record { low = a; high = omega arith })) (feeds_none d v l (suc f) n (omega arith) (omega arith))
-
-  gather_none : (d v l : ℕ) → gather g d v l ≡ []
-  unfolding gather
-  gather_none zero v l = feeds_none zero v l 1 slot_words (omega arith) (omega arith)
-  gather_none (suc d) v l =
-      rw (feeds_none (suc d) v l 1 slot_words (omega arith) (omega arith), gather_none d (2 * v) (suc l))
-      (gather_none d (2 * v + 1) (suc l))
-
-  pub gathered_none : (W : ℕ) → gathered W g ≡ []
-  unfolding gathered
-  gathered_none W = gather_none W 0 0

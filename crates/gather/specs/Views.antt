@@ -21,7 +21,6 @@ use Rattle.slots.specs.Word.{hop_in, RightWord, right_none}
 use Rattle.slots.specs.Winner.{lower, won_hop, winner_same}
 use Rattle.slots.specs.Slot.{RightSlot}
 use Rattle.gather.specs.Gather.{gathered}
-use Rattle.gather.specs.Winning.{gathered-winners, gathered_list}
 
 -- word a s f is that of feed f in slot s of array a
 pub record FeedArrays : Type 0 where
@@ -53,32 +52,12 @@ module _ (t : FeedArrays) where
   pub view_node : (f v k : ℕ) → node (feed_view t f) v k ≡ node (won_view t) v k
   view_node f = same_node (won_view t) (feed_view t f) (λ c h. refl) (λ c i h b. refl)
 
-  at_won : (a s : ℕ) → at (won_view t) a s ≡ won_hop (λ f. at (feed_view t f) a s)
+  pub at_won : (a s : ℕ) → at (won_view t) a s ≡ won_hop (λ f. at (feed_view t f) a s)
   unfolding at lower
   at_won zero s = refl
   at_won (suc a) s = refl
-
-  -- the hop held in the winners' view is that of the four words held
-  pub held_won : (v l : ℕ) → held (won_view t) v l ≡ won_hop (word_held t v l)
-  unfolding held
-  held_won v l =
-      at_won a (slot_of v l)
-      ∙ ap hop_in (winner_same (λ f. at (feed_view t f) a (slot_of v l)) (word_held t v l)
-      (λ f i. ap (λ (b : ℕ). at (feed_view t f) b (slot_of v l)) (sym (view_node f (v / 2 ^ depth_of l) (level l)))))
-    where
-      a : ℕ
-      a = node (won_view t) (v / 2 ^ depth_of l) (level l)
 
 module _ (A L : ℕ) (t : FeedArrays) (sh : Shape A L (won_view t)) (p : RightWords A t) where
   pub held_right : (v l : ℕ) → RightSlot (word_held t v l)
   held_right v l f i =
       held-cases A L (feed_view t f) (view_shape t A L f sh) RightWord right_none (λ a s b c d e g. p a s b c d e g f i) v l
-
-  module _ (W : ℕ) (w : W < 256) where
-    -- the candidates of the tree are a list
-    pub tree_list : IsList W (gathered W (word_held t))
-    tree_list = gathered_list (word_held t) held_right W w
-
-    -- whose winners are the route list of the winners' view
-    pub tree_winners : winners (gathered W (word_held t)) ≡ routes W (held (won_view t))
-    tree_winners = gathered-winners (word_held t) held_right W w ∙ ap (routes W) (λ i v l. sym (held_won t v l) i)

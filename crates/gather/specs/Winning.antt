@@ -28,12 +28,11 @@ use Rattle.slots.specs.Word.{IsFeed, word_for, hop_in, RightWord}
 use Rattle.slots.specs.Winner.{won_hop, winner_same}
 use Rattle.slots.specs.Slot.{RightSlot}
 use Rattle.slots.specs.Prefix.{Fit, word_in, winner_fits}
-use Rattle.gather.specs.Gather.{meant, listed, of_slot, gather, gathered, slot_inside, slot_hit, slot_every}
-use Rattle.gather.specs.Found.{gather-inside, gathered_ordered}
+use Rattle.gather.specs.Gather.{meant, listed, of_slot, gather, gathered}
 
 -- ---- the winners of two lists, one after the other
 
-best_none : (cs : List Candidate) (k : ℕ) → Every (λ c. prefix_key c ≢ k) cs → best cs k ≡ none
+pub best_none : (cs : List Candidate) (k : ℕ) → Every (λ c. prefix_key c ≢ k) cs → best cs k ≡ none
 best_none [] k p = refl
 best_none (c ∷ cs) k p = best_skip c cs k p.0 ∙ best_none cs k p.1
 
@@ -60,7 +59,7 @@ winners-above m [] p = tt
 winners-above m (c ∷ cs) p =
     all_insert (λ s. m ≤ plain.key s) (head_route c cs) (winners cs) p.0 (winners-above m cs p.1)
 
-winners-append : (m : ℕ) (xs ys : List Candidate) → Every (λ c. prefix_key c < m) xs → Every (λ c. m ≤ prefix_key c) ys
+pub winners-append : (m : ℕ) (xs ys : List Candidate) → Every (λ c. prefix_key c < m) xs → Every (λ c. m ≤ prefix_key c) ys
     → winners (xs ++ ys) ≡ winners xs ++ winners ys
 winners-append m [] ys p q = refl
 winners-append m (c ∷ cs) ys p q =
@@ -72,118 +71,41 @@ winners-append m (c ∷ cs) ys p q =
 
 -- ---- one slot
 
-one_fits : (d v l f w : ℕ) → IsFeed f → RightWord w → Every (Fit 1 4) (listed (meant d v l f w))
+pub one_fits : (d v l f w : ℕ) → IsFeed f → RightWord w → Every (Fit 1 4) (listed (meant d v l f w))
 one_fits d v l f zero i p = tt
 one_fits d v l f (suc w) i p =
     (record { low = i.low; high = i.high; pos = p.hop (λ z. omega arith); small = omega arith }, tt)
 
-one_prefix : (d v l f w : ℕ) → Every (λ c. prefix_key c ≡ v * 2 ^ d * 256 + l) (listed (meant d v l f w))
+pub one_prefix : (d v l f w : ℕ) → Every (λ c. prefix_key c ≡ v * 2 ^ d * 256 + l) (listed (meant d v l f w))
 one_prefix d v l f zero = tt
 one_prefix d v l f (suc w) = (refl, tt)
 
-one_short : (d v l f w : ℕ) → l < 256 → Every (λ c. c.len < 256) (listed (meant d v l f w))
+pub one_short : (d v l f w : ℕ) → l < 256 → Every (λ c. c.len < 256) (listed (meant d v l f w))
 one_short d v l f zero s = tt
 one_short d v l f (suc w) s = (s, tt)
 
-word_back : (d v l f w : ℕ) → word_for (meant d v l f w) ≡ w
+pub word_back : (d v l f w : ℕ) → word_for (meant d v l f w) ≡ w
 word_back d v l f zero = refl
 word_back d v l f (suc w) = omega arith
 
-own_from : (d v l h : ℕ) → From 0 (own d v l h)
+pub own_from : (d v l h : ℕ) → From 0 (own d v l h)
 own_from d v l zero = tt
 own_from d v l (suc h) = (omega arith, tt)
 
 module _ (g : ℕ → ℕ) (d v l : ℕ) (s : l < 256) (p : RightSlot g) where
-  abbrev k₀ : ℕ
+  abbrev pub k₀ : ℕ
   k₀ = v * 2 ^ d * 256 + l
 
-  abbrev cs₀ : List Candidate
+  abbrev pub cs₀ : List Candidate
   cs₀ = of_slot g d v l
-
-  slot_fits : Every (Fit 1 4) cs₀
-  slot_fits = slot_every g d v l (Fit 1 4) (λ f i. one_fits d v l f (g f) i (p f i))
-
-  slot_prefix : Every (λ c. prefix_key c ≡ k₀) cs₀
-  slot_prefix = slot_every g d v l (λ c. prefix_key c ≡ k₀) (λ f i. one_prefix d v l f (g f))
-
-  slot_good : Every Good cs₀
-  slot_good =
-      each_both (Fit 1 4) (λ c. c.len < 256) Good (λ c x y. record { pos = x.pos; short = y; few = omega (arith, x.high) }) cs₀
-      slot_fits (slot_every g d v l (λ c. c.len < 256) (λ f i. one_short d v l f (g f) s))
-
-  slot_ordered : Ordered key 0 cs₀
-  slot_ordered = weaken key cs₀ (omega arith) (inside_ordered key _ _ cs₀ (slot_inside g d v l))
-
-  slot_won : winning cs₀ k₀ ≡ won_hop g
-  slot_won =
-      winner_fits cs₀ k₀ slot_ordered slot_fits
-      ∙ ap hop_in (winner_same (word_in cs₀ k₀) g (λ f i. ap word_for (slot_hit g d v l f i) ∙ word_back d v l f (g f)))
-
-  slot_winners : winners cs₀ ≡ own d v l (won_hop g)
-  slot_winners =
-      sorted.ext 0 (winners cs₀) (own d v l (won_hop g)) (winners_from cs₀) (own_from d v l (won_hop g))
-      (winners_good cs₀ slot_good) (own_goods d v l (won_hop g) s)
-      (λ k. same k₀ k
-      (λ e _. rw (← e) (winners_hop cs₀ k₀ ∙ slot_won ∙ sym (own_hit d v l (won_hop g) k₀ refl)))
-      (λ n _. winners_hop cs₀ k
-      ∙ ap hop_of (best_none cs₀ k
-      (every_map (λ c. prefix_key c ≡ k₀) (λ c. prefix_key c ≢ k) (λ c e z. n (sym e ∙ z)) cs₀ slot_prefix))
-      ∙ sym (own_miss d v l (won_hop g) k n)))
 
 -- ---- all slots
 
 module _ (g : ℕ → ℕ → ℕ → ℕ) (p : (v l : ℕ) → RightSlot (g v l)) where
-  gather-fits : (d v l : ℕ) → l + d < 256 → Every (Fit 1 4) (gather g d v l)
-  unfolding gather
-  gather-fits zero v l s = slot_fits (g v l) zero v l (omega arith) (p v l)
-  gather-fits (suc d) v l s =
-      every_append (Fit 1 4) (of_slot (g v l) (suc d) v l) _ (slot_fits (g v l) (suc d) v l (omega arith) (p v l))
-      (every_append (Fit 1 4) (gather g d (2 * v) (suc l)) _ (gather-fits d (2 * v) (suc l) (omega arith))
-      (gather-fits d (2 * v + 1) (suc l) (omega arith)))
-
-  -- where the prefixes below one lie
-  gather_from : (m d v l : ℕ) → l + d < 256 → m ≤ v * 2 ^ d * 256 + l → Every (λ c. m ≤ prefix_key c) (gather g d v l)
-  gather_from m d v l s h =
-      each_both (Fit 1 4) (λ c. ((v * 2 ^ d * 256 + l) * 8 ≤ key c) × (key c < (v + 1) * 2 ^ d * 256 * 8)) (λ c. m ≤ prefix_key c)
-      (λ c x y. omega (arith, x.high, y.0)) (gather g d v l) (gather-fits d v l s)
-      (inside_every key _ _ (gather g d v l) (gather-inside g d v l s))
-
-  gather_to : (m d v l : ℕ) → l + d < 256 → (v + 1) * 2 ^ d * 256 ≤ m → Every (λ c. prefix_key c < m) (gather g d v l)
-  gather_to m d v l s h =
-      every_map (λ c. ((v * 2 ^ d * 256 + l) * 8 ≤ key c) × (key c < (v + 1) * 2 ^ d * 256 * 8)) (λ c. prefix_key c < m)
-      (λ c y. omega (arith, y.1)) (gather g d v l) (inside_every key _ _ (gather g d v l) (gather-inside g d v l s))
-
-  gather-winners : (d v l : ℕ) → l + d < 256 → winners (gather g d v l) ≡ collect (λ v l. won_hop (g v l)) d v l
-  unfolding gather collect
-  gather-winners zero v l s = slot_winners (g v l) zero v l (omega arith) (p v l)
-  gather-winners (suc d) v l s =
-      winners-append (v * 2 ^ suc d * 256 + suc l) (of_slot (g v l) (suc d) v l) _
-      (every_map (λ c. prefix_key c ≡ v * 2 ^ suc d * 256 + l) (λ c. prefix_key c < v * 2 ^ suc d * 256 + suc l)
-      (λ c e. omega arith) (of_slot (g v l) (suc d) v l) (slot_prefix (g v l) (suc d) v l (omega arith) (p v l)))
-      (every_append (λ c. v * 2 ^ suc d * 256 + suc l ≤ prefix_key c) (gather g d (2 * v) (suc l)) _
-      (gather_from _ d (2 * v) (suc l) (omega arith) (omega (arith, dbl v d)))
-      (gather_from _ d (2 * v + 1) (suc l) (omega arith) (omega (arith, dbl v d))))
-      ∙ ap₂ ◌++◌ (slot_winners (g v l) (suc d) v l (omega arith) (p v l))
-      (winners-append ((2 * v + 1) * 2 ^ d * 256) (gather g d (2 * v) (suc l)) (gather g d (2 * v + 1) (suc l))
-      (gather_to _ d (2 * v) (suc l) (omega arith) (omega arith))
-      (gather_from _ d (2 * v + 1) (suc l) (omega arith) (omega arith))
-      ∙ ap₂ ◌++◌ (gather-winners d (2 * v) (suc l) (omega arith)) (gather-winners d (2 * v + 1) (suc l) (omega arith)))
-
-  pub gathered-winners : (W : ℕ) → W < 256 → winners (gathered W g) ≡ routes W (λ v l. won_hop (g v l))
-  unfolding gathered routes
-  gathered-winners W w = gather-winners W 0 0 (omega arith)
-
-  -- so the winning hop at a prefix is its slot's
-  pub gathered_won : (W v l : ℕ) → W < 256 → l ≤ W → v < 2 ^ l
-      → winning (gathered W g) (v * 2 ^ (W - l) * 256 + l) ≡ won_hop (g v l)
-  gathered_won W v l w h b =
-      sym (winners_hop (gathered W g) (v * 2 ^ (W - l) * 256 + l))
-      ∙ ap (λ (rs : List Route). hop_at rs (v * 2 ^ (W - l) * 256 + l)) (gathered-winners W w)
-      ∙ routes_hop W w (λ v l. won_hop (g v l)) v l h b
-
   -- ---- and the candidates are a list
 
-  one_is : (W d v l f w : ℕ) → l + d ≡ W → v < 2 ^ l → IsFeed f → RightWord w → Every (IsCandidate W) (listed (meant d v l f w))
+  pub one_is : (W d v l f w : ℕ) → l + d ≡ W → v < 2 ^ l → IsFeed f → RightWord w
+      → Every (IsCandidate W) (listed (meant d v l f w))
   one_is W d v l f zero e b i q = tt
   one_is W d v l f (suc w) e b i q =
       let n : W - l ≡ d = omega arith in
@@ -199,19 +121,3 @@ module _ (g : ℕ → ℕ → ℕ → ℕ) (p : (v l : ℕ) → RightSlot (g v l
         },
         tt,
       )
-
-  slot_is : (W d v l : ℕ) → l + d ≡ W → v < 2 ^ l → Every (IsCandidate W) (of_slot (g v l) d v l)
-  slot_is W d v l e b = slot_every (g v l) d v l (IsCandidate W) (λ f i. one_is W d v l f (g v l f) e b i (p v l f i))
-
-  gather_is : (W d v l : ℕ) → l + d ≡ W → v < 2 ^ l → Every (IsCandidate W) (gather g d v l)
-  unfolding gather
-  gather_is W zero v l e b = slot_is W zero v l e b
-  gather_is W (suc d) v l e b =
-      every_append (IsCandidate W) (of_slot (g v l) (suc d) v l) _ (slot_is W (suc d) v l e b)
-      (every_append (IsCandidate W) (gather g d (2 * v) (suc l)) _ (gather_is W d (2 * v) (suc l) (omega arith) (omega arith))
-      (gather_is W d (2 * v + 1) (suc l) (omega arith) (omega arith)))
-
-  pub gathered_list : (W : ℕ) → W < 256 → IsList W (gathered W g)
-  unfolding gathered
-  gathered_list W w =
-      record { sorted = gathered_ordered W w g; candidates = gather_is W W 0 0 (omega arith) (omega arith) }

@@ -12,13 +12,13 @@ use Rattle.candidates.specs.Keyed.{find, put, cut}
 use Rattle.candidates.specs.Candidate.{candidate, place, key}
 use Rattle.candidates.specs.Winners.{winning}
 use Rattle.tree.specs.Shape.{Shape}
-use Rattle.tree.specs.SlotSet.{TreeSlotSet, Place, same_shape, held_place, slot_set_here, slot_set_off}
+use Rattle.tree.specs.SlotSet.{TreeSlotSet, Place, same_shape, held_place, slot_set_here}
+use Rattle.tree.proofs.SlotSet.{slot_set_off}
 use Rattle.slots.specs.Word.{IsFeed, word_of, hop_in, RightWord}
 use Rattle.slots.specs.Winner.{won_hop, winner_same}
 use Rattle.slots.specs.Slot.{RightSlot, with_word, with_same, with_other, with_right}
 use Rattle.gather.specs.Gather.{meant, gathered, meant_word}
-use Rattle.gather.specs.Found.{OffWord, gathered-find, gathered-put, gathered_cut}
-use Rattle.gather.specs.Winning.{gathered_won}
+use Rattle.gather.specs.Found.{OffWord}
 use Rattle.gather.specs.Views.{FeedArrays, feed_view, won_view, word_held, RightWords, view_shape, view_node, held_right}
 
 -- u is t but for the word of feed f in slot s of array b, which is w
@@ -30,7 +30,7 @@ pub record TreeWordSet (t u : FeedArrays) (b s f w : ℕ) : Type 0 where
 
 module _ (t u : FeedArrays) (b s f w : ℕ) (g : TreeWordSet t u b s f w) where
   -- the view of each feed, and that of the winners
-  feed-set : (j : ℕ) → IsFeed j → TreeSlotSet (feed_view t j) (feed_view u j) b s (with_word (t.word b s) f w j)
+  pub feed-set : (j : ℕ) → IsFeed j → TreeSlotSet (feed_view t j) (feed_view u j) b s (with_word (t.word b s) f w j)
   feed-set j i =
       record { tags = g.tags; links = g.links; here = g.here j i; slots = λ c r x y z o. g.words c r j x y z o i }
 
@@ -61,16 +61,16 @@ module _ (t u : FeedArrays) (b s f w : ℕ) (g : TreeWordSet t u b s f w) where
 -- at the place of the prefix q, x: 8 * k + d bits
 module _ (A L : ℕ) (t u : FeedArrays) (b q k d x f w : ℕ) (sh : Shape A L (won_view t)) (p : Place A L (won_view t) b q k d x)
     (i : IsFeed f) (g : TreeWordSet t u b (2 ^ d + x) f w) where
-  abbrev v : ℕ
+  abbrev pub v : ℕ
   v = q * 2 ^ d + x
 
-  abbrev l : ℕ
+  abbrev pub l : ℕ
   l = 8 * k + d
 
-  abbrev s : ℕ
+  abbrev pub s : ℕ
   s = 2 ^ d + x
 
-  view_place : (j : ℕ) → Place A L (feed_view t j) b q k d x
+  pub view_place : (j : ℕ) → Place A L (feed_view t j) b q k d x
   view_place j = record {
     leads = view_node t j q k ∙ p.leads;
     array = p.array;
@@ -80,64 +80,9 @@ module _ (A L : ℕ) (t u : FeedArrays) (b q k d x f w : ℕ) (sh : Shape A L (w
     small = p.small;
   }
 
-  small : v < 2 ^ l
+  pub small : v < 2 ^ l
   small = omega (arith, pow-add 2 (8 * k) d, mul-le-mul_right (2 ^ d) p.head, p.small)
 
   -- the words held there, before and after
   pub held-before : (j : ℕ) → word_held t v l j ≡ t.word b s j
   held-before j = held_place A L (feed_view t j) b q k d x (view_place j)
-
-  pub held_after : (j : ℕ) → IsFeed j → word_held u v l j ≡ with_word (t.word b s) f w j
-  held_after j n =
-      slot_set_here A L (feed_view t j) (feed_view u j) b q k d x (with_word (t.word b s) f w j) (view_shape t A L j sh)
-      (view_place j) (feed-set t u b s f w g j n)
-
-  -- and everywhere else
-  held_off : (W : ℕ) → OffWord W v l f (word_held t) (word_held u)
-  held_off W v' l' j n h m z =
-      same v' v
-      (λ e _. same l' l
-      (λ c _. rw (e, c) (held-before j
-      ∙ sym (held_after j n ∙ with_other (t.word b s) f w j (λ y. z (e, c, y)))))
-      (λ o _. off (λ y. o y.1)))
-      (λ o _. off (λ y. o y.0))
-    where
-      off : ¬ ((v' ≡ v) × (l' ≡ l)) → word_held t v' l' j ≡ word_held u v' l' j
-      off y =
-          slot_set_off A L (feed_view t j) (feed_view u j) b q k d x (with_word (t.word b s) f w j) (view_shape t A L j sh)
-          (view_place j) (feed-set t u b s f w g j n) W v' l' h m y
-
-  module _ (W : ℕ) (wd : W < 256) (fits : l ≤ W) where
-    -- what is found at the place before
-    pub tree_find : find key (gathered W (word_held t)) (place (v * 2 ^ (W - l)) l f) ≡ meant (W - l) v l f (t.word b s f)
-    tree_find = gathered-find W wd (word_held t) v l f fits small i ∙ ap (meant (W - l) v l f) (held-before f)
-
-    -- the word of preference n and hop h: that candidate is put
-    pub tree_put : (n h : ℕ) → 1 ≤ h → h < hop_bound → w ≡ word_of n h
-        → gathered W (word_held u) ≡ put key (candidate (v * 2 ^ (W - l)) l f n h) (gathered W (word_held t))
-    tree_put n h y z e =
-        gathered-put W wd (word_held t) (word_held u) v l f fits small i (held_off W) (candidate (v * 2 ^ (W - l)) l f n h)
-        (ap (meant (W - l) v l f) (held_after f i ∙ with_same (t.word b s) f w ∙ e) ∙ meant_word (W - l) v l f n h y z)
-        refl
-
-    -- the word 0: the candidate is cut
-    pub tree_cut : w ≡ 0 → gathered W (word_held u) ≡ cut key (place (v * 2 ^ (W - l)) l f) (gathered W (word_held t))
-    tree_cut e =
-        gathered_cut W wd (word_held t) (word_held u) v l f fits small i (held_off W)
-        (held_after f i ∙ with_same (t.word b s) f w ∙ e)
-
-    -- the winning hops of the prefix
-    module _ (r : RightWords A t) where
-      pub won_before : winning (gathered W (word_held t)) (v * 2 ^ (W - l) * 256 + l) ≡ won_hop (t.word b s)
-      won_before =
-          gathered_won (word_held t) (held_right A L t sh r) W v l wd fits small
-          ∙ ap hop_in (winner_same (word_held t v l) (t.word b s) (λ j n. held-before j))
-
-      pub won_after : RightWord w
-          → winning (gathered W (word_held u)) (v * 2 ^ (W - l) * 256 + l) ≡ won_hop (with_word (t.word b s) f w)
-      won_after y =
-          gathered_won (word_held u) (held_right A L u shape (set_right t u b s f w g A y r)) W v l wd fits small
-          ∙ ap hop_in (winner_same (word_held u v l) (with_word (t.word b s) f w) held_after)
-        where
-          shape : Shape A L (won_view u)
-          shape = same_shape (won_view t) (won_view u) g.tags g.links A L sh

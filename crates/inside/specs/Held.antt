@@ -63,19 +63,13 @@ module _ (W l e v : ℕ) (bits : l + e ≡ W) (r : Route) where
       let p : r.addr / 2 ^ e ≡ v = div-eq_of_lt-le (2 ^ e) lo hi in
       rw (rest, le-leb l r.len s, p, mul-div_cancel v (pow_pos e)) (eq-eqb v v refl)
 
-  ends : r.addr / 2 ^ e ≡ v → (v * 2 ^ e ≤ r.addr) × (r.addr < (v + 1) * 2 ^ e)
+  pub ends : r.addr / 2 ^ e ≡ v → (v * 2 ^ e ≤ r.addr) × (r.addr < (v + 1) * 2 ^ e)
   ends q =
       let m = div-add-mod' r.addr (2 ^ e) in
       let n = lt-div-mul-add {a = r.addr} {b = 2 ^ e} (pow_pos e) in
       (omega (arith, rw q at m), omega (arith, rw q at n))
 
-  apart : (r.addr / 2 ^ e ≡ v → ⊥) → lies W (v * 2 ^ e) l r ≡ false
+  pub apart : (r.addr / 2 ^ e ≡ v → ⊥) → lies W (v * 2 ^ e) l r ≡ false
   apart n =
       rw (rest, mul-div_cancel v (pow_pos e))
       (false_right (leb l r.len) (eqb (r.addr / 2 ^ e) v) (ne_eqb (r.addr / 2 ^ e) v n))
-
-  pub is_before : r.addr < v * 2 ^ e → lies W (v * 2 ^ e) l r ≡ false
-  is_before h = apart (λ q. omega (arith, (ends q).0))
-
-  pub is_after : (v + 1) * 2 ^ e ≤ r.addr → lies W (v * 2 ^ e) l r ≡ false
-  is_after h = apart (λ q. omega (arith, (ends q).1))

@@ -40,7 +40,8 @@ end_kind F k e =
     (eqb k (kind_of F announcing_for)) (eqb k (kind_of F withdrawing_for)) (rw z at e)))
   where
     others : (a b c d f : Bool)
-        → cond a announcing (cond b withdrawing (cond c looking (cond d announcing_for (cond f withdrawing_for unknown)))) ≡ ending
+        → cond a announcing (cond b withdrawing (cond c looking (cond d announcing_for (cond f withdrawing_for unknown))))
+        ≡ ending
         → ⊥
     others true b c d f e = let z : ◌≡◌ {A = ℕ} 0 1 = cc in omega arith
     others false true c d f e = let z : ◌≡◌ {A = ℕ} 0 1 = cc in omega arith

@@ -1,6 +1,7 @@
 -- The first q bits of an address are uniform exactly where no route is longer and shares them. Assumes nothing.
 use Rattle.std.specs.Prelude.{◌≡◌, refl, ◌⊎◌, true, false, List, [], ◌∷◌, ℕ, suc, ◌+◌, ◌-◌, ◌*◌, ◌/◌, ◌^◌, ◌≤◌, ◌<◌}
-use Rattle.std.proofs.Common.{sym, ap, ◌∙◌, inl, inr, mul-div_cancel, mul-le-mul_right, arith, pow_pos, pow-add, shr-shr, shr_lt, eqb-true, eq-eqb, ne_eqb}
+use Rattle.std.proofs.Common.{sym, ap, ◌∙◌, inl, inr, mul-div_cancel, mul-le-mul_right, arith, pow_pos, pow-add, shr-shr, shr_lt}
+use Rattle.std.proofs.Common.{eqb-true, eq-eqb, ne_eqb}
 use Rattle.std.proofs.Math.Nat.{pow-succ'}
 use Rattle.routes.specs.Route.{Route, All, Wf}
 use Rattle.routes.specs.Match.{Match, none, found, matches, or_longer, longest}

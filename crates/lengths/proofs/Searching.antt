@@ -13,7 +13,8 @@ use Rattle.routes.specs.Match.{Match, none, found, longest}
 use Rattle.routes.specs.Seen.{Answer, gives, refuses}
 use Rattle.lengths.specs.Way.{Look, miss, hit, outside, search}
 use Rattle.lengths.specs.Layout.{header_words, bad_best, look, answered, walk}
-use Rattle.lengths.specs.Laid.{Laid, laid_walk}
+use Rattle.lengths.specs.Laid.{Laid}
+use Rattle.lengths.proofs.Laid.{laid_walk}
 use Rattle.lengths.specs.Answer.{look_of, there, Looked}
 use Rattle.lengths.specs.declared.Look as coded
 use Rattle.lengths.specs.declared.Look.TheVariants.{Hit}

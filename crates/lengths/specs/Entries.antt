@@ -1,6 +1,7 @@
 -- How many entries a length has: its routes, and the markers that are no routes. So the entries of all lengths, with the default
 -- route, number the routes and the markers. Assumes nothing.
-use Rattle.std.specs.Prelude.{◌≡◌, refl, Bool, true, false, cond, not, ◌&&◌, ◌||◌, List, [], ◌∷◌, ◌++◌, ℕ, zero, suc, ◌+◌, ◌-◌, ◌*◌, ◌/◌, ◌^◌, ◌≤◌, ◌<◌, length, eqb}
+use Rattle.std.specs.Prelude.{◌≡◌, refl, Bool, true, false, cond, not, ◌&&◌, ◌||◌, List, [], ◌∷◌, ◌++◌, ℕ, zero, suc, ◌+◌, ◌-◌}
+use Rattle.std.specs.Prelude.{◌*◌, ◌/◌, ◌^◌, ◌≤◌, ◌<◌, length, eqb}
 use Rattle.std.proofs.Common.{sym, ap, ◌∙◌, true≢false, mul-div_cancel, arith, pow_pos, eq-eqb, ne_eqb}
 use Rattle.routes.specs.Route.{Route, key, From, Wf}
 use Rattle.routes.specs.Room.{mem, distinct}
@@ -19,7 +20,7 @@ pub mem-append : (z : ℕ) (xs ys : List ℕ) → mem z (xs ++ ys) ≡ (mem z xs
 mem-append z [] ys = refl
 mem-append z (x ∷ xs) ys = bool (eqb x z) (λ e. rw e) (λ e. rw (e, mem-append z xs ys))
 
-distinct_append : (xs ys : List ℕ) → ((z : ℕ) → mem z xs ≡ true → mem z ys ≡ false)
+pub distinct_append : (xs ys : List ℕ) → ((z : ℕ) → mem z xs ≡ true → mem z ys ≡ false)
     → distinct (xs ++ ys) ≡ distinct xs + distinct ys
 distinct_append [] ys d = omega arith
 distinct_append (x ∷ xs) ys d =
@@ -27,7 +28,7 @@ distinct_append (x ∷ xs) ys d =
     rw (mem-append x xs ys, d x (or_left (eqb x x) (mem x xs) (eq-eqb x x refl)))
     (bool (mem x xs) (λ e. rw (e, ih)) (λ e. rw (e, ih) (omega arith)))
 
-mem-unheld : (rs : List Route) (m z : ℕ) (vs : List ℕ) → mem z (unheld rs m vs) ≡ (mem z vs && eqb (held_at rs m z) 0)
+pub mem-unheld : (rs : List Route) (m z : ℕ) (vs : List ℕ) → mem z (unheld rs m vs) ≡ (mem z vs && eqb (held_at rs m z) 0)
 mem-unheld rs m z [] = refl
 mem-unheld rs m z (v ∷ vs) =
     let ih = mem-unheld rs m z vs in
@@ -105,45 +106,13 @@ own-distinct m lo (r ∷ rs) h f w =
 
 -- ---- the entries of a length
 
-entries_split : (m z : ℕ) (rs : List Route) → m ≤ 32 → Wfs 32 rs → mem z (entries m rs) ≡ mem z (own m rs ++ marks m rs)
-entries_split m z rs h w =
-    rw (
-      mem_either (λ l. eqb l m) (turns_at m) m z rs,
-      mem-append z (own m rs) (marks m rs),
-      mem-unheld rs m z (picks (turns_at m) m rs),
-      own_held m z rs h w,
-    )
-    (apart (eqb (held_at rs m z) 0) (mem z (picks (turns_at m) m rs)))
-  where
-    apart : (a b : Bool) → (not a || b) ≡ (not a || (b && a))
-    apart true true = refl
-    apart true false = refl
-    apart false b = refl
-
-own-apart : (m z : ℕ) (rs : List Route) → m ≤ 32 → Wfs 32 rs → mem z (own m rs) ≡ true → mem z (marks m rs) ≡ false
-own-apart m z rs h w e =
-    mem-unheld rs m z (picks (turns_at m) m rs)
-    ∙ flip (eqb (held_at rs m z) 0) (mem z (picks (turns_at m) m rs)) (sym (own_held m z rs h w) ∙ e)
-  where
-    flip : (a b : Bool) → not a ≡ true → (b && a) ≡ false
-    flip true b q = absurd (true≢false (sym q))
-    flip false true q = refl
-    flip false false q = refl
-
-entries-count : (m : ℕ) (rs : List Route) → m ≤ 32 → From 0 rs → Wfs 32 rs
-    → distinct (entries m rs) ≡ tally m rs + distinct (marks m rs)
-entries-count m rs h f w =
-    distinct-mem (entries m rs) (own m rs ++ marks m rs) (λ z. entries_split m z rs h w)
-    ∙ distinct_append (own m rs) (marks m rs) (λ z. own-apart m z rs h w)
-    ∙ rw (own-distinct m 0 rs h f w)
-
 -- ---- of all lengths
 
 unfoldable pub entries_to : ℕ → List Route → ℕ
 entries_to zero rs = 0
 entries_to (suc m) rs = entries_to m rs + distinct (entries (suc m) rs)
 
-unfoldable tally_to : ℕ → List Route → ℕ
+unfoldable pub tally_to : ℕ → List Route → ℕ
 tally_to zero rs = tally 0 rs
 tally_to (suc m) rs = tally_to m rs + tally (suc m) rs
 
@@ -166,16 +135,6 @@ unfolding tally_to
 tally_none zero = refl
 tally_none (suc m) = rw (tally_none m)
 
-tally-length : (rs : List Route) → Wfs 32 rs → tally_to 32 rs ≡ length rs
+pub tally-length : (rs : List Route) → Wfs 32 rs → tally_to 32 rs ≡ length rs
 tally-length [] w = tally_none 32
 tally-length (r ∷ rs) w = tally_in 32 r rs w.0.fits ∙ ap suc (tally-length rs w.1)
-
-to_count : (m : ℕ) (rs : List Route) → m ≤ 32 → From 0 rs → Wfs 32 rs
-    → entries_to m rs + tally 0 rs ≡ tally_to m rs + markers_to m rs
-unfolding entries_to tally_to markers_to
-to_count zero rs h f w = omega arith
-to_count (suc m) rs h f w = omega (arith, to_count m rs (omega arith) f w, entries-count (suc m) rs h f w)
-
--- the entries of all lengths, and the default route, are the routes and the markers
-pub entries_all : (rs : List Route) → From 0 rs → Wfs 32 rs → entries_to 32 rs + tally 0 rs ≡ length rs + markers rs
-entries_all rs f w = to_count 32 rs (omega arith) f w ∙ rw (tally-length rs w)

@@ -41,12 +41,12 @@ pub record Marked (E : ℕ → Bool) (g : ℕ → ℕ) : Type 0 where
 module _ (look : ℕ → Look) (E : ℕ → Bool) (g : ℕ → ℕ) (looks : Looks look E g)
     (own : (L : ℕ) → 1 ≤ L → L ≤ 32 → g L ≢ 0 → E L ≡ true) where
   -- nothing is held from hi on, 32 aside if hi is 32; and the lengths between lo and hi have their entries
-  record Node (n m lo hi : ℕ) : Type 0 where
-    low : lo + 2 ^ n ≡ m
-    high : m + 2 ^ n ≡ hi
-    top : hi ≤ 32
-    above : (L : ℕ) → hi ≤ L → L ≤ 32 → hi ≢ 32 → g L ≡ 0
-    ways : (L x : ℕ) → lo < L → L ≤ 32 → g L ≢ 0 → mem x (turns n m L) ≡ true → E x ≡ true
+  pub record Node (n m lo hi : ℕ) : Type 0 where
+    pub low : lo + 2 ^ n ≡ m
+    pub high : m + 2 ^ n ≡ hi
+    pub top : hi ≤ 32
+    pub above : (L : ℕ) → hi ≤ L → L ≤ 32 → hi ≢ 32 → g L ≡ 0
+    pub ways : (L x : ℕ) → lo < L → L ≤ 32 → g L ≢ 0 → mem x (turns n m L) ≡ true → E x ≡ true
 
   hit_at : (m : ℕ) → 1 ≤ m → m ≤ 32 → E m ≡ true → look m ≡ hit (best g m)
   hit_at m a b e = looks.at m a b ∙ rw e
@@ -103,7 +103,7 @@ module _ (look : ℕ → Look) (E : ℕ → Bool) (g : ℕ → ℕ) (looks : Loo
       (λ e. rw (hit_at 32 (omega arith) (omega arith) e))
       (λ e. rw (miss_at 32 (omega arith) (omega arith) e, end_32 e))
 
-  finds : (n m lo hi : ℕ) → Node n m lo hi → search look n m (best g lo) ≡ hit (best g 32)
+  pub finds : (n m lo hi : ℕ) → Node n m lo hi → search look n m (best g lo) ≡ hit (best g 32)
   unfolding search
   finds zero m lo hi w =
       let a : 1 ≤ m = omega (arith, w.low) in
@@ -119,15 +119,3 @@ module _ (look : ℕ → Look) (E : ℕ → Bool) (g : ℕ → ℕ) (looks : Loo
       bool (E m)
       (λ e. rw (hit_at m a b e) (finds n (m + 2 ^ n) m hi (longer n m lo hi w)))
       (λ e. rw (miss_at m a b e) (finds n (m - 2 ^ n) lo m (shorter n m lo hi w a e)))
-
--- the search from length 16, with the default route's match, finds the longest match
-pub way_finds : (look : ℕ → Look) (E : ℕ → Bool) (g : ℕ → ℕ) → Looks look E g → Marked E g
-    → search look 4 16 (best g 0) ≡ hit (best g 32)
-way_finds look E g s w =
-    finds look E g s w.own 4 16 0 32 (record {
-      low = refl;
-      high = refl;
-      top = omega arith;
-      above = λ L a b n. absurd (n refl);
-      ways = λ L x a b z t. w.way L x a b z t;
-    })

@@ -1,5 +1,6 @@
 -- The theorem for a list: looks that tell the list's entries, each with its best match, find the longest match. Assumes nothing.
-use Rattle.std.specs.Prelude.{◌≡◌, refl, ◌≢◌, Bool, true, false, cond, ◌||◌, List, [], ◌∷◌, ℕ, zero, suc, ◌+◌, ◌-◌, ◌/◌, ◌^◌, ◌≤◌, ◌<◌, eqb}
+use Rattle.std.specs.Prelude.{◌≡◌, refl, ◌≢◌, Bool, true, false, cond, ◌||◌, List, [], ◌∷◌, ℕ, zero, suc, ◌+◌, ◌-◌, ◌/◌, ◌^◌, ◌≤◌}
+use Rattle.std.specs.Prelude.{◌<◌, eqb}
 use Rattle.std.proofs.Common.{sym, ap, ◌∙◌, arith, shr-shr, eq-eqb}
 use Rattle.std.proofs.lemmas.Bool.{false≢true}
 use Rattle.routes.specs.Route.{Route, key}
@@ -10,7 +11,7 @@ use Rattle.laws.specs.Sorted.{hop_skip}
 use Rattle.laws.specs.Longest.{Wfs, key_at, along, longest_last, last_same}
 use Rattle.logic.specs.Bools.{or_left, or_right}
 use Rattle.lengths.specs.Way.{Look, miss, hit, search, turns, turns_at, code, best}
-use Rattle.lengths.specs.Finds.{Marked, way_finds}
+use Rattle.lengths.specs.Finds.{Marked}
 use Rattle.listing.specs.Heads.{picks, picks_more}
 use Rattle.lengths.specs.Marks.{held_at, is_entry, entries, best_at}
 use Rattle.lengths.specs.Entries.{key_other}
@@ -48,27 +49,19 @@ pub best_same : (g h : ℕ → ℕ) (n : ℕ) → ((l : ℕ) → l ≤ n → g l
 best_same g h n e = ap code (last_same g h n e)
 
 module _ (rs : List Route) (w : Wfs 32 rs) (a : ℕ) where
-  abbrev g : ℕ → ℕ
+  abbrev pub g : ℕ → ℕ
   g = along 32 a (omega arith) rs
 
-  abbrev E : ℕ → Bool
+  abbrev pub E : ℕ → Bool
   E m = mem (a / 2 ^ (32 - m)) (entries m rs)
 
-  best_along : (m : ℕ) → m ≤ 32 → best_at rs m (a / 2 ^ (32 - m)) ≡ best g m
+  pub best_along : (m : ℕ) → m ≤ 32 → best_at rs m (a / 2 ^ (32 - m)) ≡ best g m
   best_along m h = best_same (λ l. held_at rs l (a / 2 ^ (32 - m) / 2 ^ (m - l))) g m
       (λ l k. ap (held_at rs l) (head_head a l m k h))
 
-  marked : Marked E g
+  pub marked : Marked E g
   marked = record {
     own = λ L h k n. pick-held (is_entry L) L L a rs w (omega arith) k (or_left (eqb L L) (turns_at L L) (eq-eqb L L refl)) n;
     way = λ L x h k n t. (let b = turn_below 4 16 L x t in
         pick-held (is_entry x) x L a rs w (omega arith) k (or_right (eqb L x) (turns_at x L) t) n);
   }
-
-  -- looks that tell the entries of the list at the address
-  pub list_way : (look : ℕ → Look) → ((m : ℕ) → 1 ≤ m → m ≤ 32
-      → look m ≡ cond (mem (a / 2 ^ (32 - m)) (entries m rs)) (hit (best_at rs m (a / 2 ^ (32 - m)))) miss)
-      → search look 4 16 (best_at rs 0 (a / 2 ^ 32)) ≡ hit (code (longest 32 a rs))
-  list_way look f =
-      rw (best_along 0 (omega arith), longest_last 32 a (omega arith) rs w)
-      (way_finds look E g (record { at = λ m h k. f m h k ∙ rw (best_along m k) }) marked)

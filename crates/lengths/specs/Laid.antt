@@ -1,5 +1,6 @@
 -- When words are a list laid out by lengths, and that the walk on them then gives the longest match. Assumes nothing.
-use Rattle.std.specs.Prelude.{◌≡◌, refl, cond, List, [], ◌∷◌, ℕ, zero, suc, ◌+◌, ◌-◌, ◌*◌, ◌/◌, ◌%◌, ◌^◌, ◌≤◌, ◌<◌, length, get_or}
+use Rattle.std.specs.Prelude.{◌≡◌, refl, cond, List, [], ◌∷◌, ℕ, zero, suc, ◌+◌, ◌-◌, ◌*◌, ◌/◌, ◌%◌, ◌^◌, ◌≤◌, ◌<◌, length}
+use Rattle.std.specs.Prelude.{get_or}
 use Rattle.std.proofs.Common.{ap, ◌∙◌, le-ltb, le-leb, ne_eqb}
 use native.Mathlib.Omega.{arith}
 use Rattle.std.proofs.lemmas.Bool.{lt-leb}
@@ -11,7 +12,6 @@ use Rattle.logic.specs.Cases.{same}
 use Rattle.laws.specs.Longest.{along, longest_last, wfs}
 use Rattle.lengths.specs.Way.{miss, hit, search, code}
 use Rattle.lengths.specs.Marks.{entries, best_at, words_for}
-use Rattle.lengths.specs.Held.{list_way}
 use Rattle.lengths.specs.Hash.{start_lt, place_lt}
 use Rattle.lengths.specs.Layout.{header_words, begin_of, size_of, Places, places_of, start, probe, find_in, look, walk}
 use Rattle.lengths.specs.Layout.{answered}
@@ -52,7 +52,7 @@ hop_low [] k p = omega arith
 hop_low (r ∷ rs) k p = same (key r) k (λ q e. rw e p.0.low) (λ q e. rw e (hop_low rs k p.1))
 
 -- and its number tells it
-code_back : (x : Match) → Low 32 x → answered (hit (code x)) ≡ gives x
+pub code_back : (x : Match) → Low 32 x → answered (hit (code x)) ≡ gives x
 code_back none w = refl
 code_back (found h l) w =
     let a : (h * 256 + l) / 256 ≡ h = omega arith in
@@ -69,26 +69,15 @@ code_back (found h l) w =
 -- ---- the walk on them
 
 module _ (rs : List Route) (ws : List ℕ) (l : IsList 32 rs) (c : Laid rs ws) (a : ℕ) (h : a < 4294967296) where
-  laid_look : (m v : ℕ) → 1 ≤ m → m ≤ 32 → look ws m v ≡ cond (mem v (entries m rs)) (hit (best_at rs m v)) miss
+  pub laid_look : (m v : ℕ) → 1 ≤ m → m ≤ 32 → look ws m v ≡ cond (mem v (entries m rs)) (hit (best_at rs m v)) miss
   unfolding look
   laid_look m v i j =
       let t = c.tables m i j in
       rw (le-leb (begin_of ws m + 8 * size_of ws m) (length ws) (omega (arith, t.ends, c.long))) (t.finds v)
 
-  laid_search : search (λ m. look ws m (a / 2 ^ (32 - m))) 4 16 (best_at rs 0 (a / 2 ^ 32)) ≡ hit (code (longest 32 a rs))
-  laid_search = list_way rs (wfs 32 rs l.routes) a (λ m. look ws m (a / 2 ^ (32 - m)))
-      (λ m i j. laid_look m (a / 2 ^ (32 - m)) i j)
-
-  longest-low : Low 32 (longest 32 a rs)
+  pub longest-low : Low 32 (longest 32 a rs)
   longest-low = rw (longest_last 32 a (omega arith) rs (wfs 32 rs l.routes))
       (last_low (along 32 a (omega arith) rs) 32 (λ k. hop_low rs _ l.routes))
-
-  pub laid_walk : walk ws a ≡ gives (longest 32 a rs)
-  unfolding walk
-  laid_walk =
-      let z : a / 4294967296 ≡ 0 = omega arith in
-      rw (le-ltb (length ws) header_words (omega (arith, c.long)), c.default)
-      (ap answered (rw z at laid_search) ∙ code_back (longest 32 a rs) longest-low)
 
 -- ---- what a table hangs on
 

@@ -9,7 +9,8 @@
 --     ┌───────────────────────┬─────────────────────────┐
 --     │ the keys of 4e places │ their best matches      │       a look reads keys alone
 --     └───────────────────────┴─────────────────────────┘
-use Rattle.std.specs.Prelude.{Bool, cond, not, ◌&&◌, ◌||◌, List, ℕ, zero, suc, ◌+◌, ◌-◌, ◌*◌, ◌/◌, ◌%◌, ◌^◌, length, get_or, ltb, leb, eqb}
+use Rattle.std.specs.Prelude.{Bool, cond, not, ◌&&◌, ◌||◌, List, ℕ, zero, suc, ◌+◌, ◌-◌, ◌*◌, ◌/◌, ◌%◌, ◌^◌, length, get_or, ltb}
+use Rattle.std.specs.Prelude.{leb, eqb}
 use Rattle.routes.specs.Match.{Match, none, found}
 use Rattle.routes.specs.Seen.{Answer, gives, refuses}
 use Rattle.lengths.specs.Way.{Look, miss, hit, outside, search}

@@ -69,7 +69,8 @@ module _ (ws : List ℕ) (o m n v b j : ℕ) (fits : o + 8 * n ≤ length ws) (h
 
   put_other : (i : ℕ) → i ≢ o + j → i ≢ o + j + 4 * n → get_or us i 0 ≡ get_or ws i 0
   unfolding put_at
-  put_other i x y = get_or-set_other (set ws (o + j) (key_of v)) (o + j + 4 * n) i b 0 y ∙ get_or-set_other ws (o + j) i (key_of v) 0 x
+  put_other i x y = get_or-set_other (set ws (o + j) (key_of v)) (o + j + 4 * n) i b 0 y
+      ∙ get_or-set_other ws (o + j) i (key_of v) 0 x
 
   put-length : length us ≡ length ws
   unfolding put_at

@@ -2,3 +2,4 @@ pub mod Words
 pub mod Entry
 pub mod Making
 pub mod Whole
+pub mod Sharp

@@ -18,7 +18,8 @@ use Rattle.lengths.specs.Entries.{entries_to}
 use Rattle.lengths.specs.Few.{few_upto}
 use Rattle.candidates.specs.Candidate.{IsList}
 use Rattle.rivals.specs.Won.{winners_list}
-use Rattle.listing.specs.Listed.{records_in, candidate_at, candidates_from, candidates_in, list_of, Listed, unlisted, listed, listed_in}
+use Rattle.listing.specs.Listed.{records_in, candidate_at, candidates_from, candidates_in, list_of, Listed, unlisted, listed}
+use Rattle.listing.specs.Listed.{listed_in}
 use Rattle.lengths_build.specs.Answer.{need_on, build_on}
 use Rattle.listing.specs.Records.{Bytes, head_fits}
 use Rattle.listing.specs.Winning.{winning_at}
@@ -119,7 +120,8 @@ module _ (bs ws : List ℕ) (s : Starts bs ws) (us : List ℕ) (m before : ℕ) 
           past = λ i k. after vs t i (rw q at k);
         }
       where
-        after : (vs : List ℕ) → Made bs us vs m before count → (i : ℕ) → table_end m (list_of bs) ≤ i → get_or vs i 0 ≡ get_or ws i 0
+        after : (vs : List ℕ) → Made bs us vs m before count → (i : ℕ) → table_end m (list_of bs) ≤ i
+            → get_or vs i 0 ≡ get_or ws i 0
         after vs t i k = t.past i (omega (arith, ends)) ∙ g.past i (omega (arith, ends, g.at, end_fits (m - 1) (list_of bs)))
 
   pub going_end : 32 < m → Ends bs ws us

@@ -27,7 +27,8 @@ use Rattle.listing.specs.Heads.{picks, between}
 use Rattle.listing.specs.Records.{Reads}
 use Rattle.lengths.specs.Layout.{header_words}
 use Rattle.lengths.specs.Marks.{markers, entries}
-use Rattle.lengths.specs.Entries.{tally, entries_to, entries_all}
+use Rattle.lengths.specs.Entries.{tally, entries_to}
+use Rattle.lengths.proofs.Entries.{entries_all}
 use Rattle.lengths.specs.Few.{few_entries}
 use Rattle.lengths_build.specs.Answer.{need_on}
 use Rattle.lengths_build.specs.Build.{entries_bound}

@@ -20,7 +20,8 @@ pub record Counts : Type 0 where
 -- into a number of words
 abbrev pub build_on : Listed → ℕ → Answer Counts
 build_on unlisted room = refuses 2
-build_on (listed rs) room = cond (ltb room (words_for rs)) (refuses 9) (gives (record { routes = length rs; markers = markers rs }))
+build_on (listed rs) room =
+    cond (ltb room (words_for rs)) (refuses 9) (gives (record { routes = length rs; markers = markers rs }))
 
 -- ---- of the code
 

@@ -1,6 +1,7 @@
 -- The words while they are built: the tables of the lengths below m stand, and that of length m is filled from the last record to
 -- the first, the routes of that length first and then the markers. Assumes nothing.
-use Rattle.std.specs.Prelude.{◌≡◌, Bool, true, false, List, [], ◌++◌, ℕ, zero, suc, ◌+◌, ◌-◌, ◌*◌, ◌/◌, ◌^◌, ◌≤◌, ◌<◌, min, length, get_or, set, eqb}
+use Rattle.std.specs.Prelude.{◌≡◌, Bool, true, false, List, [], ◌++◌, ℕ, zero, suc, ◌+◌, ◌-◌, ◌*◌, ◌/◌, ◌^◌, ◌≤◌, ◌<◌, min}
+use Rattle.std.specs.Prelude.{length, get_or, set, eqb}
 use Rattle.routes.specs.Route.{Route}
 use Rattle.routes.specs.Room.{distinct}
 use Rattle.lengths.specs.Way.{Look, miss, hit, outside, turns_at}

@@ -9,13 +9,15 @@ use Rattle.routes.specs.Seen.{Answer, gives}
 use Rattle.logic.specs.Cases.{same, less}
 use Rattle.laws.specs.Longest.{wfs}
 use Rattle.lengths.specs.Marks.{entries, words_for}
-use Rattle.lengths.specs.Entries.{entries_to, entries_all}
+use Rattle.lengths.specs.Entries.{entries_to}
+use Rattle.lengths.proofs.Entries.{entries_all}
 use Rattle.listing.specs.Listed.{listed, listed_in}
 use Rattle.lengths_build.specs.Answer.{need_on, build_on, Counts}
 use Rattle.listing.specs.Records.{Bytes}
-use Rattle.listing.specs.Written.{listed_out}
+use Rattle.listing.proofs.Written.{listed_out}
 use Rattle.lengths.specs.Layout.{header_words, walk}
-use Rattle.lengths.specs.Laid.{laid_walk, laid_front}
+use Rattle.lengths.specs.Laid.{laid_front}
+use Rattle.lengths.proofs.Laid.{laid_walk}
 use Rattle.lengths_build.specs.Filling.{size_for}
 use Rattle.lengths_build.specs.Build.{Header, table_end, Leaves, LeavesOn}
 
@@ -93,7 +95,7 @@ pub record Alike (need : ℕ) (us vs : List ℕ) : Type 0 where
 alike_same : (n : ℕ) (us vs : List ℕ) → us ≡ vs → Alike n us vs
 alike_same n us vs e = rw e (record { long = refl; header = λ i h. refl; past = λ i h. refl; walks = λ a h. refl })
 
-leaves_alike : (rs : List Route) (ws us vs : List ℕ) → IsList 32 rs → Leaves rs ws us → Leaves rs ws vs
+pub leaves_alike : (rs : List Route) (ws us vs : List ℕ) → IsList 32 rs → Leaves rs ws us → Leaves rs ws vs
     → Alike (words_for rs) us vs
 leaves_alike rs ws us vs l p q =
     less (length ws) (words_for rs)
@@ -104,11 +106,6 @@ leaves_alike rs ws us vs l p q =
       past = λ i k. p.past i k ∙ sym (q.past i k);
       walks = λ a k. laid_walk rs us l (p.laid h) a k ∙ sym (laid_walk rs vs l (q.laid h) a k);
     })
-
--- on a list, two outcomes of a build are alike
-pub words_sharp : (bs ws us vs : List ℕ) (rs : List Route) → Bytes bs → listed_in bs ≡ listed rs → LeavesOn (listed_in bs) ws us
-    → LeavesOn (listed_in bs) ws vs → Alike (words_for rs) us vs
-words_sharp bs ws us vs rs b e p q = leaves_alike rs ws us vs (listed_out bs b rs e).list (rw e at p) (rw e at q)
 
 -- ---- what was built answers, whatever stands past its need
 

@@ -1,7 +1,8 @@
 -- The heads of routes: their first m bits, of those whose length is picked. The winners' are those of the candidates' prefixes.
 -- They rise with the candidates, so equal ones are neighbours, and a comparison with the one before counts the different ones.
 -- Assumes nothing.
-use Rattle.std.specs.Prelude.{◌≡◌, ◌≢◌, Bool, true, false, cond, ◌&&◌, ◌||◌, List, [], ◌∷◌, ℕ, suc, ◌+◌, ◌-◌, ◌/◌, ◌^◌, ◌≤◌, ◌<◌, length, ltb, leb, eqb}
+use Rattle.std.specs.Prelude.{◌≡◌, ◌≢◌, Bool, true, false, cond, ◌&&◌, ◌||◌, List, [], ◌∷◌, ℕ, suc, ◌+◌, ◌-◌, ◌/◌, ◌^◌, ◌≤◌, ◌<◌}
+use Rattle.std.specs.Prelude.{length, ltb, leb, eqb}
 use Rattle.std.proofs.Math.Path.{refl}
 use Rattle.std.proofs.Common.{sym, ap, ◌∙◌, le_trans, arith, le-leb, eq-eqb, ne_eqb}
 use Rattle.std.proofs.Math.Pow.{shr_mono}

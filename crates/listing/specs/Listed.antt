@@ -3,7 +3,8 @@
 --
 --     1 address 4 length 1 hop 2 | .. | 0                              of kind 1, which means feed 1, preference 0
 --     4 address 4 length 1 hop 2 feed 1 preference 1 | .. | 0          of kind 4
-use Rattle.std.specs.Prelude.{Bool, true, false, cond, not, ◌&&◌, ◌||◌, List, [], ◌∷◌, ℕ, zero, suc, ◌+◌, ◌-◌, ◌*◌, ◌/◌, ◌%◌, length, get_or, ltb, eqb}
+use Rattle.std.specs.Prelude.{Bool, true, false, cond, not, ◌&&◌, ◌||◌, List, [], ◌∷◌, ℕ, zero, suc, ◌+◌, ◌-◌, ◌*◌, ◌/◌, ◌%◌}
+use Rattle.std.specs.Prelude.{length, get_or, ltb, eqb}
 use Rattle.routes.specs.Family.{v4, announcing, announcing_for, kind_of as kind_in}
 use Rattle.routes.specs.Route.{Route, route, too_long, stray, bad_hop}
 use Rattle.numbers.specs.Digits.{two_at, four_at}

@@ -1,6 +1,7 @@
 -- The records of a written-out list: where they lie, what the tests on each of them say of all candidates, the candidates from a
 -- record on, and what one record says of them. Assumes nothing.
-use Rattle.std.specs.Prelude.{◌≡◌, refl, ◌≢◌, Bool, true, false, cond, not, ◌||◌, List, [], ◌∷◌, ℕ, zero, suc, ◌+◌, ◌-◌, ◌*◌, ◌/◌, ◌%◌, ◌^◌, ◌≤◌, ◌<◌, length, get_or, ltb, eqb}
+use Rattle.std.specs.Prelude.{◌≡◌, refl, ◌≢◌, Bool, true, false, cond, not, ◌||◌, List, [], ◌∷◌, ℕ, zero, suc, ◌+◌, ◌-◌, ◌*◌, ◌/◌}
+use Rattle.std.specs.Prelude.{◌%◌, ◌^◌, ◌≤◌, ◌<◌, length, get_or, ltb, eqb}
 use Rattle.std.proofs.Common.{ap, arith, shr_lt, ltb-true, ltb-false, eqb-true, ne_eqb}
 use Rattle.std.proofs.lemmas.Bool.{false≢true, eqb-false}
 use Rattle.routes.specs.Route.{Route, route, From, IsRoute}
@@ -13,7 +14,8 @@ use Rattle.logic.specs.Reflects.{all_to_lem}
 use Rattle.candidates.specs.Keyed.{Ordered, Every}
 use Rattle.candidates.specs.Candidate.{Candidate, bad_feed, key, IsCandidate, IsList}
 use Rattle.rivals.specs.Maps.{weaken}
-use Rattle.listing.specs.Listed.{fours, kind_of, size_of, begin, records_in, candidate_at, candidates_from, candidates_in, list_of}
+use Rattle.listing.specs.Listed.{fours, kind_of, size_of, begin, records_in, candidate_at, candidates_from, candidates_in}
+use Rattle.listing.specs.Listed.{list_of}
 use Rattle.listing.specs.Listed.{route_b, candidate_b, record_b, whole_b, unlisted, listed, listed_in}
 
 -- ---- what the code promises
@@ -175,7 +177,8 @@ pub tail_end : (bs : List ℕ) (n : ℕ) → candidates_from bs (n - n) n ≡ []
 unfolding candidates_from
 tail_end bs n = let a : n - n ≡ 0 = omega arith in rw a
 
-from_tail : (bs : List ℕ) (d k i : ℕ) → Ordered key 0 (candidates_from bs (d + k) i) → Ordered key 0 (candidates_from bs k (d + i))
+from_tail : (bs : List ℕ) (d k i : ℕ) → Ordered key 0 (candidates_from bs (d + k) i)
+    → Ordered key 0 (candidates_from bs k (d + i))
 unfolding candidates_from
 from_tail bs zero k i f = let a : 0 + k ≡ k = omega arith in let b : 0 + i ≡ i = omega arith in rw b (rw a at f)
 from_tail bs (suc d) k i f =

@@ -73,7 +73,8 @@ module _ (bs : List ℕ) (l : IsList 32 (candidates_in bs)) where
       (λ q _. (let n : prefix_key (candidate_at bs i) ≢ prefix_key (candidate_at bs j) = rw e at (last.yes refl (omega arith)) in
       let k : key (candidate_at bs j) < key (candidate_at bs i) = rw e at (next_of bs j l (omega arith)) in
       let s = step (i + 1) i refl (omega arith) in
-      let o : Ordered key 0 (candidate_at bs i ∷ tail (i + 1)) = rw s at (tail_list bs (records_in bs) i (omega arith) l).sorted in
+      let o : Ordered key 0 (candidate_at bs i ∷ tail (i + 1)) =
+      rw s at (tail_list bs (records_in bs) i (omega arith) l).sorted in
       let g : Every Good (candidate_at bs i ∷ tail (i + 1)) = rw s at (good_tail i (omega arith)) in
       rw s (best-above (prefix_key (candidate_at bs j)) (key (candidate_at bs i)) (candidate_at bs i ∷ tail (i + 1))
       (le_refl _, o.1) g (above j i n k (feed-low i q)))))
@@ -163,11 +164,13 @@ module _ (bs : List ℕ) (l : IsList 32 (candidates_in bs)) where
 
   -- the one that leads wins where no record before is of its prefix
   pub leads-wins : (j k r h : ℕ) → j < records_in bs → prefix_key (candidate_at bs j) ≡ k
-      → (1 ≤ j → IsLast bs (j - 1) true) → Leads (candidates_from bs (records_in bs - j) j) k r h → h ≡ winning (candidates_in bs) k
+      → (1 ≤ j → IsLast bs (j - 1) true) → Leads (candidates_from bs (records_in bs - j) j) k r h
+      → h ≡ winning (candidates_in bs) k
   leads-wins j k r h q e last s = s.hop ∙ sym (ap hop_of (behind j k (omega arith) other ∙ s.is))
     where
       apart : (a b : ℕ) → key (candidate_at bs a) ≤ key (candidate_at bs b) → key (candidate_at bs b) < key (candidate_at bs j)
-          → prefix_key (candidate_at bs j) ≢ prefix_key (candidate_at bs b) → (candidate_at bs b).feed < 8 → (candidate_at bs j).feed < 8
+          → prefix_key (candidate_at bs j) ≢ prefix_key (candidate_at bs b) → (candidate_at bs b).feed < 8
+          → (candidate_at bs j).feed < 8
           → prefix_key (candidate_at bs a) < prefix_key (candidate_at bs j)
       apart a b x y n f g = omega arith
 

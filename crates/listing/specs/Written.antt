@@ -2,7 +2,7 @@
 -- candidates as records of kind 4, of which they are the winners. Assumes nothing.
 use Rattle.std.specs.Prelude.{◌≡◌, refl, ◌⊎◌, Bool, cond, ◌||◌, drop, ltb, eqb}
 use Rattle.std.proofs.Common.{sym, ap₂, ◌∙◌, ⊎_elim, length-append, drop-cons}
-use Rattle.std.proofs.Math.Path.{ap}
+use Rattle.std.proofs.Math.Path.{ap, subst}
 use Rattle.std.proofs.Math.Logic.{inl, inr}
 use Rattle.std.proofs.Math.Bool.{true, false}
 use mathlib.Core.List.{List, [], ◌∷◌, ◌++◌, append_assoc}
@@ -57,17 +57,17 @@ abbrev sents : Bool → List Candidate → List Sent
 sents b [] = []
 sents b (c ∷ cs) = sent b c ∷ sents b cs
 
-abbrev written_as : Bool → List Candidate → List ℕ
+abbrev pub written_as : Bool → List Candidate → List ℕ
 written_as b cs = all_bytes v4 (sents b cs) ++ (0 ∷ [])
 
-as_fours : (cs : List Candidate) → written_as true cs ≡ written v4 cs
+pub as_fours : (cs : List Candidate) → written_as true cs ≡ written v4 cs
 as_fours cs = ap (λ (xs : List Sent). all_bytes v4 xs ++ (0 ∷ [])) (go cs)
   where
     go : (cs : List Candidate) → sents true cs ≡ announced cs
     go [] = refl
     go (c ∷ cs) = ap (◌∷◌ (sent true c)) (go cs)
 
-as_ones : (cs : List Candidate) → written_as false cs ≡ written_plainly (routes_of cs)
+pub as_ones : (cs : List Candidate) → written_as false cs ≡ written_plainly (routes_of cs)
 as_ones cs = ap (λ (xs : List Sent). all_bytes v4 xs ++ (0 ∷ [])) (go cs)
   where
     go : (cs : List Candidate) → sents false cs ≡ plainly (routes_of cs)
@@ -156,7 +156,8 @@ list_back b pre (c ∷ cs) ys j e p o =
     let l : size_of b * suc j ≡ length (pre ++ sent_bytes v4 (sent b c)) =
     omega (arith, length-append pre (sent_bytes v4 (sent b c)), size-sent b c) in
     ap₂ ◌∷◌ (rw a (candidate_back pre c (all_bytes v4 (sents b cs) ++ ys) (size_of b * j) e p.0 b o.0))
-    (rw (regroup b pre c cs ys) (list_back b (pre ++ sent_bytes v4 (sent b c)) cs ys (suc j) l p.1 o.1))
+    (subst (λ (x : List ℕ). read_as b x (length cs) (suc j) ≡ cs) (sym (regroup b pre c cs ys))
+    (list_back b (pre ++ sent_bytes v4 (sent b c)) cs ys (suc j) l p.1 o.1))
 
 kinds_back : (b : Bool) (pre : List ℕ) (cs : List Candidate) (ys : List ℕ) (j i : ℕ) → size_of b * j ≡ length pre
     → Every (IsCandidate 32) cs → i < length cs → get_or (feed b pre cs ys) (size_of b * (j + i)) 0 ≡ kind_of b
@@ -184,7 +185,8 @@ candidate-passes c w =
       le-ltb 4 c.feed w.high,
     )
 
-record_passes : (bs : List ℕ) (n i : ℕ) → IsList 32 (candidates_from bs n 0) → i < n → get_or bs (begin bs i) 0 ≡ kind_of (fours bs)
+record_passes : (bs : List ℕ) (n i : ℕ) → IsList 32 (candidates_from bs n 0) → i < n
+    → get_or bs (begin bs i) 0 ≡ kind_of (fours bs)
     → record_b bs i ≡ true
 record_passes bs n i l h k =
     let e : 0 + i ≡ i = omega arith in
@@ -239,49 +241,17 @@ module _ (b : Bool) (cs : List Candidate) (l : IsList 32 cs) (o : Every (OfKind 
   unfolding whole_b
   whole_written =
       rw (eq-eqb (length W % size_of (fours W)) 1 odd, last_byte)
-      (all_from (record_b W) (records_in W) (λ i h. record_passes W (records_in W) i (rw back l) h (kinds i (omega (arith, count)))))
+      (all_from (record_b W) (records_in W)
+      (λ i h. record_passes W (records_in W) i (rw back l) h (kinds i (omega (arith, count)))))
     where
       kinds : (i : ℕ) → i < length cs → get_or W (begin W i) 0 ≡ kind_of (fours W)
       kinds i h =
           let e : 0 + i ≡ i = omega arith in
           rw q (rw e at (kinds_back b [] cs (0 ∷ []) 0 i (omega arith) l.candidates h))
 
-  listed_as : listed_in W ≡ listed (winners cs)
+  pub listed_as : listed_in W ≡ listed (winners cs)
   unfolding listed_in
   listed_as = rw (whole_written, back)
-
--- candidates written out are listed as their winners. Where there is none, the bytes are those of no route
-pub written_listed : (cs : List Candidate) → IsList 32 cs → listed_in (written v4 cs) ≡ listed (winners cs)
-written_listed [] l = listed_as false [] l tt refl
-written_listed (c ∷ cs) l = ap listed_in (sym (as_fours (c ∷ cs))) ∙ listed_as true (c ∷ cs) l (all (c ∷ cs)) refl
-  where
-    all : (cs : List Candidate) → Every (OfKind true) cs
-    all [] = tt
-    all (c ∷ cs) = (tt, all cs)
-
--- and routes written out as themselves
-pub written-plain : (rs : List Route) → routes.IsList 32 rs → listed_in (written_plainly rs) ≡ listed rs
-written-plain rs l =
-    let w : winners (plain rs) ≡ rs = winners-plain 0 (plain rs) (plain_list rs l).sorted (plain-kind rs) ∙ plain-routes rs in
-    let b : written_as false (plain rs) ≡ written_plainly rs =
-    as_ones (plain rs) ∙ ap written_plainly (plain-routes rs) in
-    ap listed_in (sym b) ∙ listed_as false (plain rs) (plain_list rs l) (plain-kind rs) (kind rs) ∙ ap listed w
-  where
-    kind : (rs : List Route) → fours (written_as false (plain rs)) ≡ false
-    kind [] = refl
-    kind (r ∷ rs) = refl
-
-pub out_listed : (bs : List ℕ) (rs : List Route) → WrittenOut bs rs → listed_in bs ≡ listed rs
-out_listed bs rs w =
-    ⊎_elim
-    (λ (e : bs ≡ written_plainly rs). ap listed_in e ∙ written-plain rs w.list)
-    (λ (r : Ranked bs rs).
-    ap listed_in r.bytes ∙ written_listed r.candidates r.list ∙ ap listed (sym r.won))
-    w.bytes
-
--- the same bytes are no other list's
-pub written_one : (bs : List ℕ) (rs ss : List Route) → WrittenOut bs rs → WrittenOut bs ss → rs ≡ ss
-written_one bs rs ss w x = let a = out_listed bs rs w in let b = out_listed bs ss x in cc
 
 -- ---- and bytes that are listed are those of their list
 
@@ -294,7 +264,7 @@ listed_list bs rs e = go (whole_b bs) e
     go true e = cc
     go false e = let z : ◌≡◌ {A = ℕ} 0 1 = cc in absurd (omega arith)
 
-listed_whole : (bs : List ℕ) (rs : List Route) → listed_in bs ≡ listed rs → whole_b bs ≡ true
+pub listed_whole : (bs : List ℕ) (rs : List Route) → listed_in bs ≡ listed rs → whole_b bs ≡ true
 unfolding listed_in
 listed_whole bs rs e =
     bool (whole_b bs)
@@ -308,7 +278,8 @@ module _ (bs : List ℕ) (b : Bytes bs) where
       let q : (get_or bs x 0 * 256 + get_or bs (x + 1) 0) % 256 ≡ get_or bs (x + 1) 0 = omega (arith, b x, b (x + 1)) in
       λ i. p i ∷ q i ∷ []
 
-  quad : (x : ℕ) → digits 4 (four_at bs x) ≡ get_or bs x 0 ∷ get_or bs (x + 1) 0 ∷ get_or bs (x + 2) 0 ∷ get_or bs (x + 2 + 1) 0 ∷ []
+  quad : (x : ℕ) → digits 4 (four_at bs x) ≡ get_or bs x 0 ∷ get_or bs (x + 1) 0 ∷ get_or bs (x + 2) 0 ∷ get_or bs (x + 2 + 1) 0
+      ∷ []
   quad x =
       let p : (two_at bs x * 65536 + two_at bs (x + 2)) / 65536 ≡ two_at bs x =
       high (two_at bs x) (two_at bs (x + 2)) (two_low bs b (x + 2)) in
@@ -403,7 +374,7 @@ module _ (bs : List ℕ) (b : Bytes bs) where
       rw (read_as_lem bs (records_in bs) 0) (rw z at r)
 
   -- of which kind they are
-  out_bytes : whole_b bs ≡ true → IsList 32 (candidates_in bs) → (bs ≡ written_plainly (list_of bs)) ⊎ Ranked bs (list_of bs)
+  pub out_bytes : whole_b bs ≡ true → IsList 32 (candidates_in bs) → (bs ≡ written_plainly (list_of bs)) ⊎ Ranked bs (list_of bs)
   unfolding candidates_from
   out_bytes e l = bool (fours bs)
       (λ f. inr (record {
@@ -421,12 +392,3 @@ module _ (bs : List ℕ) (b : Bytes bs) where
 
   pub listed_candidates : (rs : List Route) → listed_in bs ≡ listed rs → IsList 32 (candidates_in bs)
   listed_candidates rs e = whole_list bs b (listed_whole bs rs e)
-
-  pub listed_out : (rs : List Route) → listed_in bs ≡ listed rs → WrittenOut bs rs
-  listed_out rs e =
-      let w = listed_whole bs rs e in
-      let l = whole_list bs b w in
-      rw (← (listed_list bs rs e)) (record {
-        list = winners_list 32 (candidates_in bs) l;
-        bytes = out_bytes w l;
-      })

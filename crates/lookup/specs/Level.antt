@@ -45,7 +45,8 @@ level_last g f hops base m (suc d) s l b start along =
     let here : g (suc (base + d)) ≡ f s = rw (e, q) at (along (suc d) 0 (omega arith) (omega arith)) in
     let above = level_last g f hops base m d (s / 2) (omega (arith, l, pow-succ' 2 d)) (omega arith) (rw (halved s d) start)
     (λ j k p h. rw (halved s k) (along j (suc k) (omega arith) h)) in
-    rw (e, here, above, ← e) (hit_deeper (f s) base (suc d) m (best_of f (s / 2) d) (hops s (omega (arith, l, pow_pos (suc d))) b))
+    rw (e, here, above, ← e)
+    (hit_deeper (f s) base (suc d) m (best_of f (s / 2) d) (hops s (omega (arith, l, pow_pos (suc d))) b))
 
 -- the last hop above level k, whose lengths begin past 8 * k
 abbrev pub up_to : (ℕ → ℕ) → ℕ → Match

@@ -35,7 +35,7 @@ deeper_short base b m h s =
     bool (eqb (hop_of b) 0) (λ e. rw e (short_more base (base + 8) m (omega arith) s)) (λ e. rw e (omega arith))
 
 -- with n of L levels left and a match of the levels above
-from_within : (L : ℕ) (ws : List ℕ) (x n a : ℕ) (m : Match) → n ≤ L → Short (8 * (L - n)) m
+pub from_within : (L : ℕ) (ws : List ℕ) (x n a : ℕ) (m : Match) → n ≤ L → Short (8 * (L - n)) m
     → Within (8 * L) (walk_from L ws x n a m)
 unfolding walk_from
 from_within L ws x zero a m h s = tt
@@ -58,6 +58,3 @@ from_within L ws x (suc n) a m h s =
     (λ u. rw u (bool (ltb (array_count ws) c)
     (λ v. rw v tt)
     (λ v. rw v (from_within L ws x n c (deeper (8 * k) m b) (omega arith) d))))))
-
-pub walk_within : (L : ℕ) (ws : List ℕ) (x : ℕ) → Within (8 * L) (walk L ws x)
-walk_within L ws x = from_within L ws x L 1 none (omega arith) tt

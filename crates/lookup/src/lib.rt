@@ -26,7 +26,7 @@ const ASTRAY: u32 = 130;
 
 // Where a walk has ended: the last best on the way, with its whole length, and the block. Two plain numbers and not a `Reply`,
 // whose cases a caller would have to tell apart by a branch that goes either way.
-#[derive(Drop)]
+#[derive(Clone, Copy)]
 pub struct End {
     pub best: u32,
     pub block: u32,

@@ -1,3 +1,5 @@
 pub mod Prefixes
 pub mod Pairs
 pub mod Choosing
+pub mod Mask
+pub mod Exact

@@ -97,4 +97,5 @@ highs = refl
 pub high_bit : (e i : ℕ) → e ≤ 8 → i < 8 → bit (256 - 2 ^ e) i ≡ cond (leb e i) 1 0
 high_bit e i h l =
     let row = all_to_lem (λ e. all_b (λ i. eqb (bit (256 - 2 ^ e) i) (cond (leb e i) 1 0)) 8) 9 highs e (omega arith) in
-    eqb-true (bit (256 - 2 ^ e) i) (cond (leb e i) 1 0) (all_to_lem (λ i. eqb (bit (256 - 2 ^ e) i) (cond (leb e i) 1 0)) 8 row i l)
+    eqb-true (bit (256 - 2 ^ e) i) (cond (leb e i) 1 0)
+    (all_to_lem (λ i. eqb (bit (256 - 2 ^ e) i) (cond (leb e i) 1 0)) 8 row i l)

@@ -159,7 +159,8 @@ module _ (held : ℕ → Bool) (m : ℕ) (fit : m < 256) (one : One held m) (fro
     where
       unasked : (y : ℕ) → bit_and m y ≡ bit_and m (bit_xor y d)
       unasked y =
-          same_bits 8 (bit_and m y) (bit_and m (bit_xor y d)) (omega (arith, and_le_l m y)) (omega (arith, and_le_l m (bit_xor y d)))
+          same_bits 8 (bit_and m y) (bit_and m (bit_xor y d)) (omega (arith, and_le_l m y))
+          (omega (arith, and_le_l m (bit_xor y d)))
           (λ i l.
           let n : min (bit m i) (bit d i) ≡ 0 = sym (and_bit m d i) ∙ ap (λ (x : ℕ). bit x i) e ∙ zero_bit i in
           and_bit m y i ∙ same (bit m i) 0
@@ -252,8 +253,3 @@ one_free held m fit from_one one = record {
       (λ z d. rw d (eq-eqb _ _ (adding held m fit one from_one s t h k p q l z)))
       (λ n d. rw (d, ne_eqb (bit_and m (parted s t)) 0 (differing held m fit one from_one s t h k p q l n)));
 }
-
--- so of all masks that have one longest prefix for each index none has fewer set bits than the mask chosen
-pub fewest_meant : (held : ℕ → Bool) → ((s : ℕ) → held s ≡ true → 1 ≤ s) → (k : ℕ) → k < 256 → One held k
-    → ones (mask_of held) ≤ ones k
-fewest_meant held from_one k h o = (chosen held).fewest k h (one_free held k h from_one o)

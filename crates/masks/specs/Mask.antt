@@ -53,7 +53,7 @@ keep false c f = refl
 
 module _ (held : ℕ → Bool) (m : ℕ) where
   -- slot t, if held, is apart from s
-  abbrev one : ℕ → ℕ → Bool
+  abbrev pub one : ℕ → ℕ → Bool
   one s t = not (held t) || apart m s t
 
   pub free_reflects : Reflects (free_b held m) (Free held m)
@@ -178,20 +178,3 @@ chosen_one held m n c d =
     (λ h _. less n m
     (λ l _. absurd (omega (arith, c.lowest n l d.free, d.fewest m c.fit c.free)))
     (λ l _. omega arith))
-
--- two arrays that hold the same have one mask
-pub mask_same : (f g : ℕ → Bool) → ((s : ℕ) → s < slot_end → f s ≡ g s) → mask_of f ≡ mask_of g
-mask_same f g e = chosen_one g (mask_of f) (mask_of g) (chosen_as f g e (mask_of f) (chosen f)) (chosen g)
-  where
-    free_as : (f g : ℕ → Bool) → ((s : ℕ) → s < slot_end → f s ≡ g s) → (m : ℕ) → Free f m → Free g m
-    free_as f g e m p = record {
-      pair = λ s t h l a b. p.pair s t h l (e s h ∙ a) (e t (omega arith) ∙ b);
-    }
-
-    chosen_as : (f g : ℕ → Bool) → ((s : ℕ) → s < slot_end → f s ≡ g s) → (m : ℕ) → Chosen f m → Chosen g m
-    chosen_as f g e m c = record {
-      fit = c.fit;
-      free = free_as f g e m c.free;
-      fewest = λ k h p. c.fewest k h (free_as g f (λ s l. sym (e s l)) k p);
-      lowest = λ k h p. c.lowest k h (free_as g f (λ s l. sym (e s l)) k p);
-    }

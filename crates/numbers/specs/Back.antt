@@ -3,7 +3,7 @@ use Rattle.std.specs.Prelude.{◌≡◌, refl, List, [], ◌∷◌, ◌++◌, �
 use Rattle.std.proofs.Common.{sym, ap, ◌∙◌, mod-eq_of_lt, arith, take_at, drop_at}
 use Rattle.std.proofs.lemmas.Nat.{mod-pow-add}
 use Rattle.numbers.specs.Digits.{four, digits}
-use Rattle.numbers.specs.Number.{AreBytes, number, number_at, number_lt, number_same}
+use Rattle.numbers.specs.Number.{AreBytes, number, number_at, number_lt}
 
 pub digits-length : (n a : ℕ) → length (digits n a) ≡ n
 unfolding digits
@@ -17,26 +17,12 @@ digits-bytes (suc n) a zero = omega arith
 digits-bytes (suc n) a (suc i) = digits-bytes n a i
 
 -- a number too great for n bytes loses what is above them
-rest : (n a : ℕ) → number (digits n a) ≡ a % 2 ^ (8 * n)
+pub rest : (n a : ℕ) → number (digits n a) ≡ a % 2 ^ (8 * n)
 unfolding number digits
 rest zero a = omega arith
 rest (suc n) a =
     let e : 8 + 8 * n ≡ 8 * suc n = omega arith in
     rw (digits-length n a, rest n a) (sym (mod-pow-add a 8 (8 * n)) ∙ ap (λ (k : ℕ). a % 2 ^ k) e)
-
-pub digits_number : (n a : ℕ) → a < 2 ^ (8 * n) → number (digits n a) ≡ a
-digits_number n a h = rest n a ∙ mod-eq_of_lt h
-
--- bytes are those of their number
-pub number_digits : (n : ℕ) (bs : List ℕ) → length bs ≡ n → AreBytes bs → digits n (number bs) ≡ bs
-number_digits n bs e ok =
-    let h : number bs < 2 ^ (8 * n) = rw e at (number_lt bs ok) in
-    number_same (digits n (number bs)) bs (digits-bytes n (number bs)) ok (digits-length n (number bs) ∙ sym e)
-    (digits_number n (number bs) h)
-
-pub number_back : (pre ys : List ℕ) (i n a : ℕ) → i ≡ length pre → a < 2 ^ (8 * n) → number_at n (pre ++ (digits n a ++ ys)) i ≡ a
-number_back pre ys i n a e h =
-    rw (drop_at pre (digits n a ++ ys) i (sym e), take_at (digits n a) ys n (digits-length n a)) (digits_number n a h)
 
 -- four bytes by halves
 pub four-digits : (a : ℕ) → digits 4 a ≡ four a

@@ -143,7 +143,8 @@ module _ (held : ℕ → Bool) (f link : ℕ → ℕ) (hold : Holds held f link)
       top_ge p slot_end (cell_slots + y) (omega arith) (and_from (held (cell_slots + y)) (has y (cell_slots + y)) e g)
 
   below-own : t ≡ cell_slots + y → below_of link t ≡ link y
-  below-own o = let q : cell_slots + y - cell_slots ≡ y = omega arith in rw (o, le-leb cell_slots (cell_slots + y) (omega arith), q)
+  below-own o = let q : cell_slots + y - cell_slots ≡ y = omega arith in
+      rw (o, le-leb cell_slots (cell_slots + y) (omega arith), q)
 
   link_longest : below_of link t ≡ link y
   link_longest = bool (held (cell_slots + y))

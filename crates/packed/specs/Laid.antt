@@ -134,7 +134,8 @@ module _ (t : Arrays) where
 -- ---- what it hangs on
 
 -- the four words of an entry
-pub entry_kept : (t : Arrays) (us vs : List ℕ) (w a s : ℕ) → ((i : ℕ) → w ≤ i → i < w + entry_words → get_or vs i 0 ≡ get_or us i 0)
+pub entry_kept : (t : Arrays) (us vs : List ℕ) (w a s : ℕ)
+    → ((i : ℕ) → w ≤ i → i < w + entry_words → get_or vs i 0 ≡ get_or us i 0)
     → IsEntry t us w a s → IsEntry t vs w a s
 entry_kept t us vs w a s e q = record {
   slot = e w (omega arith) (omega arith) ∙ q.slot;

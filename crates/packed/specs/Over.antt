@@ -1,7 +1,7 @@
 -- A byte has a prefix exactly where the prefix's slot stands over the byte's own. Assumes nothing.
 --
 --     byte 01101010 is cell 106, below slot 362      362 / 2 ^ 4 = 22 = the slot of 0110xxxx
-use Rattle.std.specs.Prelude.{◌≡◌, refl, true, false, ◌&&◌, ℕ, ◌+◌, ◌-◌, ◌*◌, ◌/◌, ◌^◌, ◌≤◌, ◌<◌, eqb}
+use Rattle.std.specs.Prelude.{◌≡◌, refl, true, ◌&&◌, ℕ, ◌+◌, ◌-◌, ◌*◌, ◌/◌, ◌^◌, ◌≤◌, ◌<◌, eqb}
 use Rattle.std.proofs.Common.{sym, ap, ◌∙◌, true≢false, arith, pow_pos, pow-add, shr_lt, eqb-true, eq-eqb, le-leb}
 use Rattle.std.proofs.Math.Nat.{add-mul-div_right}
 use Rattle.std.proofs.lemmas.Nat.{shl-shr}
@@ -24,7 +24,8 @@ pub up : (j y : ℕ) → j ≤ 8 → y < cell_count
     → (spare ((cell_slots + y) / 2 ^ j) ≡ j) × (has y ((cell_slots + y) / 2 ^ j) ≡ true)
 up j y h l =
     let over = (cell_slots + y) / 2 ^ j in
-    let row = all_to_lem (λ j. all_b (λ y. eqb (spare ((cell_slots + y) / 2 ^ j)) j && has y ((cell_slots + y) / 2 ^ j)) cell_count) 9
+    let row = all_to_lem (λ j. all_b (λ y. eqb (spare ((cell_slots + y) / 2 ^ j)) j && has y ((cell_slots + y) / 2 ^ j))
+    cell_count) 9
     ups j (omega arith) in
     let e = all_to_lem (λ y. eqb (spare ((cell_slots + y) / 2 ^ j)) j && has y ((cell_slots + y) / 2 ^ j)) cell_count row y l in
     let a = and_to (eqb (spare over) j) (has y over) e in

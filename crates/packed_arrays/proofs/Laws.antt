@@ -83,7 +83,8 @@ mask_some map b n = (rw (ne_eqb b 0 n), omega arith)
 pub mask_one : (t : Arrays) (a : ℕ) → a ≡ 1 → (255 ≡ mask_at t a) × (255 < 256)
 mask_one t a e = (rw e (sym (mask_first t)), omega arith)
 
-pub mask_later : (ts page fs : List ℕ) (a r : ℕ) → a ≢ 1 → page ≡ page_of ts a → Flagged page fs slot_end → r ≡ mask_of (held_in fs)
+pub mask_later : (ts page fs : List ℕ) (a r : ℕ) → a ≢ 1 → page ≡ page_of ts a → Flagged page fs slot_end
+    → r ≡ mask_of (held_in fs)
     → r ≡ mask_at (arrays_of ts) a
 unfolding mask_at
 mask_later ts page fs a r n q p e = rw (ne_eqb a 1 n) (e ∙ flags_mask ts fs a (rw q at p))

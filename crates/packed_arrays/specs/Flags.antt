@@ -3,7 +3,8 @@ use Rattle.std.specs.Prelude.{◌≡◌, Bool, true, false, cond, not, ◌&&◌,
 use Rattle.std.proofs.Common.{sym, ap, ◌∙◌, arith, length-set, get_or-set_same, get_or-set_other, le-leb}
 use Rattle.logic.specs.Cases.{bool, same}
 use Rattle.sizes.specs.Sizes.{slot_end, cell_slots, total_at}
-use Rattle.masks.specs.Mask.{mask_of, mask_same}
+use Rattle.masks.specs.Mask.{mask_of}
+use Rattle.masks.proofs.Mask.{mask_same}
 use Rattle.masks.specs.Top.{top_same}
 use Rattle.masks.specs.Entry.{mapped, entry}
 use Rattle.masks.specs.On.{fits}

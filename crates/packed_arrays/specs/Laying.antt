@@ -1,6 +1,7 @@
 -- All arrays laid out, one after the other: what the pages and the map give are the entries of the table's arrays.
 -- Assumes nothing.
-use Rattle.std.specs.Prelude.{◌≡◌, refl, ◌⊎◌, ◌≢◌, true, false, not, ◌&&◌, ◌||◌, List, ℕ, zero, suc, ◌+◌, ◌-◌, ◌*◌, ◌^◌, ◌≤◌, ◌<◌, leb, eqb, length, get_or}
+use Rattle.std.specs.Prelude.{◌≡◌, refl, ◌⊎◌, ◌≢◌, true, not, ◌&&◌, ◌||◌, List, ℕ, zero, suc, ◌+◌, ◌-◌, ◌*◌, ◌^◌, ◌≤◌, ◌<◌}
+use Rattle.std.specs.Prelude.{leb, eqb, length, get_or}
 use Rattle.std.proofs.Common.{sym, ap, ◌∙◌, inl, inr, ⊎_elim, mul-le-mul_right, arith, pow_pos, eq-eqb}
 use Rattle.std.proofs.lemmas.Bool.{false≢true, lt-leb}
 use Rattle.std.proofs.Math.Nat.{pow-succ'}
@@ -21,7 +22,7 @@ use Rattle.words.specs.TableBut.{Table}
 use Rattle.words.specs.Lent.{lent_slot, lent_link, lent_best}
 use Rattle.packed.specs.Layout.{header_words, entry_words}
 use Rattle.packed.specs.Byte.{cover_of, below_of}
-use Rattle.packed.specs.Laid.{held_of, mask_at, entries_in, entries_to, place_of, needed_for, IsEntry, Laid, inside, entries_end}
+use Rattle.packed.specs.Laid.{held_of, mask_at, place_of, needed_for, IsEntry, Laid, inside, entries_end}
 use Rattle.packed.specs.Laid.{entry_kept}
 use Rattle.packed_arrays.specs.Flags.{held_on, entry_ext, held_page}
 use Rattle.packed_arrays.specs.Mapped.{Mapped, entries_free, place_in, mask_in, mapped-place, mapped_mask}
@@ -45,7 +46,8 @@ module _ (L : ℕ) (ts : List ℕ) (o : Table L ts) (a : ℕ) (some : 1 ≤ a) (
   -- a held slot of fewer than 8 bits has a hop
   short_hop : (s : ℕ) → s < cell_slots → held_of t a s ≡ true → t.slot a s ≢ 0
   short_hop s h e z =
-      let w = (and_to (leb 1 s) (not (eqb (t.slot a s) 0) || (leb cell_slots s && not (eqb (t.link a (s - cell_slots)) 0))) e).1 in
+      let w = (and_to (leb 1 s) (not (eqb (t.slot a s) 0) || (leb cell_slots s && not (eqb (t.link a (s - cell_slots)) 0))) e).1
+      in
       false≢true (rw (eq-eqb (t.slot a s) 0 z, lt-leb cell_slots s h) at w)
 
   -- the cover by the page is the cover in the array

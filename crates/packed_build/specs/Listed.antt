@@ -1,8 +1,9 @@
 -- A table's arrays need the words that its list needs: the prefixes of an array are those of its head in the list, so its mask is
 -- too. Assumes nothing.
-use Rattle.std.specs.Prelude.{◌≡◌, Bool, true, false, not, ◌&&◌, List, leb, ltb, eqb}
+use Rattle.std.specs.Prelude.{◌≡◌, Bool, true, not, ◌&&◌, List, leb, ltb, eqb}
 use Rattle.std.proofs.Math.Path.{refl}
-use Rattle.std.proofs.Common.{sym, ap, ◌∙◌, le_refl, add-mul, mul_assoc, mul-le-mul_right, arith, pow-add, ne_eqb, le-leb, leb-true, ltb-true, eqb-true}
+use Rattle.std.proofs.Common.{sym, ap, ◌∙◌, le_refl, add-mul, mul_assoc, mul-le-mul_right, arith, pow-add, ne_eqb, le-leb}
+use Rattle.std.proofs.Common.{leb-true, ltb-true, eqb-true}
 use Rattle.std.proofs.lemmas.Bool.{false≢true}
 use Prim.Native.Nat.{ℕ, zero, suc, ◌+◌, ◌-◌, ◌*◌, ◌/◌, ◌^◌, ◌≤◌, ◌<◌}
 use Rattle.std.specs.Int.Count.{ones, count_leading_zeros}
@@ -16,9 +17,10 @@ use Rattle.routes.specs.Room.{mem, heads}
 use Rattle.routes.specs.Collect.{routes}
 use Rattle.laws.specs.Collect.{routes_hop}
 use Rattle.candidates.specs.Winners.{winners}
-use Rattle.masks.specs.Prefix.{spare, value, slot}
-use Rattle.masks.specs.Mask.{mask_of, mask_same, ones_255}
-use Rattle.tree.specs.Arrays.{Arrays, lev, at, node, held}
+use Rattle.masks.specs.Prefix.{spare, value}
+use Rattle.masks.specs.Mask.{mask_of, ones_255}
+use Rattle.masks.proofs.Mask.{mask_same}
+use Rattle.tree.specs.Arrays.{Arrays, lev, node, held}
 use Rattle.tree.specs.Shape.{Shape, Filled}
 use Rattle.tree.specs.Tree.{path, is_child, reach, used-level, pow8}
 use Rattle.tree.specs.Need.{held_at, at_some, node_child}
@@ -52,7 +54,8 @@ bits : (s : ℕ) → 2 ≤ s → s < slot_end → Bits s (8 - spare s) (s - 2 ^ 
 bits s h l =
     let k : s - 2 + 2 ≡ s = omega arith in
     let d = 8 - spare s in
-    let e : bits_b s d ≡ true = rw k at (all_to_lem (λ s. bits_b (s + 2) (8 - spare (s + 2))) 510 all_bits (s - 2) (omega arith)) in
+    let e : bits_b s d ≡ true =
+    rw k at (all_to_lem (λ s. bits_b (s + 2) (8 - spare (s + 2))) 510 all_bits (s - 2) (omega arith)) in
     let a = and_to (leb 1 d) _ e in
     let b = and_to (leb d 8) _ a.1 in
     let c = and_to (leb (2 ^ d) s) _ b.1 in

@@ -15,7 +15,8 @@ use Rattle.routes.specs.Room.{mem, heads}
 use Rattle.laws.specs.Heads.{heads_in, heads_out}
 use Rattle.tree.specs.Arrays.{Arrays, lev, node, held}
 use Rattle.tree.specs.Shape.{Shape, Filled}
-use Rattle.tree.specs.Tree.{path, node-level, node_inj, reach, used-level}
+use Rattle.tree.specs.Tree.{path, node-level, reach, used-level}
+use Rattle.tree.proofs.Tree.{node_inj}
 use Rattle.tree.specs.Need.{below, above}
 use Rattle.packed_build.specs.Need.{sum_of}
 
@@ -94,7 +95,8 @@ abbrev hits : ℕ → ℕ → ℕ → ℕ
 hits w y zero = 0
 hits w y (suc k) = hits w y k + cond (eqb y (suc k)) w 0
 
-levels_suc : (t : Arrays) (w : ℕ → ℕ) (k n : ℕ) → levels_sum t w k (suc n) ≡ levels_sum t w k n + hits (w (suc n)) (lev t (suc n)) k
+levels_suc : (t : Arrays) (w : ℕ → ℕ) (k n : ℕ)
+    → levels_sum t w k (suc n) ≡ levels_sum t w k n + hits (w (suc n)) (lev t (suc n)) k
 levels_suc t w zero n = omega arith
 levels_suc t w (suc k) n = omega (arith, levels_suc t w k n)
 

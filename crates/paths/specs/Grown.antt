@@ -130,7 +130,8 @@ grown_none L ws a j b ok h e = record {
   others = λ c l n w m. refl;
 }
 
-pub turn_first : (L : ℕ) (ws : List ℕ) (a j b : ℕ) → j < L → OpenCell L ws (front L a j) j b (byte_of L a j) → Turn L ws ws a j j b
+pub turn_first : (L : ℕ) (ws : List ℕ) (a j b : ℕ) → j < L → OpenCell L ws (front L a j) j b (byte_of L a j)
+    → Turn L ws ws a j j b
 turn_first L ws a j b h t =
     record { low = omega arith; high = h; grown = grown_none L ws a j b t.ok t.some t.leads; tip = t }
 

@@ -13,7 +13,7 @@ use Rattle.tree.specs.Arrays.{Arrays, node, held}
 use Rattle.tree.specs.Need.{held_at}
 use Rattle.tree.specs.SlotSet.{Place, held_place, at_none}
 use Rattle.gather.specs.Gather.{meant, meant_word}
-use Rattle.gather.specs.Found.{gathered-find}
+use Rattle.gather.proofs.Found.{gathered-find}
 use Rattle.gather.specs.Views.{feed_view, word_held, view_node, held_right}
 use Rattle.words.specs.Words.{feeds_of, arrays_of, array_count, words_of}
 use Rattle.words.specs.Table.{list_of}

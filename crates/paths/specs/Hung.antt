@@ -172,7 +172,8 @@ module _ {L : ℕ} {ws : List ℕ} {a j k b : ℕ} {fs : List ℕ} (q : Ready L 
             let e : lev (arrays_of vs) r + 1 ≡ i + 2 = omega (arith, level) in
             re.any.tag ∙ ap (tag_of r y) e
 
-        parts : (parent_in ((arrays_of us).tag f) ≡ r) × (cell_in ((arrays_of us).tag f) ≡ y) × (level_in ((arrays_of us).tag f) ≡ i + 2)
+        parts : (parent_in ((arrays_of us).tag f) ≡ r) × (cell_in ((arrays_of us).tag f) ≡ y) ×
+            (level_in ((arrays_of us).tag f) ≡ i + 2)
         parts = tag_parts ((arrays_of us).tag f) r y (i + 2) tag yb (omega (arith, q.top, q.levels))
 
         same_up : SameUp vs us i

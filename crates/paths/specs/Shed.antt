@@ -139,5 +139,6 @@ module _ {ws vs : List ℕ} {a b : ℕ} (s : Shed ws vs a b) where
             shrink k low f us (re.right (can_release_right k low f)));
       }
 
-      pub shed_falls : level_in (get_or us (array_at (parent_in (get_or vs (array_at b) 0))) 0) < level_in (get_or vs (array_at b) 0)
+      pub shed_falls : level_in (get_or us (array_at (parent_in (get_or vs (array_at b) 0))) 0)
+          < level_in (get_or vs (array_at b) 0)
       shed_falls = omega (arith, rises_level us up.m p left, up.rung.level)

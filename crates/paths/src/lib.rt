@@ -24,7 +24,7 @@ use sizes::BEST_BOUND;
 pub const ASTRAY: usize = 4097;
 
 // An array and its level.
-#[derive(Drop)]
+#[derive(Clone, Copy)]
 pub struct Stop {
     pub array: usize,
     pub level: usize,
@@ -95,7 +95,7 @@ fn word_at(words: &[u32], s: Stop, p: Place, feed: usize) -> u32
 }
 
 // A candidate that was sought: where its prefix stands, where the prefix's path stops, and its word, 0 where it is not held.
-#[derive(Drop)]
+#[derive(Clone, Copy)]
 pub struct Found {
     pub place: Place,
     pub stop: Stop,

@@ -1,12 +1,13 @@
 -- The last two passes of a tick on the words: places below 750 with nothing kept are let go, and those that are spent go. The
 -- rows are gathered to the front, and what is left is cleared. Assumes nothing.
-use Rattle.std.specs.Prelude.{◌≡◌, refl, ◌≢◌, Bool, true, false, cond, ◌&&◌, List, [], ◌∷◌, ◌++◌, ℕ, zero, suc, ◌+◌, ◌*◌, ◌/◌, ◌%◌, ◌<◌, ◌≤◌, length, ltb, leb, eqb}
+use Rattle.std.specs.Prelude.{◌≡◌, refl, ◌≢◌, Bool, true, false, cond, ◌&&◌, List, [], ◌∷◌, ◌++◌, ℕ, zero, suc, ◌+◌, ◌*◌, ◌/◌}
+use Rattle.std.specs.Prelude.{◌%◌, ◌<◌, ◌≤◌, length, ltb, leb, eqb}
 use Rattle.std.proofs.Common.{sym, ap, ◌∙◌, true≢false, arith, lt-ltb, le-ltb, le-leb, eq-eqb, ne_eqb}
 use Rattle.std.proofs.lemmas.Bool.{lt-leb}
 use Rattle.logic.specs.Cases.{bool, less, most, same}
 use Rattle.candidates.specs.Keyed.{Every}
 use Rattle.restraint.specs.Keeps.{cleared}
-use Rattle.front.specs.Place.{mark, Place, marked, IsPlace, IsFront, most_places, free_below}
+use Rattle.front.specs.Place.{Place, marked, IsPlace, IsFront, most_places, free_below}
 use Rattle.front.specs.Front.{halve, released, spent, each, let_go, unspent}
 use Rattle.rows.specs.Row.{front_words, Row, row, none, row_at, mark_of, decode, used, collect, places_of, IsWords}
 use Rattle.shelf.specs.Shift.{Holds, replaced, halved_row}

@@ -6,17 +6,17 @@
 use Rattle.std.specs.Prelude.{◌≡◌, refl, List, ℕ, ◌^◌, ◌≤◌, ◌<◌, length, get_or}
 use Rattle.std.proofs.Common.{ap, ◌∙◌, arith, le-ltb}
 use Rattle.routes.specs.Route.{Route}
-use Rattle.routes.specs.Match.{Match, none, found, longest}
+use Rattle.routes.specs.Match.{Match, none, found}
 use Rattle.routes.specs.Seen.{gives}
 use Rattle.candidates.specs.Candidate.{Candidate}
 use Rattle.candidates.specs.Winners.{winners}
 use Rattle.shortest.specs.Shortest.{hop_of, forwards}
 use Rattle.shortest.specs.Seen.{shortest4}
 use Rattle.listing.specs.Listed.{listed, listed_in}
-use Rattle.listing.specs.Written.{written-plain}
+use Rattle.listing.proofs.Written.{written-plain}
 use Rattle.lengths.specs.Marks.{markers, words_for}
 use Rattle.lengths.specs.Layout as layout
-use Rattle.lengths.specs.Laid.{Laid, laid_walk, laid_front}
+use Rattle.lengths.specs.Laid.{Laid, laid_front}
 use Rattle.lengths_build.specs.Answer.{need_on}
 use Rattle.lengths_build.specs.Build.{Leaves}
 use Rattle.answers.specs.Numbers.{needed, matched}
@@ -50,18 +50,18 @@ pub record AsForwarded {A : ℕ} {cs : List Candidate} {s : Shortened A cs} (k :
   pub hops : (a : ℕ) → a < 2 ^ 32 → (g : Matched) → g ≡ matched (layout.walk k.card a)
       → g.hop ≡ forwards 32 (winners cs) a
 
-matched_hop : (m : Match) → (matched (gives m)).hop ≡ hop_of m
+pub matched_hop : (m : Match) → (matched (gives m)).hop ≡ hop_of m
 matched_hop none = refl
 matched_hop (found h l) = refl
 
 module _ {A : ℕ} {cs : List Candidate} {s : Shortened A cs} (k : Carried s) where
-  abbrev rs : List Route
+  abbrev pub rs : List Route
   rs = shortest4 (winners cs)
 
   is_listed : listed_in (bytes s) ≡ listed rs
   is_listed = ap listed_in (shortened_bytes s) ∙ written-plain rs (is_shortest s).list
 
-  is_needed : k.need ≡ record { refusal = 0; words = words_for rs }
+  pub is_needed : k.need ≡ record { refusal = 0; words = words_for rs }
   is_needed = k.needs ∙ rw is_listed
 
   count : k.need.words ≡ words_for rs
@@ -70,20 +70,10 @@ module _ {A : ℕ} {cs : List Candidate} {s : Shortened A cs} (k : Carried s) wh
   room : words_for rs ≤ length k.lent
   room = rw (← count) k.enough
 
-  is_built : k.built ≡ record { refusal = 0; routes = length rs; markers = markers rs }
+  pub is_built : k.built ≡ record { refusal = 0; routes = length rs; markers = markers rs }
   is_built = k.builds.answer ∙ rw (is_listed, le-ltb (length k.lent) (words_for rs) room)
 
-  is_laid : Laid rs k.card
+  pub is_laid : Laid rs k.card
   is_laid =
       let l : Leaves rs k.lent k.copy = rw is_listed at k.builds.left in
       laid_front rs k.copy k.card (rw (← count) k.long) (λ i x. k.sent i (omega (arith, count))) (l.laid room)
-
-  pub as_forwarded : AsForwarded k
-  as_forwarded = record {
-    needs = ap (λ (x : Needed). x.refusal) is_needed;
-    builds = ap (λ (x : Built). x.refusal) is_built;
-    routes = ap (λ (x : Built). x.routes) is_built;
-    hops = λ a b g q.
-        ap (λ (x : Matched). x.hop) (q ∙ ap matched (laid_walk rs k.card (is_shortest s).list is_laid a b))
-        ∙ matched_hop (longest 32 a rs) ∙ (is_shortest s).alike a b;
-  }

@@ -4,11 +4,9 @@
 --     words, a table ── toggleash_shortest ──▶ bytes ── toggleash_run ──▶ words', which forward as the words do
 --     as many words ─── toggleash_clear ─────▶ cleared ──────┘
 use Rattle.std.specs.Prelude.{◌≡◌, List, [], ℕ, ◌*◌, ◌^◌, ◌≤◌, ◌<◌, length}
-use Rattle.std.proofs.Common.{ap, ◌∙◌}
 use Rattle.routes.specs.Family.{v4}
 use Rattle.candidates.specs.Candidate.{Candidate}
 use Rattle.candidates.specs.Winners.{winners}
-use Rattle.candidates.specs.Bytes.{written_plainly}
 use Rattle.candidates.specs.Runs.{run}
 use Rattle.candidates.specs.Seen.{table}
 use Rattle.words.specs.Table.{seen}
@@ -16,8 +14,8 @@ use Rattle.shortest.specs.Shortest.{forwards}
 use Rattle.shortest.specs.Seen.{shortest4}
 use Rattle.toggleash.specs.Face.{HasCleared, HasRun}
 use Rattle.answers.specs.declared.Ran.{Ran as Fields}
-use Rattle.replayed.specs.Taken.{plain_many, TakenWhole, shortest-taken, shortest-forwards}
-use Rattle.replayed.specs.Shortened.{Shortened, bytes, on_table, won, shortened_bytes}
+use Rattle.replayed.specs.Taken.{TakenWhole, shortest-taken}
+use Rattle.replayed.specs.Shortened.{Shortened, bytes, on_table, won}
 
 -- the calls, each as its contract allows
 pub record Fed {A : ℕ} {cs : List Candidate} (s : Shortened A cs) : Type 0 where
@@ -48,28 +46,9 @@ pub record ForwardsAgain {A : ℕ} {cs : List Candidate} {s : Shortened A cs} (f
   pub refused : f.ran.refused ≡ 0
 
 module _ {A : ℕ} {cs : List Candidate} {s : Shortened A cs} (f : Fed s) where
-  empty : seen 4 f.cleared ≡ table A []
+  pub empty : seen 4 f.cleared ≡ table A []
   empty = rw (f.same, (on_table s).size, (on_table s).arrays) at f.clears.left
 
-  whole : TakenWhole A (shortest4 (winners cs)) (length f.reply)
+  pub whole : TakenWhole A (shortest4 (winners cs)) (length f.reply)
   whole =
       shortest-taken A (winners cs) (length f.reply) (won s) (on_table s).room s.default s.small f.enough
-
-  pub fed-forwards : ForwardsAgain f
-  fed-forwards =
-      let left : seen 4 f.words'
-      ≡ table A (run v4 A [] (written_plainly (shortest4 (winners cs))) (length f.reply)).end.list =
-      rw (empty, shortened_bytes s) at f.runs.list in
-      let told = rw (empty, shortened_bytes s) at f.runs.answer in
-      record {
-        cleared = f.clears.answer ∙ rw (f.same, (on_table s).size);
-        list = (run v4 A [] (written_plainly (shortest4 (winners cs))) (length f.reply)).end.list;
-        table = left;
-        routes = ap length whole.list ∙ plain_many (shortest4 (winners cs));
-        forwards = shortest-forwards A (winners cs) (length f.reply) (won s) (on_table s).room s.default s.small
-            f.enough;
-        taken = ap (λ (x : Fields). x.refusal) told;
-        stop = ap (λ (x : Fields). x.stop) told ∙ whole.stop;
-        accepted = ap (λ (x : Fields). x.accepted) told ∙ whole.accepted;
-        refused = ap (λ (x : Fields). x.refused) told ∙ whole.refused;
-      }

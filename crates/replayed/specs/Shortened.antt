@@ -13,7 +13,7 @@ use Rattle.candidates.specs.Seen.{table}
 use Rattle.rivals.specs.Won.{winners_list}
 use Rattle.words.specs.Table.{seen}
 use Rattle.shortest.specs.Shortest.{IsShortest, upto}
-use Rattle.shortest.specs.Proved.{shortest_of}
+use Rattle.shortest.proofs.Proved.{shortest_of}
 use Rattle.shortest.specs.Seen.{shortest4, bytes_for}
 use Rattle.shortest.specs.Answered.{short_given}
 use Rattle.shorten.specs.Answer.{short_in}

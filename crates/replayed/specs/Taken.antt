@@ -13,11 +13,14 @@ use Rattle.candidates.specs.Winners.{winners}
 use Rattle.candidates.specs.Answers.{announce, Record, update, leaves, replies}
 use Rattle.candidates.specs.Bytes.{announces, meanings, sent_bytes, all_bytes, AllFit, announced, plainly, written_plainly}
 use Rattle.candidates.specs.Runs.{Ran, run}
-use Rattle.encoded.specs.Encoded.{size_back, run-ended}
-use Rattle.encoded.specs.Round.{Loaded, loaded}
+use Rattle.encoded.specs.Encoded.{size_back}
+use Rattle.encoded.proofs.Encoded.{run-ended}
+use Rattle.encoded.specs.Round.{Loaded}
+use Rattle.encoded.proofs.Round.{loaded}
 use Rattle.shortest.specs.Shortest.{forwards, IsShortest, upto}
-use Rattle.shortest.specs.Proved.{upto_all, shortest_of}
-use Rattle.shortest.specs.Room.{shortest_room}
+use Rattle.shortest.specs.Proved.{upto_all}
+use Rattle.shortest.proofs.Proved.{shortest_of}
+use Rattle.shortest.proofs.Room.{shortest_room}
 use Rattle.shortest.specs.Seen.{shortest4, bytes_for}
 use Rattle.listing.specs.Plain.{plain, plain-kind, plain-routes, plain_list, winners-plain}
 

@@ -9,7 +9,7 @@ ghost use Rattle.routes.specs.Bytes.{reply_bytes};
 ghost use Rattle.replies.specs.Said.{said_reply};
 
 // An update is done or refused, a lookup found, nothing or refused.
-#[derive(Drop)]
+#[derive(Clone, Copy)]
 pub enum Reply {
     // hop and cells
     Done(u32, u32),
@@ -21,7 +21,7 @@ pub enum Reply {
 }
 
 // The answer of a lookup in a copy, which knows no block.
-#[derive(Drop)]
+#[derive(Clone, Copy)]
 pub enum Match {
     // hop and length of the longest match
     Found(u32, u32),

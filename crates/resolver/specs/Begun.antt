@@ -18,7 +18,7 @@ use Rattle.words.specs.View.{seen-cases}
 use Rattle.resolver.specs.Entry.{Entries, lead_by}
 use Rattle.resolver.specs.Resolve.{match_of, walked_by, resolved, resolve_on, routed}
 use Rattle.resolver.specs.Steps.{looks, begun}
-use Rattle.resolver.specs.Turns.{stands, asked-stands}
+use Rattle.resolver.specs.Turns.{stands}
 use Rattle.resolver.specs.declared.entry.Hop.{Hop}
 use Rattle.resolver.specs.declared.way.Resolved.{Resolved}
 
@@ -32,33 +32,12 @@ in_list cs b = gives (longest 32 b (winners cs))
 
 module _ (ws : List ℕ) where
   -- what a lookup answers, by what the words are seen to be
-  abbrev looks_as : Seen → ℕ → Answer Match
+  abbrev pub looks_as : Seen → ℕ → Answer Match
   looks_as s b = match_of (lookup_on 32 s (walk 4 ws b) b)
 
-  listed : (A : ℕ) (cs : List Candidate) → looks_as (table A cs) ≡ in_list cs
+  pub listed : (A : ℕ) (cs : List Candidate) → looks_as (table A cs) ≡ in_list cs
   listed A cs = λ i b. match_back (longest 32 b (winners cs)) (block 32 (winners cs) b) i
 
 module _ (at : ℕ → Hop) (count : ℕ) where
-  abbrev entries : Entries
+  abbrev pub entries : Entries
   entries = record { count = count; lead = lead_by at }
-
-  begun-fits : (n : ℕ) (look : ℕ → Answer Match) (a : ℕ) → misfits n ≡ false
-      → stands look (lead_by at) (begun n look count a) ≡ routed (resolved look entries a)
-  begun-fits n look a e = less 256 count (λ l d. rw (e, d)) (λ l d. rw (e, d) (asked-stands look at 3 none a))
-
-  pub begun_on : (ws : List ℕ) (a : ℕ)
-      → stands (looks ws) (lead_by at) (begun (length ws) (looks ws) count a)
-      ≡ routed (resolve_on (seen 4 ws) (walked_by ws) entries a)
-  begun_on ws a =
-      seen-cases 4 ws (omega arith) (omega arith)
-      (λ e q. rw e (seen_as q))
-      (λ e b q. begun-fits (length ws) (looks ws) a e ∙ ap answer (ap (looks_as ws) q) ∙ seen_as q)
-      (λ e b t q. begun-fits (length ws) (looks ws) a e
-      ∙ ap answer (ap (looks_as ws) q ∙ listed ws (array_count ws) (list_of 4 ws)) ∙ seen_as q)
-    where
-      answer : (ℕ → Answer Match) → Resolved
-      answer look = routed (resolved look entries a)
-
-      seen_as : {s : Seen} → seen 4 ws ≡ s
-          → routed (resolve_on s (walked_by ws) entries a) ≡ routed (resolve_on (seen 4 ws) (walked_by ws) entries a)
-      seen_as q = sym (ap (λ (t : Seen). routed (resolve_on t (walked_by ws) entries a)) q)

@@ -38,12 +38,6 @@ row_called c e ws s w r p =
     p ∙ ap (λ (t : Seen). routed (resolve_on t (walked_by ws) (hops c.entries) c.address)) s
     ∙ ap routed (walked_so c.words ws w (hops c.entries) c.address) ∙ ap (λ (d : Case). routed d.answer) e
 
-rows_called : (cs : List Case) → gots cs ≡ cs → Called cs
+pub rows_called : (cs : List Case) → gots cs ≡ cs → Called cs
 rows_called [] e = tt
 rows_called (c ∷ cs) e = (row_called c cc, rows_called cs cc)
-
-pub worked_called : Called worked
-worked_called = rows_called worked resolve-cases.cases
-
-pub further_called : Called further
-further_called = rows_called further resolve-cases.further-cases

@@ -36,7 +36,8 @@ hops es = record { count = length es; lead = lead_by (λ k. get_or es k absent) 
 -- ---- the same as plain words, two an entry
 
 abbrev pub plain_at : List ℕ → ℕ → Hop
-plain_at ws k = cond (leb (length ws / 2) k) absent (record { interface = get_or ws (2 * k) 0; gateway = get_or ws (2 * k + 1) 0 })
+plain_at ws k = cond (leb (length ws / 2) k) absent
+    (record { interface = get_or ws (2 * k) 0; gateway = get_or ws (2 * k + 1) 0 })
 
 abbrev pub plain : List ℕ → Entries
 plain ws = record { count = length ws / 2; lead = lead_by (plain_at ws) }

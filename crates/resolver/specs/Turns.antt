@@ -19,12 +19,12 @@ use Rattle.resolver.specs.declared.way.Resolved.{Resolved}
 use Rattle.resolver.specs.declared.way.Way.{Way}
 
 -- where `lead` says what the entry of a hop leads to, with n lookups left after this one
-abbrev leads : (ℕ → Answer Match) → (ℕ → Lead) → Way → ℕ → Lead → Resolved
+abbrev pub leads : (ℕ → Answer Match) → (ℕ → Lead) → Way → ℕ → Lead → Resolved
 leads look lead w n (interface i) = told_of (reaches w i)
 leads look lead w n (gateway b) = routed (resolve look lead n (some b) b)
 leads look lead w n nowhere = refused_by 21
 
-abbrev stands_with : (ℕ → Answer Match) → (ℕ → Lead) → Way → ℕ → Resolved
+abbrev pub stands_with : (ℕ → Answer Match) → (ℕ → Lead) → Way → ℕ → Resolved
 stands_with look lead w zero = told_of w
 stands_with look lead w (suc n) = leads look lead w n (lead (suc w.at))
 
@@ -32,51 +32,18 @@ abbrev pub stands : (ℕ → Answer Match) → (ℕ → Lead) → Way → Resolv
 stands look lead w = stands_with look lead w w.left
 
 module _ (look : ℕ → Answer Match) (at : ℕ → Hop) where
-  abbrev lead : ℕ → Lead
+  abbrev pub lead : ℕ → Lead
   lead = lead_by at
 
-  led-stands : (k n : ℕ) (g : Option ℕ) (l : Lead) → leads look lead (met (suc k) (suc n) (has_one g) (or_zero g)) n l
+  pub led-stands : (k n : ℕ) (g : Option ℕ) (l : Lead) → leads look lead (met (suc k) (suc n) (has_one g) (or_zero g)) n l
       ≡ routed (led l g (λ b. resolve look lead n (some b) b))
   led-stands k n g (interface i) = refl
   led-stands k n g (gateway b) = refl
   led-stands k n g nowhere = refl
 
-  asked_by : (n : ℕ) (g : Option ℕ) (m : Answer Match)
-      → stands look lead (asked m (suc n) (has_one g) (or_zero g)) ≡ routed (found m lead g (λ b. resolve look lead n (some b) b))
-  asked_by n g (gives (match.found zero l)) = refl
-  asked_by n g (gives (match.found (suc k) l)) = led-stands k n g (lead_of (at k))
-  asked_by n g (gives match.none) = refl
-  asked_by n g (refuses m) = refl
-
-  -- a lookup's answer stands for what resolving its address comes to
-  pub asked-stands : (n : ℕ) (g : Option ℕ) (a : ℕ)
-      → stands look lead (asked (look a) (suc n) (has_one g) (or_zero g)) ≡ routed (resolve look lead (suc n) g a)
-  unfolding resolve
-  asked-stands n g a = asked_by n g (look a)
-
-  goes-stands : (n b : ℕ) → stands look lead (goes look (suc n) b) ≡ routed (resolve look lead n (some b) b)
-  unfolding resolve
-  goes-stands zero b = refl
-  goes-stands (suc n) b =
-      let e : suc (suc n) - 1 ≡ suc n = omega arith in
-      rw (le-ltb (suc (suc n)) 2 (omega arith), e) (asked-stands n (some b) b)
-
-  turned_by_lem : (w : Way) (n : ℕ) (l : Lead) → w.left ≡ suc n → stands look lead (turned_by look w l) ≡ leads look lead w n l
-  turned_by_lem w n (interface i) e = refl
-  turned_by_lem w n (gateway b) e = rw e (goes-stands n b)
-  turned_by_lem w n nowhere e = refl
-
   -- an end is its own answer
   pub ended-stands : (w : Way) → w.left ≡ 0 → told_of w ≡ stands look lead w
   ended-stands w e = rw e
-
-  -- a turn keeps what is stood for
-  pub turned-stands : (w : Way) → w.left ≢ 0 → stands look lead (turned look w (at w.at)) ≡ stands look lead w
-  turned-stands w p = go w.left refl
-    where
-      go : (n : ℕ) → w.left ≡ n → stands look lead (turned look w (at w.at)) ≡ stands_with look lead w n
-      go zero e = absurd (p e)
-      go (suc n) e = turned_by_lem w n (lead_of (at w.at)) e
 
 -- ---- and leaves fewer lookups
 

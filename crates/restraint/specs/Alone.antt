@@ -95,12 +95,6 @@ module _ (W A : ℕ) where
   as_alone cs ps (withdraw a l f) e =
       bool (sound W (withdraw a l f)) (λ s. rw (s, no_back ps (place a l f) e) (refl, refl)) (λ s. rw s (refl, refl))
 
-  -- at any moment, whatever else came
-  pub undamped : (b : Both) (es : List Event) (u : Update) → has b.places (at u) ≡ false → AllSpare (at u) es
-      → ((updated W A (leaves W A b es).list (leaves W A b es).places u).reply ≡ answer W A (leaves W A b es).list u)
-      × ((updated W A (leaves W A b es).list (leaves W A b es).places u).left.list ≡ after W A (leaves W A b es).list u)
-  undamped b es u e c = as_alone (leaves W A b es).list (leaves W A b es).places u (no_place (at u) b es c e)
-
   -- ---- a front that nothing is withdrawn through is as none
 
   -- the table's own answers; a tick does nothing

@@ -18,12 +18,12 @@ use Rattle.candidates.specs.Answers as table
 use Rattle.candidates.specs.Bytes.{Sent, looks, announces_for, withdraws_for, means, meanings, all_bytes, Fits, AllFit}
 use Rattle.candidates.specs.Runs.{sent_at, role_at, Ran as Outcome}
 use Rattle.candidates.specs.Runs as plain
-use Rattle.encoded.specs.Encoded.{run-records}
+use Rattle.encoded.proofs.Encoded.{run-records}
 use Rattle.front.specs.Place.{Place, IsPlace, IsFront}
 use Rattle.front.specs.Front.{Event, asks, tick, Both, halve, again, installs, each, taken}
 use Rattle.front.specs.Runs.{State, ticks_at, event_at, halts, turn, fresh, run, events_from, events_of}
 use Rattle.restraint.specs.Keeps.{Typed, AllTyped, event_keeps}
-use Rattle.restraint.specs.Through.{held_back, installed, given, through, as_fed}
+use Rattle.restraint.specs.Through.{held_back, installed, given, through}
 use Rattle.restraint.specs.Taken.{run_came}
 
 -- ---- records as they are fed
@@ -54,7 +54,7 @@ sents-length : (xs : List Record) → length (sents xs) ≡ length xs
 sents-length [] = refl
 sents-length (x ∷ xs) = ap suc (sents-length xs)
 
-fit_both : (xs ys : List Record) → AllFit v4 (sents xs) → AllFit v4 (sents ys) → AllFit v4 (sents (xs ++ ys))
+pub fit_both : (xs ys : List Record) → AllFit v4 (sents xs) → AllFit v4 (sents ys) → AllFit v4 (sents (xs ++ ys))
 fit_both [] ys f g = g
 fit_both (x ∷ xs) ys f g = (f.0, fit_both xs ys f.1 g)
 
@@ -146,22 +146,16 @@ module _ (A : ℕ) where
   installed_fit cs [] w = tt
   installed_fit cs (p ∷ ps) w =
       bool (installs 32 A cs (halve p))
-      (λ e. rw e (again-fits p w.0, installed_fit _ ps w.1))
-      (λ e. rw e (installed_fit _ ps w.1))
+      (λ e. rw e (again-fits p w.0, installed_fit (table.after 32 A cs (again (halve p))) ps w.1))
+      (λ e. rw e (installed_fit cs ps w.1))
 
-  given_fit : (b : Both) (e : Event) → IsFront 32 b.places → FitsIn e → AllFit v4 (sents (given 32 A b e))
+  pub given_fit : (b : Both) (e : Event) → IsFront 32 b.places → FitsIn e → AllFit v4 (sents (given 32 A b e))
   given_fit b (asks (update u)) i w =
       bool (sound 32 u)
       (λ s. bool (held_back 32 A b.places u) (λ h. rw (s, h) tt) (λ h. rw (s, h) (w, tt)))
       (λ s. rw s (w, tt))
   given_fit b (asks (lookup a)) i w = (w, tt)
   given_fit b tick i w = installed_fit b.list b.places i.places
-
-  through_fit : (b : Both) (es : List Event) → IsFront 32 b.places → AllFitIn es → AllFit v4 (sents (through 32 A b es))
-  through_fit b [] i w = tt
-  through_fit b (e ∷ es) i w =
-      fit_both (given 32 A b e) (through 32 A (taken 32 A b e).left es) (given_fit b e i w.0)
-      (through_fit (taken 32 A b e).left es (event_keeps 32 A b e (typed_of e w.0) i) w.1)
 
 -- ---- the run
 
@@ -175,13 +169,3 @@ fed-leaves A cs xs room f h =
 -- what the run gives to the table
 abbrev pub behind : ℕ → Both → List ℕ → ℕ → List Record
 behind A b feed room = through 32 A b (events_of A b feed room)
-
--- with reply bytes enough for that feed: five for each record
-pub as_without : (A : ℕ) (b : Both) (feed : List ℕ) (room wide : ℕ) → AreBytes feed → IsFront 32 b.places
-    → 5 * length (behind A b feed room) ≤ wide
-    → (run A b feed room).end.both.list ≡ (plain.run v4 A b.list (fed (behind A b feed room)) wide).end.list
-as_without A b feed room wide ok i h =
-    ap (λ (x : Both). x.list) (run_came A b feed room).both
-    ∙ as_fed 32 A b (events_of A b feed room)
-    ∙ sym (fed-leaves A b.list (behind A b feed room) wide
-    (through_fit A b (events_of A b feed room) i (run_fits feed ok A b room)) h)

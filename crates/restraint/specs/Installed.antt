@@ -19,7 +19,7 @@ use Rattle.front.specs.Front.{Event, asks, tick, Both, Step, step, charged, char
 use Rattle.front.specs.Front.{damped, updated, halved, released, spent, halve, again, due, installs, taken, leaves}
 use Rattle.restraint.specs.Passes.{rest, list_past, one_pass, one_list, passes, passes_list}
 use Rattle.restraint.specs.Keeps.{AllTyped, event_keeps, announce_sound}
-use Rattle.restraint.specs.Ticks.{Spares, AllSpare, AllRoomFor, ticks_in, five_ticks}
+use Rattle.restraint.specs.Ticks.{Spares, AllSpare, AllRoomFor, ticks_in}
 use Rattle.restraint.specs.Absent.{Lacks, InOrder, tried_ordered, tried_other, one_other, event_ordered}
 
 -- something is kept of the candidate k, or the table holds it
@@ -159,7 +159,7 @@ module _ (W A : ℕ) where
 
   -- ---- one after the other
 
-  event_here : (k : ℕ) (b : Both) (e : Event) → Spares k e → IsFront W b.places → InOrder b.list
+  pub event_here : (k : ℕ) (b : Both) (e : Event) → Spares k e → IsFront W b.places → InOrder b.list
       → Here b.list b.places k → HereIn k (taken W A b e)
   event_here k b (asks (update (announce a l h f p))) c g i w = announce_here b.list b.places a l h f p i k w
   event_here k b (asks (update (withdraw a l f))) c g i w = withdraw_here b.list b.places a l f k c w
@@ -167,19 +167,3 @@ module _ (W A : ℕ) where
   event_here k b tick c g i w =
       rw (passes W A b.list b.places, passes_list W A b.list b.places)
       (pass_here 0 k b.list b.places g.sorted i w)
-
-  pub stays_here : (k : ℕ) (b : Both) (es : List Event) → AllTyped W es → AllSpare k es → IsFront W b.places
-      → InOrder b.list → Here b.list b.places k → Here (leaves W A b es).list (leaves W A b es).places k
-  stays_here k b [] t c g i w = w
-  stays_here k b (e ∷ es) t c g i w =
-      stays_here k (taken W A b e).left es t.1 c.1 (event_keeps W A b e t.0 g) (event_ordered W A b e i)
-      (event_here k b e c.0 g i w)
-
-  -- what is kept in any front is in the table after five ticks
-  pub kept_installed : (k : ℕ) (b : Both) (es : List Event) → IsFront W b.places → InOrder b.list
-      → AllTyped W es → AllSpare k es → AllRoomFor W A k b es → 5 ≤ ticks_in es
-      → (mark_at b.places k).kept ≢ 0 → ¬ Lacks (leaves W A b es).list k
-  kept_installed k b es g i t c r m n =
-      ⊎_elim (λ (x : (mark_at (leaves W A b es).places k).kept ≢ 0). absurd (x (five_ticks W A k b es g c r m).1))
-      (λ (x : ¬ Lacks (leaves W A b es).list k). x)
-      (stays_here k b es t c g i (inl n))

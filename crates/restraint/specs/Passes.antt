@@ -17,7 +17,8 @@ module _ (W A : ℕ) where
 
   abbrev pub one_pass : List Candidate → List Place → List Place
   one_pass cs [] = []
-  one_pass cs (p ∷ ps) = cond (spent (rest cs p)) (one_pass (list_past cs p) ps) (marked p (rest cs p) ∷ one_pass (list_past cs p) ps)
+  one_pass cs (p ∷ ps) =
+      cond (spent (rest cs p)) (one_pass (list_past cs p) ps) (marked p (rest cs p) ∷ one_pass (list_past cs p) ps)
 
   abbrev pub one_list : List Candidate → List Place → List Candidate
   one_list cs [] = cs

@@ -1,6 +1,7 @@
 -- What a run through a front takes, and what it comes to by that: the list and the places, the replies and the counts are those
 -- of its records and ticks, one after the other. Assumes nothing.
-use Rattle.std.specs.Prelude.{◌≡◌, refl, ◌≢◌, Bool, true, false, cond, List, [], ◌∷◌, ◌++◌, ℕ, zero, suc, ◌+◌, ◌-◌, ◌≤◌, length, eqb}
+use Rattle.std.specs.Prelude.{◌≡◌, refl, ◌≢◌, Bool, true, false, cond, List, [], ◌∷◌, ◌++◌, ℕ, zero, suc, ◌+◌, ◌-◌, ◌≤◌, length}
+use Rattle.std.specs.Prelude.{eqb}
 use Rattle.std.proofs.Common.{sym, ap, ◌∙◌, append_assoc, append-nil, add-zero, arith, ne_eqb}
 use Rattle.logic.specs.Cases.{same}
 use Rattle.routes.specs.Answers.{Reply, is_refused, count}

@@ -66,10 +66,3 @@ module _ (W A : ℕ) where
   event_given b (asks (update u)) = update_given b.list b.places u
   event_given b (asks (lookup a)) = refl
   event_given b tick = tick_given b.list (each halve b.places)
-
-  pub as_fed : (b : Both) (es : List Event) → (leaves W A b es).list ≡ table.leaves W A b.list (through b es)
-  as_fed b [] = refl
-  as_fed b (e ∷ es) =
-      as_fed (taken W A b e).left es
-      ∙ ap (λ (cs : List Candidate). table.leaves W A cs (through (taken W A b e).left es)) (event_given b e)
-      ∙ sym (leaves-both b.list (given b e) (through (taken W A b e).left es))

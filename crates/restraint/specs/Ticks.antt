@@ -2,7 +2,8 @@
 -- becomes of others: no update but its own withdrawals raises its penalty, and each tick halves it. Assumes nothing.
 --
 --     12000 ── 6000 ── 3000 ── 1500 ── 750 ── 375
-use Rattle.std.specs.Prelude.{◌≡◌, refl, ◌≢◌, true, false, ◌&&◌, ◌||◌, List, [], ◌∷◌, ℕ, zero, suc, ◌/◌, ◌≤◌, ◌<◌, length, ltb, eqb}
+use Rattle.std.specs.Prelude.{◌≡◌, refl, ◌≢◌, true, false, ◌&&◌, ◌||◌, List, [], ◌∷◌, ℕ, zero, suc, ◌/◌, ◌≤◌, ◌<◌, length, ltb}
+use Rattle.std.specs.Prelude.{eqb}
 use Rattle.std.proofs.Common.{sym, ◌∙◌, true≢false, arith, lt-ltb, eq-eqb}
 use Rattle.logic.specs.Cases.{bool, same}
 use Rattle.routes.specs.Answers.{done, refused, is_done}
@@ -224,7 +225,7 @@ module _ (k : ℕ) (P : Place → Type 0) (other : (p : Place) → key p ≢ k �
 
 module _ (W A k : ℕ) (b : Both) where
   -- no update but its withdrawal raises the penalty
-  spared_under : (n : ℕ) (u : Update) → Spares k (asks (update u)) → Every (Under k n) b.places
+  pub spared_under : (n : ℕ) (u : Update) → Spares k (asks (update u)) → Every (Under k n) b.places
       → Every (Under k n) (updated W A b.list b.places u).left.places
   spared_under n (announce a l h f p) s u =
       announce_spares k (Under k n) (λ p d. record { under = λ e. absurd (d e) }) W A b.list b.places u a l h f p
@@ -235,7 +236,7 @@ module _ (W A k : ℕ) (b : Both) where
       withdraw_spares k (Under k n) (λ p d. record { under = λ e. absurd (d e) }) W A b.list b.places u a l f s
 
   -- or holds back what was let go
-  spared_free : (u : Update) → Spares k (asks (update u)) → Every (FreeAt k) b.places
+  pub spared_free : (u : Update) → Spares k (asks (update u)) → Every (FreeAt k) b.places
       → Every (FreeAt k) (updated W A b.list b.places u).left.places
   spared_free (announce a l h f p) s u =
       announce_spares k (FreeAt k) (λ p d. record { free = λ e. absurd (d e) }) W A b.list b.places u a l h f p
@@ -246,58 +247,18 @@ module _ (W A k : ℕ) (b : Both) where
 -- ---- one after the other
 
 module _ (W A : ℕ) where
-  tick_under : (k n : ℕ) (cs : List Candidate) (ps : List Place) → Every (Under k n) ps
+  pub tick_under : (k n : ℕ) (cs : List Candidate) (ps : List Place) → Every (Under k n) ps
       → Every (Under k (n / 2)) (tick_places W A cs ps)
   tick_under k n cs ps a = rw (passes W A cs ps) (pass_under W A k n cs ps a)
 
-  tick_free : (k n : ℕ) (cs : List Candidate) (ps : List Place) → n / 2 < free_below → Every (Under k n) ps → RoomFor W A k cs ps
+  pub tick_free : (k n : ℕ) (cs : List Candidate) (ps : List Place) → n / 2 < free_below → Every (Under k n) ps
+      → RoomFor W A k cs ps
       → Every (FreeAt k) (tick_places W A cs ps)
   tick_free k n cs ps h a r = rw (passes W A cs ps) (pass_free W A k n cs ps h a r)
 
-  tick_stays : (k : ℕ) (cs : List Candidate) (ps : List Place) → Every (FreeAt k) ps → Every (FreeAt k) (tick_places W A cs ps)
+  pub tick_stays : (k : ℕ) (cs : List Candidate) (ps : List Place) → Every (FreeAt k) ps
+      → Every (FreeAt k) (tick_places W A cs ps)
   tick_stays k cs ps a = rw (passes W A cs ps) (pass_stays W A k cs ps a)
-
-  stays_free : (k : ℕ) (b : Both) (es : List Event) → AllSpare k es → Every (FreeAt k) b.places
-      → Every (FreeAt k) (leaves W A b es).places
-  stays_free k b [] c u = u
-  stays_free k b (asks (update x) ∷ es) c u =
-      stays_free k (taken W A b (asks (update x))).left es c.1 (spared_free W A k b x c.0 u)
-  stays_free k b (asks (lookup a) ∷ es) c u = stays_free k (taken W A b (asks (lookup a))).left es c.1 u
-  stays_free k b (tick ∷ es) c u = stays_free k (taken W A b tick).left es c.1 (tick_stays k b.list b.places u)
-
-  falls : (k t n : ℕ) (b : Both) (es : List Event) → AllSpare k es → AllRoomFor W A k b es → Every (Under k n) b.places
-      → halves (suc t) n < free_below → suc t ≤ ticks_in es → Every (FreeAt k) (leaves W A b es).places
-  falls k t n b [] c r u h m = absurd (omega arith)
-  falls k t n b (asks (update x) ∷ es) c r u h m =
-      falls k t n (taken W A b (asks (update x))).left es c.1 r.1 (spared_under W A k b n x c.0 u) h m
-  falls k t n b (asks (lookup a) ∷ es) c r u h m = falls k t n (taken W A b (asks (lookup a))).left es c.1 r.1 u h m
-  falls k zero n b (tick ∷ es) c r u h m =
-      stays_free k (taken W A b tick).left es c.1 (tick_free k n b.list b.places h u r.0)
-  falls k (suc t) n b (tick ∷ es) c r u h m =
-      falls k t (n / 2) (taken W A b tick).left es c.1 r.1 (tick_under k n b.list b.places u) h (omega arith)
-
-  all_places : (k : ℕ) (b : Both) (es : List Event) → IsFront W b.places → AllSpare k es → AllRoomFor W A k b es
-      → 5 ≤ ticks_in es → Every (FreeAt k) (leaves W A b es).places
-  all_places k b es i c r m =
-      falls k 4 most_penalty b es c r
-      (every_map (IsPlace W) (Under k most_penalty) (λ p w. record { under = λ _. w.right.low }) b.places i.places)
-      (omega arith) m
-
-  -- from any front, whatever becomes of others: after five ticks a candidate that is not withdrawn again is not held back, and
-  -- nothing is kept of it
-  pub five_ticks : (k : ℕ) (b : Both) (es : List Event) → IsFront W b.places → AllSpare k es → AllRoomFor W A k b es
-      → 5 ≤ ticks_in es → ((mark_at (leaves W A b es).places k).back ≡ false) × ((mark_at (leaves W A b es).places k).kept ≡ 0)
-  five_ticks k b es i c r m = mark_free (leaves W A b es).places k (all_places k b es i c r m)
-
-  -- and with no withdrawal at all that is so of each
-  pub all_free : (b : Both) (es : List Event) → IsFront W b.places → AllCalm es → AllRoom W A b es → 5 ≤ ticks_in es
-      → Every Free (leaves W A b es).places
-  all_free b es i c r m =
-      free_each (leaves W A b es).places (λ k. all_places k b es i (calm_spares k es c) (r k) m)
-    where
-      free_each : (ps : List Place) → ((k : ℕ) → Every (FreeAt k) ps) → Every Free ps
-      free_each [] f = tt
-      free_each (p ∷ ps) f = ((f (key p)).0.free refl, free_each ps (λ k. (f k).1))
 
 pub none_back : (ps : List Place) → Every Free ps → backs ps ≡ 0
 none_back [] a = refl

@@ -31,7 +31,8 @@ module _ {T : Type 0} (key : T → ℕ) where
 
   pub inside_weaken : (lo lo' hi hi' : ℕ) (xs : List T) → lo' ≤ lo → hi ≤ hi' → Inside lo hi xs → Inside lo' hi' xs
   inside_weaken lo lo' hi hi' [] h h' w = omega arith
-  inside_weaken lo lo' hi hi' (x ∷ xs) h h' w = (omega arith, inside_weaken _ _ hi hi' xs (le_refl _) h' w.1)
+  inside_weaken lo lo' hi hi' (x ∷ xs) h h' w =
+      (omega arith, inside_weaken (suc (key x)) (suc (key x)) hi hi' xs (le_refl _) h' w.1)
 
   pub inside-append : (lo mid hi : ℕ) (xs ys : List T) → Inside lo mid xs → Inside mid hi ys → Inside lo hi (xs ++ ys)
   inside-append lo mid hi [] ys w u = inside_weaken mid lo hi hi ys w (le_refl _) u

@@ -2,7 +2,7 @@
 use Rattle.std.specs.Prelude.{◌≡◌, refl, ◌≢◌, List, [], ◌∷◌, ℕ, suc, ◌≤◌}
 use Rattle.std.proofs.Common.{◌∙◌, le_refl, arith}
 use Rattle.std.proofs.Math.Option.{Option, none, some}
-use Rattle.logic.specs.Cases.{same, less}
+use Rattle.logic.specs.Cases.{less}
 use Rattle.candidates.specs.Keyed.{Ordered, find, Every}
 use Rattle.candidates.specs.Candidate.{Candidate, prefix_key, key}
 use Rattle.candidates.specs.Winners.{rank, or_lower, best}
@@ -14,7 +14,7 @@ abbrev pub Lowest : ℕ → List Candidate → Option Candidate → Type 0
 Lowest k cs none = Every (λ d. prefix_key d ≢ k) cs
 Lowest k cs (some c) = (prefix_key c ≡ k) × Every (λ d. prefix_key d ≡ k → rank c ≤ rank d) cs
 
-lower-lowest : (k : ℕ) (c : Candidate) (cs : List Candidate) (o : Option Candidate) → prefix_key c ≡ k → Lowest k cs o
+pub lower-lowest : (k : ℕ) (c : Candidate) (cs : List Candidate) (o : Option Candidate) → prefix_key c ≡ k → Lowest k cs o
     → Lowest k (c ∷ cs) (or_lower c o)
 lower-lowest k c cs none q p = (
   q,
@@ -35,18 +35,6 @@ lower-lowest k c cs (some b) q p =
             (λ d x e. (let y = x e in omega arith)) cs p.1,
       ),
     ))
-
-skip_lowest : (k : ℕ) (c : Candidate) (cs : List Candidate) (o : Option Candidate) → prefix_key c ≢ k → Lowest k cs o
-    → Lowest k (c ∷ cs) o
-skip_lowest k c cs none n p = (n, p)
-skip_lowest k c cs (some b) n p = (p.0, ((λ e. absurd (n e)), p.1))
-
-pub best-lowest : (cs : List Candidate) (k : ℕ) → Lowest k cs (best cs k)
-best-lowest [] k = tt
-best-lowest (c ∷ cs) k =
-    same (prefix_key c) k
-    (λ q t. rw t (lower-lowest k c cs (best cs k) q (best-lowest cs k)))
-    (λ n t. rw t (skip_lowest k c cs (best cs k) n (best-lowest cs k)))
 
 -- ---- it is held
 

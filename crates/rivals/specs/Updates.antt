@@ -9,7 +9,7 @@ use Rattle.routes.specs.Route.{route, too_long, stray, bad_hop, insert, hop_at}
 use Rattle.routes.specs.Room.{need}
 use Rattle.routes.specs.Answers.{Reply, done, refused, refuse, is_done, lacking}
 use Rattle.routes.specs.Answers as answers
-use Rattle.logic.specs.Cases.{bool, same}
+use Rattle.logic.specs.Cases.{bool}
 use Rattle.logic.specs.Bools.{not_false, or_false}
 use Rattle.laws.specs.Replies.{passed}
 use Rattle.candidates.specs.Keyed.{Ordered, find, put, Every}
@@ -19,7 +19,7 @@ use Rattle.candidates.specs.Answers.{Update, announce, withdraw, faulty, sound, 
 use Rattle.rivals.specs.Maps.{put_ordered, cut_ordered, every_put, every_cut, put_same, put_other, cut_same, cut_other}
 use Rattle.rivals.specs.Maps.{put-held}
 use Rattle.rivals.specs.Won.{Good, found_won, winners_hop}
-use Rattle.rivals.specs.Need.{asked, need-held, need_cut}
+use Rattle.rivals.specs.Need.{asked}
 
 abbrev pub at : Update → ℕ
 at u = key (target u)
@@ -208,30 +208,6 @@ module _ (W : ℕ) where
     answer-plain A cs (withdraw a l f) q r =
         faulty-plain (withdraw a l f) (verdict W A cs (withdraw a l f))
         ∙ ap (faulty W (withdraw a l f)) (refuse-plain 7 (eqb (held cs a l f) 0) _)
-
-    -- an accepted announcement has room, where the list fits
-    pub done_room : (A : ℕ) (cs : List Candidate) (a l h f p : ℕ) → Every Good cs → need W (winners cs) ≤ A
-        → is_done (answer W A cs (announce a l h f p)) ≡ true
-        → need W (winners (put key (candidate a l f p h) cs)) ≤ A
-    unfolding answer
-    done_room A cs a l h f p q n e =
-        let s = done_sound A cs (announce a l h f p) e in
-        let g = sound_good a l h f p s in
-        let y = faulty-sound (announce a l h f p) (verdict W A cs (announce a l h f p)) s in
-        let v : is_done (verdict W A cs (announce a l h f p)) ≡ true = ap is_done (sym y) ∙ e in
-        let k : lacking W A (winners cs) a l h ≡ false = (passed 8 (lacking W A (winners cs) a l h) _ v).0 in
-        same (hop_at (winners cs) (a * 256 + l)) 0
-        (λ z t. rw (← (asked W (candidate a l f p h) cs h g.pos g q))
-        (ltb-false A (need W (insert (route a l h) (winners cs))) (rw t at k)))
-        (λ z t. omega (arith, n, need-held W (candidate a l f p h) cs g q (λ y. z (winners_hop cs (a * 256 + l) ∙ y))))
-
-    -- a list that fits goes on to fit
-    pub after-fits : (A : ℕ) (cs : List Candidate) (u : Update) → Every Good cs → need W (winners cs) ≤ A
-        → need W (winners (after W A cs u)) ≤ A
-    after-fits A cs (announce a l h f p) q n =
-        bool (is_done (answer W A cs (announce a l h f p))) (λ e. rw e (done_room A cs a l h f p q n e)) (λ e. rw e n)
-    after-fits A cs (withdraw a l f) q n =
-        bool (is_done (answer W A cs (withdraw a l f))) (λ e. rw e (omega (arith, n, need_cut W (place a l f) cs q))) (λ e. rw e n)
 
   -- an equal candidate announced again changes nothing, and reports no cells
   pub still : (A : ℕ) (cs : List Candidate) (a l h f p : ℕ) → Ordered key 0 cs

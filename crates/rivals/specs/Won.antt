@@ -15,7 +15,7 @@ use Rattle.laws.specs.Sorted as sorted
 use Rattle.candidates.specs.Keyed.{find, put, cut, Every}
 use Rattle.candidates.specs.Candidate.{Candidate, prefix_key, place, key, hop_of, IsCandidate, IsList}
 use Rattle.candidates.specs.Winners.{rank, or_lower, best, winning, winners}
-use Rattle.rivals.specs.Maps.{every_map, every_put, every_cut, find_skip, put_same}
+use Rattle.rivals.specs.Maps.{every_map, every_put, find_skip, put_same}
 
 -- a candidate that its key determines, up to preference and hop
 pub record Good (c : Candidate) : Type 0 where
@@ -146,7 +146,27 @@ winners_list W cs p = record { sorted = winners_from cs; routes = each cs p.cand
 abbrev pub settle : ℕ → ℕ → ℕ → List Route → List Route
 settle a l h rs = cond (eqb h 0) (remove (a * 256 + l) rs) (insert (route a l h) rs)
 
-winners-settle : (cs ds : List Candidate) (a l : ℕ) → l < 256 → Every Good cs → Every Good ds
+-- where the prefix has a winner, its route is inserted
+winners-inserted : (cs ds : List Candidate) (a l : ℕ) → l < 256 → Every Good cs → Every Good ds
+    → ((k : ℕ) → a * 256 + l ≢ k → winning ds k ≡ winning cs k)
+    → 0 < winning ds (a * 256 + l)
+    → winners ds ≡ insert (route a l (winning ds (a * 256 + l))) (winners cs)
+winners-inserted cs ds a l s p q off z =
+    sorted.ext 0 (winners ds) (insert r (winners cs))
+    (winners_from ds) (insert_from 0 r (winners cs) (omega arith) (winners_from cs))
+    (winners_good ds q) (all_insert sorted.Good r (winners cs) (record { pos = z; short = s }) (winners_good cs p))
+    (λ k.
+    same K k
+    (λ t _. rw (← t) (winners_hop ds K ∙ sym (insert_same r (winners cs))))
+    (λ n _. winners_hop ds k ∙ off k n ∙ sym (winners_hop cs k) ∙ sym (insert_other r (winners cs) k n)))
+  where
+    K : ℕ
+    K = a * 256 + l
+
+    r : Route
+    r = route a l (winning ds (a * 256 + l))
+
+pub winners-settle : (cs ds : List Candidate) (a l : ℕ) → l < 256 → Every Good cs → Every Good ds
     → ((k : ℕ) → a * 256 + l ≢ k → winning ds k ≡ winning cs k)
     → winners ds ≡ settle a l (winning ds (a * 256 + l)) (winners cs)
 winners-settle cs ds a l s p q off =
@@ -156,40 +176,19 @@ winners-settle cs ds a l s p q off =
     (winners_good ds q) (all_remove sorted.Good K (winners cs) (winners_good cs p)) (λ k.
     same K k
     (λ t _. rw (← t) (winners_hop ds K ∙ z ∙ sym (remove_same 0 K (winners cs) (winners_from cs))))
-    (λ n _. elsewhere k n ∙ sym (remove_other K k (winners cs) (λ u. n (sym u)))))))
-    (λ z e. rw e (sorted.ext 0 (winners ds) (insert r (winners cs))
-    (winners_from ds) (insert_from 0 r (winners cs) (omega arith) (winners_from cs))
-    (winners_good ds q) (all_insert sorted.Good r (winners cs) (record { pos = omega arith; short = s }) (winners_good cs p))
-    (λ k.
-    same K k
-    (λ t _. rw (← t) (winners_hop ds K ∙ sym (insert_same r (winners cs))))
-    (λ n _. elsewhere k n ∙ sym (insert_other r (winners cs) k n)))))
+    (λ n _. winners_hop ds k ∙ off k n ∙ sym (winners_hop cs k)
+    ∙ sym (remove_other K k (winners cs) (λ u. n (sym u)))))))
+    (λ z e. rw e (winners-inserted cs ds a l s p q off (omega arith)))
   where
     K : ℕ
     K = a * 256 + l
-
-    r : Route
-    r = route a l (winning ds (a * 256 + l))
-
-    elsewhere : (k : ℕ) → a * 256 + l ≢ k → hop_at (winners ds) k ≡ hop_at (winners cs) k
-    elsewhere k n = winners_hop ds k ∙ off k n ∙ sym (winners_hop cs k)
 
 module _ (c : Candidate) (cs : List Candidate) (g : Good c) (p : Every Good cs) where
   pub put_won : 0 < winning (put key c cs) (prefix_key c)
   put_won = found_won (put key c cs) c.addr c.len c.feed c g.few (every_put key Good c cs g p) (put_same key c cs)
 
-  pub winners-settled : winners (put key c cs) ≡ settle c.addr c.len (winning (put key c cs) (prefix_key c)) (winners cs)
-  winners-settled =
-      winners-settle cs (put key c cs) c.addr c.len g.short p (every_put key Good c cs g p)
-      (λ k n. ap hop_of (put-best c cs k g p n))
-
   -- a candidate put: its prefix's route is inserted, with the hop that wins then
   pub winners-put : winners (put key c cs) ≡ insert (route c.addr c.len (winning (put key c cs) (prefix_key c))) (winners cs)
-  winners-put = winners-settled ∙ rw (ne_eqb (winning (put key c cs) (prefix_key c)) 0 (λ z. omega (arith, put_won)))
-
--- a candidate cut: its prefix's route is removed, or replaced by the one that wins then
-pub winners_cut : (a l f : ℕ) (cs : List Candidate) → f < 8 → l < 256 → Every Good cs
-    → winners (cut key (place a l f) cs) ≡ settle a l (winning (cut key (place a l f) cs) (a * 256 + l)) (winners cs)
-winners_cut a l f cs h s p =
-    winners-settle cs (cut key (place a l f) cs) a l s p (every_cut key Good (place a l f) cs p)
-    (λ k n. ap hop_of (cut_best a l f cs k h p n))
+  winners-put =
+      winners-inserted cs (put key c cs) c.addr c.len g.short p (every_put key Good c cs g p)
+      (λ k n. ap hop_of (put-best c cs k g p n)) put_won

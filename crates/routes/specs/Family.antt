@@ -51,7 +51,8 @@ is F k r other = cond (eqb k (kind_of F r)) r other
 -- the role of a kind
 abbrev pub role_of : Family → ℕ → Role
 role_of F k =
-    is F k ending (is F k announcing (is F k withdrawing (is F k looking (is F k announcing_for (is F k withdrawing_for unknown)))))
+    is F k ending (is F k announcing
+    (is F k withdrawing (is F k looking (is F k announcing_for (is F k withdrawing_for unknown)))))
 
 abbrev pub is_unknown : Role → Bool
 is_unknown ending = false

@@ -4,7 +4,8 @@
 --     row i, words 4i .. 4i + 3     a address │ w length * 8 + feed │ x penalty * 2 + held back │ k what is kept
 --
 -- A row is used exactly where x is not 0.
-use Rattle.std.specs.Prelude.{◌≡◌, Bool, true, false, cond, not, ◌&&◌, List, [], ◌∷◌, ℕ, zero, suc, ◌+◌, ◌-◌, ◌*◌, ◌/◌, ◌%◌, ◌^◌, ◌≤◌, ◌<◌, length, get_or, ltb, leb, eqb}
+use Rattle.std.specs.Prelude.{◌≡◌, Bool, true, false, cond, not, ◌&&◌, List, [], ◌∷◌, ℕ, zero, suc, ◌+◌, ◌-◌, ◌*◌, ◌/◌, ◌%◌, ◌^◌}
+use Rattle.std.specs.Prelude.{◌≤◌, ◌<◌, length, get_or, ltb, leb, eqb}
 use Rattle.logic.specs.Every.{all_b}
 use Rattle.front.specs.Place.{Mark, mark, Place, placed, key, IsFront, most_places, most_penalty, held_over, free_below}
 
@@ -28,7 +29,8 @@ none = row 0 0 0 0
 
 abbrev pub row_at : List ℕ → ℕ → Row
 row_at ws i =
-    row (get_or ws (row_words * i) 0) (get_or ws (row_words * i + 1) 0) (get_or ws (row_words * i + 2) 0) (get_or ws (row_words * i + 3) 0)
+    row (get_or ws (row_words * i) 0) (get_or ws (row_words * i + 1) 0) (get_or ws (row_words * i + 2) 0)
+    (get_or ws (row_words * i + 3) 0)
 
 abbrev pub mark_of : ℕ → ℕ → Mark
 mark_of x k = mark (x / 2) (eqb (x % 2) 1) k

@@ -1,7 +1,9 @@
 -- The blocks of all slots of an array, each from the one above it and from what is calm there; and a cell's by that. Assumes
 -- nothing.
-use Rattle.std.specs.Prelude.{◌≡◌, refl, ◌≢◌, Bool, true, not, cond, ◌||◌, List, ℕ, zero, suc, ◌+◌, ◌-◌, ◌*◌, ◌/◌, ◌^◌, ◌≤◌, ◌<◌, eqb, length, get_or, set}
-use Rattle.std.proofs.Common.{sym, ◌∙◌, arith, length-set, pow_pos, get_or-set_same, get_or-set_other, eq-eqb, ne_eqb, eqb-true, le-leb}
+use Rattle.std.specs.Prelude.{◌≡◌, refl, ◌≢◌, Bool, true, not, cond, ◌||◌, List, ℕ, zero, suc, ◌+◌, ◌-◌, ◌*◌, ◌/◌, ◌^◌, ◌≤◌, ◌<◌}
+use Rattle.std.specs.Prelude.{eqb, length, get_or, set}
+use Rattle.std.proofs.Common.{sym, ◌∙◌, arith, length-set, pow_pos, get_or-set_same, get_or-set_other, eq-eqb, ne_eqb, eqb-true}
+use Rattle.std.proofs.Common.{le-leb}
 use Rattle.std.proofs.Math.Nat.{pow-succ'}
 use Rattle.logic.specs.Cases.{bool, same, less}
 use Rattle.sizes.specs.Sizes.{slot_end, cell_count, cells_at, cell_slots}

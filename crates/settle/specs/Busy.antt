@@ -6,7 +6,8 @@
 --   2 * s  2 * s + 1
 --     .. down to ..
 --     slot 256 + i    the mark of cell i: 0 where it has no link
-use Rattle.std.specs.Prelude.{◌≡◌, refl, Bool, not, ◌&&◌, ◌||◌, List, ℕ, zero, suc, ◌+◌, ◌-◌, ◌*◌, ◌/◌, ◌^◌, ◌≤◌, ◌<◌, leb, eqb, length, get_or, set}
+use Rattle.std.specs.Prelude.{◌≡◌, refl, Bool, not, ◌&&◌, ◌||◌, List, ℕ, zero, suc, ◌+◌, ◌-◌, ◌*◌, ◌/◌, ◌^◌, ◌≤◌, ◌<◌, leb, eqb}
+use Rattle.std.specs.Prelude.{length, get_or, set}
 use Rattle.std.proofs.Common.{sym, ap, ◌∙◌, arith, length-set, get_or-set_same, get_or-set_other, pow_mono, shr_lt}
 use Rattle.std.proofs.Math.Nat.{pow-succ'}
 use Rattle.logic.specs.Cases.{same, less, most}

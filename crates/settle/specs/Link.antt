@@ -2,7 +2,8 @@
 --
 --     set: the cells around cell i part from it as from a slot of 8 bits, then its word takes the link and has no block
 --     cut: its word takes the block 8, then the cells around join it as if a slot of 8 bits was freed
-use Rattle.std.specs.Prelude.{◌≡◌, refl, ◌≢◌, Bool, true, cond, ◌&&◌, List, ℕ, suc, ◌+◌, ◌/◌, ◌≤◌, ◌<◌, min, ltb, leb, length, get_or, set}
+use Rattle.std.specs.Prelude.{◌≡◌, refl, ◌≢◌, Bool, true, cond, ◌&&◌, List, ℕ, suc, ◌+◌, ◌/◌, ◌≤◌, ◌<◌, min, ltb, leb, length}
+use Rattle.std.specs.Prelude.{get_or, set}
 use Rattle.std.proofs.Common.{sym, ap, ◌∙◌, arith, length-set, get_or-set_same, get_or-set_other, leb-true}
 use Rattle.logic.specs.Cases.{same, most, less}
 use Rattle.logic.specs.Bools.{and_to}

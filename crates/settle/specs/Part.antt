@@ -10,8 +10,10 @@
 --          /   \
 --         d     q + 3
 --         i
-use Rattle.std.specs.Prelude.{◌≡◌, refl, ◌≢◌, cond, ◌&&◌, List, ℕ, suc, ◌+◌, ◌-◌, ◌*◌, ◌/◌, ◌^◌, ◌≤◌, ◌<◌, min, ltb, leb, eqb, length, get_or}
-use Rattle.std.proofs.Common.{sym, ap, ◌∙◌, div-add-mod', mod-lt, add-mul, one-mul, suc-mul, mul-le-mul_right, arith, pow_pos, pow-add, shr_lt, shr-shr, lt-ltb, le-ltb, le-leb, eq-eqb, ne_eqb}
+use Rattle.std.specs.Prelude.{◌≡◌, refl, ◌≢◌, cond, ◌&&◌, List, ℕ, suc, ◌+◌, ◌-◌, ◌*◌, ◌/◌, ◌^◌, ◌≤◌, ◌<◌, min, ltb, leb, eqb}
+use Rattle.std.specs.Prelude.{length, get_or}
+use Rattle.std.proofs.Common.{sym, ap, ◌∙◌, div-add-mod', mod-lt, add-mul, one-mul, suc-mul, mul-le-mul_right, arith, pow_pos}
+use Rattle.std.proofs.Common.{pow-add, shr_lt, shr-shr, lt-ltb, le-ltb, le-leb, eq-eqb, ne_eqb}
 use Rattle.std.proofs.Math.Nat.{div-eq_of_lt-le}
 use Rattle.logic.specs.Cases.{bool, most, tri}
 use Rattle.sizes.specs.Sizes.{array_words, cell_count, cells_at, totals_at}

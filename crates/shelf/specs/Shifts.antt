@@ -35,7 +35,8 @@ module _ (ws : List ℕ) (i a w x k : ℕ) (h : 4 * i + 3 < length ws) where
       ∙ get_or-set_same ws (4 * i) a 0 (omega arith) in
       λ t. record { a = e0 t; w = e1 t; x = e2 t; k = e3 t }
 
-  word_other : (m : ℕ) → m ≢ 4 * i → m ≢ 4 * i + 1 → m ≢ 4 * i + 2 → m ≢ 4 * i + 3 → get_or (set4 ws i a w x k) m 0 ≡ get_or ws m 0
+  word_other : (m : ℕ) → m ≢ 4 * i → m ≢ 4 * i + 1 → m ≢ 4 * i + 2 → m ≢ 4 * i + 3
+      → get_or (set4 ws i a w x k) m 0 ≡ get_or ws m 0
   word_other m n0 n1 n2 n3 =
       get_or-set_other (set (set (set ws (4 * i) a) (4 * i + 1) w) (4 * i + 2) x) (4 * i + 3) m k 0 n3
       ∙ get_or-set_other (set (set ws (4 * i) a) (4 * i + 1) w) (4 * i + 2) m x 0 n2

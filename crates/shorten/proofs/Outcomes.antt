@@ -3,7 +3,7 @@ use mathlib.Core.Path.{◌≡◌, refl, sym, ap, ◌∙◌}
 use mathlib.Core.Logic.{◌≢◌}
 use mathlib.Core.Bool.{Bool, true, false, cond}
 use mathlib.Core.List.{List, [], ◌∷◌, ◌++◌}
-use Prim.Native.Nat.{ℕ, zero, suc, ◌+◌, ◌-◌, ◌*◌, ◌^◌, ◌≤◌, ◌<◌}
+use Prim.Native.Nat.{ℕ, zero, suc, ◌+◌, ◌-◌, ◌*◌, ◌≤◌, ◌<◌}
 use native.Mathlib.Omega.{arith}
 use lib.Dec.{eqb, ltb}
 use lib.ListN.{length, set, take, drop, length-append}
@@ -18,12 +18,11 @@ use Rattle.candidates.specs.Candidate.{Candidate}
 use Rattle.candidates.specs.Winners.{winners}
 use Rattle.candidates.specs.Bytes.{written_plainly}
 use Rattle.candidates.specs.Seen.{Seen, misfit, foreign, table}
-use Rattle.words.specs.Table.{list_of, seen}
+use Rattle.words.specs.Table.{seen}
 use Rattle.words.specs.TableBut.{Table}
 use Rattle.words.specs.View.{seen_table, table_of}
 use Rattle.writing.specs.declared.Counted.{Counted}
 use Rattle.writing.specs.declared.Counted.TheVariants as counted
-use Rattle.writing.specs.Answer.{count_answer}
 use Rattle.shortest.specs.Shortest.{upto}
 use Rattle.shortest.specs.Chosen.{under}
 use Rattle.shortest.specs.Proved.{upto_all}
@@ -37,7 +36,8 @@ use Rattle.shorten.proofs.Refusals.{Seated, root_stands}
 
 -- ---- a refusal before the buffer's
 
-refused_by_lem : (s : Seen) (l : Bool) (room n : ℕ) → n ≡ unfit_on s l → n ≢ 0 → (short_on s l room ≡ refuses n) × (eqb n 9 ≡ false)
+refused_by_lem : (s : Seen) (l : Bool) (room n : ℕ) → n ≡ unfit_on s l → n ≢ 0
+    → (short_on s l room ≡ refuses n) × (eqb n 9 ≡ false)
 refused_by_lem s true room n e z = rw e (refl, refl)
 refused_by_lem misfit false room n e z = rw e (refl, refl)
 refused_by_lem foreign false room n e z = rw e (refl, refl)
@@ -179,7 +179,8 @@ given ws ms b r ns c n e =
         let k : n ≡ bytes_for (length (shortest4 (won_of ws))) = cc in
         record { fine = f; count = k; fits = omega (arith, k); view = v; list = rw v at c.scratch }))
 
-    go : (s : Seen) → seen 4 ws ≡ s → (l : Bool) → ltb (length ms) (length ws) ≡ l → gives n ≡ bytes_in (short_in ws ms (length b))
+    go : (s : Seen) → seen 4 ws ≡ s → (l : Bool) → ltb (length ms) (length ws) ≡ l
+        → gives n ≡ bytes_in (short_in ws ms (length b))
         → Given ws ms b n ns
     go s v true w a = absurd (let g : gives n ≡ refuses 1 = rw w at a in let z : ◌≡◌ {A = ℕ} 0 1 = cc in omega arith)
     go misfit v false w a = absurd (let g : gives n ≡ refuses 1 = rw (w, v) at a in let z : ◌≡◌ {A = ℕ} 0 1 = cc in omega arith)
@@ -241,6 +242,7 @@ pub front_length : (x : Answer (List Route)) → count_in (bytes_in x) ≡ lengt
 front_length (gives rs) = sym (plain-length rs)
 front_length (refuses n) = refl
 
-pub front_is : (x : Answer (List Route)) (b c : List ℕ) (m : ℕ) → m ≡ count_in (bytes_in x) → c ≡ left_in x b → take m c ≡ front_in x
+pub front_is : (x : Answer (List Route)) (b c : List ℕ) (m : ℕ) → m ≡ count_in (bytes_in x) → c ≡ left_in x b
+    → take m c ≡ front_in x
 front_is (gives rs) b c m k e = rw e (take_at (written_plainly rs) (drop (bytes_for (length rs)) b) m (plain-length rs ∙ sym k))
 front_is (refuses n) b c m k e = rw k

@@ -16,7 +16,8 @@ use Rattle.writing.specs.declared.Counted.TheVariants.{Bytes, Refused}
 use Rattle.writing.specs.Answer.{count_answer}
 use Rattle.shortest.specs.Shortest.{IsShortest}
 use Rattle.shortest.specs.Seen.{bytes_for, bytes_in, left_in}
-use Rattle.shortest.specs.Answered.{given_shortest, table_shortest}
+use Rattle.shortest.specs.Answered.{table_shortest}
+use Rattle.shortest.proofs.Answered.{given_shortest}
 use Rattle.shorten.specs.Answer.{short_in, front_in, HasCounted, HasShortened}
 
 -- ---- what is written is a shortest list
@@ -40,7 +41,8 @@ pub shortened_shortest : (ws ms b : List ℕ) (n : ℕ) (ns c : List ℕ) → Ha
     → WroteShortest ws b n c
 shortened_shortest ws ms b n ns c s = go (short_in ws ms (length b)) refl s.answer s.buffer
   where
-    go : (x : Answer (List Route)) → short_in ws ms (length b) ≡ x → gives n ≡ bytes_in x → c ≡ left_in x b → WroteShortest ws b n c
+    go : (x : Answer (List Route)) → short_in ws ms (length b) ≡ x → gives n ≡ bytes_in x → c ≡ left_in x b
+        → WroteShortest ws b n c
     go (gives qs) e a t =
         let k : n ≡ bytes_for (length qs) = given_one a in
         record { list = qs; shortest = in_shortest ws ms (length b) qs e; count = k; bytes = rw k t }
@@ -79,6 +81,7 @@ shortened_sharp ws ms b r t ns os c d p q = (
   p.buffer ∙ sym q.buffer,
 )
 
-pub part_sharp : (ws ms : List ℕ) (room : ℕ) (x y : List ℕ) → x ≡ front_in (short_in ws ms room) → y ≡ front_in (short_in ws ms room)
+pub part_sharp : (ws ms : List ℕ) (room : ℕ) (x y : List ℕ) → x ≡ front_in (short_in ws ms room)
+    → y ≡ front_in (short_in ws ms room)
     → x ≡ y
 part_sharp ws ms room x y p q = p ∙ sym q

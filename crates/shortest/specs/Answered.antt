@@ -1,36 +1,17 @@
--- A list that the view of any words gives is a shortest one for the table's winners, and where it gives none one of the refusals
--- is due. Assumes nothing.
-use Rattle.std.specs.Prelude.{◌≡◌, refl, Bool, true, false, List, ℕ, ◌≤◌, eqb, ltb, length}
+-- The view of any words gives a list where they are a table's, and where it gives none one of the refusals is due. Assumes
+-- nothing.
+use Rattle.std.specs.Prelude.{◌≡◌, refl, Bool, true, false, List, ℕ, ◌≤◌, length}
 use Rattle.std.proofs.Common.{arith, ne_eqb, le-ltb}
-use Rattle.std.proofs.lemmas.Bool.{eqb-false}
-use Rattle.logic.specs.Cases.{bool}
-use Rattle.routes.specs.Route.{Route, held, IsList}
+use Rattle.routes.specs.Route.{Route, held}
 use Rattle.routes.specs.Seen.{gives, refuses}
 use Rattle.candidates.specs.Candidate.{Candidate}
 use Rattle.candidates.specs.Winners.{winners}
 use Rattle.candidates.specs.Seen.{Seen, misfit, foreign, table}
-use Rattle.laws.specs.Given.{given_one}
-use Rattle.shortest.specs.Shortest.{IsShortest, upto}
-use Rattle.shortest.specs.Proved.{shortest_of}
+use Rattle.shortest.specs.Shortest.{upto}
 use Rattle.shortest.specs.Seen.{shortest4, bytes_for, short_for, short_on}
 
-no_gift : {P : Type 0} {n : ℕ} {qs : List Route} → refuses n ≡ gives qs → P
+pub no_gift : {P : Type 0} {n : ℕ} {qs : List Route} → refuses n ≡ gives qs → P
 no_gift e = absurd (let z : ◌≡◌ {A = ℕ} 0 1 = cc in omega arith)
-
--- of a list
-pub given_shortest : (rs : List Route) (room : ℕ) (qs : List Route) → IsList 32 rs → short_for rs room ≡ gives qs
-    → IsShortest 32 rs qs
-given_shortest rs room qs i e =
-    bool (eqb (held rs 0 0) 0)
-    (λ q. no_gift (rw q at e))
-    (λ q. bool (upto 32 rs)
-    (λ u. bool (ltb room (bytes_for (length (shortest4 rs))))
-    (λ r. no_gift (rw (q, u, r) at e))
-    (λ r.
-    let g : shortest4 rs ≡ qs = given_one (rw (q, u, r) at e) in
-    let n = eqb-false (held rs 0 0) 0 q in
-    rw g at (shortest_of rs i (omega arith) u)))
-    (λ u. no_gift (rw (q, u) at e)))
 
 -- with a default route, small hops and the room there is one
 pub short_given : (rs : List Route) (room : ℕ) → 1 ≤ held rs 0 0 → upto 32 rs ≡ true

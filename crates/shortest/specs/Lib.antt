@@ -12,5 +12,4 @@ pub mod Seen
 pub mod Answered
 pub mod Flat
 pub mod Found
-pub mod Room
 pub mod Worked

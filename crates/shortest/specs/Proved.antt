@@ -1,8 +1,10 @@
--- The list that is chosen is a shortest one. Assumes nothing.
-use Rattle.std.specs.Prelude.{◌≡◌, refl, Bool, true, ◌&&◌, List, [], ◌∷◌, ◌++◌, ℕ, zero, suc, ◌+◌, ◌-◌, ◌*◌, ◌/◌, ◌^◌, ◌≤◌, ◌<◌, leb, eqb}
+-- The list that is chosen is one of document 01, and no list that gives every address its hop is shorter than its cost. Assumes
+-- nothing.
+use Rattle.std.specs.Prelude.{◌≡◌, refl, Bool, true, ◌&&◌, List, [], ◌∷◌, ◌++◌, ℕ, zero, suc, ◌+◌, ◌-◌, ◌*◌, ◌/◌, ◌^◌, ◌≤◌, ◌<◌}
+use Rattle.std.specs.Prelude.{leb, eqb}
 use Rattle.std.proofs.Math.Path.{sym, ap}
 use Rattle.std.proofs.Common.{◌∙◌, arith, leb-true, le-leb}
-use Rattle.std.proofs.Math.Bool.{false, and_assoc, and_true}
+use Rattle.std.proofs.Math.Bool.{false, and_assoc, and-true}
 use Rattle.std.proofs.Math.Nat.{div-eq_of_lt}
 use Rattle.std.proofs.lemmas.Nat.{trailing_le}
 use Rattle.std.proofs.Math.ListN.{length}
@@ -11,15 +13,15 @@ use Rattle.logic.specs.Cases.{bool, less}
 use Rattle.laws.specs.Sorted.{all_append}
 use Rattle.routes.specs.Collect.{own, collect, routes}
 use Rattle.laws.specs.Collect.{routes_from}
-use Rattle.laws.specs.Longest.{Top, along, longest-top, longest_last, longest-walk, routes_wfs, wfs}
+use Rattle.laws.specs.Longest.{Top, along, longest-top, longest_last, routes_wfs}
 use Rattle.routes.specs.Route.{Route, key, All, hop_at, held, Wf, IsRoute, IsList}
 use Rattle.routes.specs.Match.{Match, none, found, matches, or_longer, longest}
 use Rattle.shortest.specs.HopSet.{has, has_zero}
-use Rattle.shortest.specs.Chosen.{set_of, pick, above, chosen, shortest}
+use Rattle.shortest.specs.Chosen.{set_of, pick, above, chosen}
 use Rattle.shortest.specs.Inside.{cost}
 use Rattle.shortest.specs.Least.{least}
-use Rattle.shortest.specs.Given.{Hops, chosen-length, chosen-carried}
-use Rattle.shortest.specs.Shortest.{hop_of, forwards, IsShortest, upto}
+use Rattle.shortest.specs.Given.{Hops}
+use Rattle.shortest.specs.Shortest.{hop_of, forwards, upto}
 use Rattle.shortest.specs.Lists.{table_of, table_length, carried_last}
 
 -- ---- the hops of a list that has the default route
@@ -41,7 +43,7 @@ upto-append N (x ∷ xs) ys =
 
 pub upto-own : (N d v l h : ℕ) → upto N (own d v l h) ≡ leb h N
 upto-own N d v l zero = sym (le-leb 0 N (omega arith))
-upto-own N d v l (suc h) = and_true (leb (suc h) N)
+upto-own N d v l (suc h) = and-true (leb (suc h) N)
 
 pub upto_hop : (N : ℕ) (rs : List Route) (k : ℕ) → All (Upto N) rs → hop_at rs k ≤ N
 upto_hop N [] k u = omega arith
@@ -102,15 +104,8 @@ all_both W N n (r ∷ rs) p q = (record { wf = p.0; low = omega (arith, q.0) }, 
 -- ---- the whole
 
 module _ (N W : ℕ) (w : W < 256) (n : N < 65535) (G : ℕ → ℕ) (hops : (a : ℕ) → a < 2 ^ W → (1 ≤ G a) × (G a ≤ N)) where
-  inside : Hops N G W 0
+  pub inside : Hops N G W 0
   inside a i = hops a (omega (arith, i.to))
-
-  -- one more than the cost
-  pub whole_length : length (routes W (chosen N W G)) ≡ cost G W 0 + 1
-  unfolding routes above
-  whole_length =
-      let e : has (set_of G W 0) 0 ≡ false = has_zero (set_of G W 0) in
-      (rw e at (chosen-length N W G W 0 0 (omega arith) inside))
 
   pub whole_list : IsList W (routes W (chosen N W G))
   unfolding routes
@@ -119,12 +114,6 @@ module _ (N W : ℕ) (w : W < 256) (n : N < 65535) (G : ℕ → ℕ) (hops : (a 
     routes = all_both W (suc N) n (routes W (chosen N W G)) (routes_wfs W (chosen N W G))
         (collect_all (suc N) (chosen N W G) (chosen-upto N W G) W 0 0);
   }
-
-  pub whole_forwards : (a : ℕ) → a < 2 ^ W → forwards W (routes W (chosen N W G)) a ≡ G a
-  unfolding above
-  whole_forwards a b =
-      ap hop_of (longest-walk W (chosen N W G) a w b) ∙ sym (carried_last (chosen N W G) W a)
-      ∙ chosen-carried N W G W 0 0 (omega arith) inside a (record { from = omega arith; to = omega (arith, b) })
 
   pub whole_least : (ps : List Route) → All (Wf W) ps → ((a : ℕ) → a < 2 ^ W → forwards W ps a ≡ G a)
       → cost G W 0 + 1 ≤ length ps
@@ -136,24 +125,3 @@ module _ (N W : ℕ) (w : W < 256) (n : N < 65535) (G : ℕ → ℕ) (hops : (a 
       (λ a i. (let b : a < 2 ^ W = omega (arith, i.to) in
       carried_last (table_of W ps) W a ∙ sym (ap hop_of (longest_last W a w ps f)) ∙ g a b))) in
       omega (arith, h, table_length W w ps f)
-
--- a list of W bits with the default route and no hop over N has its shortest
-pub shortest_is : (N W : ℕ) (qs : List Route) → W < 256 → N < 65535 → All (Wf W) qs → 1 ≤ held qs 0 0 → All (Upto N) qs
-    → IsShortest W qs (shortest N W qs)
-unfolding shortest
-shortest_is N W qs w n f p u = record {
-  list = whole_list N W w n G hops;
-  alike = whole_forwards N W w n G hops;
-  least = λ ps g s. omega (arith, whole_length N W w n G hops, whole_least N W w n G hops ps g s);
-}
-  where
-    G : ℕ → ℕ
-    G = forwards W qs
-
-    hops : (a : ℕ) → a < 2 ^ W → (1 ≤ G a) × (G a ≤ N)
-    hops a b = (forwards_some W a qs w f p b, forwards-upto N W a qs u)
-
--- a list of document 01 with the default route and no hop over 32
-pub shortest_of : (qs : List Route) → IsList 32 qs → 1 ≤ held qs 0 0 → upto 32 qs ≡ true → IsShortest 32 qs (shortest 32 32 qs)
-shortest_of qs l p u =
-    shortest_is 32 32 qs (omega arith) (omega arith) (wfs 32 qs l.routes) p (upto_all 32 qs u)

@@ -77,7 +77,8 @@ free_told ws i =
     ors : (a b c d : ℕ) → eqb (bit_or a (bit_or b (bit_or c d))) 0 ≡ (eqb a 0 && (eqb b 0 && (eqb c 0 && eqb d 0)))
     ors a b c d = rw (or_none a (bit_or b (bit_or c d)), or_none b (bit_or c d), or_none c d)
 
-pub faults_told : (ws : List ℕ) (i a b c d : ℕ) → eqb a 0 ≡ right_word_b (get_or ws i 0) → eqb b 0 ≡ right_word_b (get_or ws (i + 1) 0)
+pub faults_told : (ws : List ℕ) (i a b c d : ℕ) → eqb a 0 ≡ right_word_b (get_or ws i 0)
+    → eqb b 0 ≡ right_word_b (get_or ws (i + 1) 0)
     → eqb c 0 ≡ right_word_b (get_or ws (i + 2) 0) → eqb d 0 ≡ right_word_b (get_or ws (i + 3) 0)
     → eqb (bit_or a (bit_or b (bit_or c d))) 0 ≡ right_slot_b (words_at ws i)
 unfolding right_slot_b
@@ -113,7 +114,8 @@ module _ (ws : List ℕ) (g : ℕ) where
       (λ w _. (let e : stride_words * g + slot_at 2 + (k - stride_words * g) ≡ slot_at 2 + k = omega arith in
       rw e at (all_to_lem (zero_at ws (stride_words * g + slot_at 2)) stride_words b (k - stride_words * g) (omega arith)))))
 
-  pub bare_stop : g < slot_strides → all_b (zero_at ws (stride_words * g + slot_at 2)) stride_words ≡ false → false ≡ bare_slots_b ws
+  pub bare_stop : g < slot_strides → all_b (zero_at ws (stride_words * g + slot_at 2)) stride_words ≡ false
+      → false ≡ bare_slots_b ws
   bare_stop h b =
       bool (all_b zero8 (slot_words * later_slots))
       (λ t. absurd (true≢false (sym (all_from (zero_at ws (stride_words * g + slot_at 2)) stride_words

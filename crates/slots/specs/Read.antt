@@ -1,5 +1,6 @@
 -- The winning hops of a page's slots, read into a list, and whether the slots are right. Assumes nothing.
-use Rattle.std.specs.Prelude.{◌≡◌, refl, ◌≢◌, Bool, true, false, cond, ◌&&◌, List, ℕ, zero, suc, ◌+◌, ◌-◌, ◌*◌, ◌≤◌, ◌<◌, eqb, length, get_or, set}
+use Rattle.std.specs.Prelude.{◌≡◌, refl, ◌≢◌, Bool, true, false, cond, ◌&&◌, List, ℕ, zero, suc, ◌+◌, ◌-◌, ◌*◌, ◌≤◌, ◌<◌, eqb}
+use Rattle.std.specs.Prelude.{length, get_or, set}
 use Rattle.std.proofs.Common.{sym, ◌∙◌, arith, add-one, length-set, eqb-true, eq-eqb, ne_eqb, get_or-set_same, get_or-set_other}
 use Rattle.std.specs.Int.Bits.{bit_or}
 use Rattle.logic.specs.Cases.{same, less}
@@ -37,7 +38,8 @@ unfolding all_b
 read_none ws c l z = record { size = l; hop = λ s h. absurd (omega arith); rest = λ s h. z (s + 1); right = refl }
 
 -- one slot more
-pub read_more : (ws c : List ℕ) (m n v h : ℕ) → n < last_slot → eqb v 0 ≡ slot_test ws n → h ≡ won_hop (words_at ws (slot_at (n + 1)))
+pub read_more : (ws c : List ℕ) (m n v h : ℕ) → n < last_slot → eqb v 0 ≡ slot_test ws n
+    → h ≡ won_hop (words_at ws (slot_at (n + 1)))
     → Read ws c m n → Read ws (set c (n + 1) h) (bit_or m v) (n + 1)
 unfolding all_b
 read_more ws c m n v h b e d r = record {

@@ -20,7 +20,7 @@ use Rattle.candidates.specs.Winners.{winners}
 use Rattle.candidates.specs.Answers.{Update, announce, withdraw, target, answer, after}
 use Rattle.rivals.specs.Won.{Good}
 use Rattle.rivals.specs.Need.{heads-put}
-use Rattle.rivals.specs.Updates.{done_sound, sound_good, done_room}
+use Rattle.rivals.specs.Updates.{done_sound, sound_good}
 use Rattle.swaps.specs.Moves.{Table, Swapped}
 use Rattle.swaps.specs.Proved.{Holds, table_holds, after_holds, swap_with_room}
 
@@ -74,7 +74,7 @@ not_swapped s = true≢false s.other_done
 -- ---- one array
 
 -- no head at the first j levels below the root
-abbrev Flat : ℕ → ℕ → List Route → Type 0
+abbrev pub Flat : ℕ → ℕ → List Route → Type 0
 Flat W j rs = (i z : ℕ) → i < j → mem z (heads W (8 * suc i) rs) ≡ false
 
 need_one : (W j : ℕ) (rs : List Route) → 1 ≤ need_to W j rs
@@ -87,7 +87,7 @@ counts : (z : ℕ) (xs : List ℕ) → mem z xs ≡ true → 1 ≤ distinct xs
 counts z xs e =
     distinct_le (z ∷ []) xs (λ y m. or_case (eqb z y) false m (λ t. rw (← (eqb-true z y t)) e) (λ t. absurd (false≢true t)))
 
-need-flat : (W j : ℕ) (rs : List Route) → need_to W j rs ≤ 1 → Flat W j rs
+pub need-flat : (W j : ℕ) (rs : List Route) → need_to W j rs ≤ 1 → Flat W j rs
 unfolding need_to
 need-flat W zero rs h i z l = absurd (omega arith)
 need-flat W (suc j) rs h i z l =
@@ -97,43 +97,9 @@ need-flat W (suc j) rs h i z l =
     (λ m. m)))
     (λ n _. need-flat W j rs (omega (arith, need_one W j rs)) i z (omega arith))
 
-flat-need : (W j : ℕ) (rs : List Route) → Flat W j rs → need_to W j rs ≤ 1
+pub flat-need : (W j : ℕ) (rs : List Route) → Flat W j rs → need_to W j rs ≤ 1
 unfolding need_to
 flat-need W zero rs f = omega arith
 flat-need W (suc j) rs f =
     let d = distinct_le (heads W (8 * suc j) rs) [] (λ z m. absurd (true≢false (sym m ∙ f j z (omega arith)))) in
     omega (arith, d, flat-need W j rs (λ i z l. f i z (omega arith)))
-
--- with one array, an announcement that is accepted after a withdrawal is accepted before it
-pub fourth_of_one : (W : ℕ) (w : W < 256) (cs : List Candidate) (a l h f p b m g : ℕ) → Table W 1 cs
-    → target (announce a l h f p) ≢ target (withdraw b m g)
-    → is_done (answer W 1 (after W 1 cs (withdraw b m g)) (announce a l h f p)) ≡ true
-    → Swapped W 1 cs (announce a l h f p) (withdraw b m g)
-fourth_of_one W w cs a l h f p b m g t n d = swap_with_room W w 1 cs a l h f p b m g hs n (λ s. room)
-  where
-    ds : List Candidate
-    ds = after W 1 cs (withdraw b m g)
-
-    hs : Holds W w 1 cs
-    hs = table_holds W w 1 cs t
-
-    hd : Holds W w 1 (after W 1 cs (withdraw b m g))
-    hd = after_holds W w 1 cs (withdraw b m g) hs
-
-    c : Candidate
-    c = candidate a l f p h
-
-    gc : Good (candidate a l f p h)
-    gc = sound_good W w a l h f p (done_sound W 1 (after W 1 cs (withdraw b m g)) (announce a l h f p) d)
-
-    flat : Flat W (W / 8 - 1) (winners (put key (candidate a l f p h) (after W 1 cs (withdraw b m g))))
-    flat = need-flat W (W / 8 - 1) (winners (put key c ds)) (done_room W w 1 ds a l h f p hd.good hd.fits d)
-
-    none : (i z : ℕ) → i < W / 8 - 1 → has_head W (8 * suc i) z (route a l 0) ≡ false
-    none i z e =
-        or_false (has_head W (8 * suc i) z (route a l 0)) _ (sym (heads-put W (8 * suc i) z c ds gc hd.good) ∙ flat i z e)
-
-    room : need W (winners (put key (candidate a l f p h) cs)) ≤ 1
-    room =
-        flat-need W (W / 8 - 1) (winners (put key c cs)) (λ i z e.
-        heads-put W (8 * suc i) z c cs gc hs.good ∙ rw (none i z e) (need-flat W (W / 8 - 1) (winners cs) hs.fits i z e))

@@ -17,8 +17,9 @@ use Rattle.rivals.specs.Maps.{ext, every_put}
 use Rattle.rivals.specs.Won.{Good, are_good}
 use Rattle.rivals.specs.Need.{heads-put, heads_cut}
 use Rattle.rivals.specs.Updates.{at, newly, same_done, done_sound, sound-target, sound_good, after_other, after_same}
-use Rattle.rivals.specs.Updates.{after_ordered, after_good, after-fits, unsound_after, unsound_answer, unsound_plain, plainly}
-use Rattle.rivals.specs.Updates.{Roomy, answer-plain, done_room}
+use Rattle.rivals.specs.Updates.{after_ordered, after_good, unsound_after, unsound_answer, unsound_plain, plainly}
+use Rattle.rivals.specs.Updates.{Roomy, answer-plain}
+use Rattle.rivals.proofs.Updates.{after-fits, done_room}
 use Rattle.swaps.specs.Moves.{Table, Swapped}
 
 -- fields of a record apart

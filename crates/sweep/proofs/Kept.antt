@@ -2,7 +2,7 @@
 use mathlib.Core.Path.{◌≡◌, refl, sym, ap, ◌∙◌}
 use mathlib.Core.Logic.{◌≢◌}
 use mathlib.Core.List.{List}
-use Prim.Native.Nat.{ℕ, zero, suc, ◌+◌, ◌-◌, ◌*◌, ◌^◌, ◌≤◌, ◌<◌}
+use Prim.Native.Nat.{ℕ, zero, suc, ◌+◌, ◌-◌, ◌*◌, ◌≤◌, ◌<◌}
 use native.Mathlib.Omega.{arith}
 use lib.ListN.{length, set}
 use lib.Pow.{pow_mono}
@@ -75,6 +75,10 @@ pub record Parted (ws : List ℕ) (p bits h : ℕ) (ms : List ℕ) (own hop low 
   pub hops : hop ≡ under own h
   pub is : low ≡ low_of ws bits p
   pub some : low ≢ 0
+
+pub parted : {ws : List ℕ} {p bits h : ℕ} {ms : List ℕ} {own hop low : ℕ} → KeepsSets ws p bits h ms → own ≡ won_at ws p
+    → hop ≡ under own h → low ≡ low_of ws bits p → low ≢ 0 → Parted ws p bits h ms own hop low
+parted d o u e n = record { asked = d; won = o; hops = u; is = e; some = n }
 
 module _ {ws : List ℕ} {p bits h : ℕ} {ms : List ℕ} {own hop low : ℕ} (r : Parted ws p bits h ms own hop low) where
   pub rest_some : 1 ≤ bits

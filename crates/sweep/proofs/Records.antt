@@ -166,6 +166,11 @@ pub record Halved (ws ms : List ℕ) (p v bits h : ℕ) (b : List ℕ) (at r low
   pub some : low ≢ 0
   pub next : g ≡ under r h
 
+pub halved : {ws ms : List ℕ} {p v bits h : ℕ} {b : List ℕ} {at r low g : ℕ} → PutsRoutes ws ms p v bits h b at
+    → (r ≡ pick 32 (get_or ms p 0) h) × (r ≤ 33) → total_in ws p ≢ 0 → low ≡ low_of ws bits p → low ≢ 0 → g ≡ under r h
+    → Halved ws ms p v bits h b at r low g
+halved d o t e n u = record { asked = d; hop = o; held = t; is = e; some = n; next = u }
+
 module _ {ws ms : List ℕ} {p v bits h : ℕ} {b : List ℕ} {at r low g : ℕ} (k : Halved ws ms p v bits h b at r low g) where
   abbrev X : List ℕ
   X = bytes_of (routes_at ws ms (bits - 1) low (2 * v) g)

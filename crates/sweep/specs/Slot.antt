@@ -7,10 +7,11 @@ use Rattle.routes.specs.Collect.{own, collect}
 use Rattle.slots.specs.Word.{hop_in, each-feed}
 use Rattle.slots.specs.Winner.{lower, won_hop, winner_same}
 use Rattle.tree.specs.Arrays.{held}
-use Rattle.tree.specs.Tree.{node_inj}
+use Rattle.tree.proofs.Tree.{node_inj}
 use Rattle.tree.specs.SlotSet as slots
 use Rattle.gather.specs.Gather.{meant, listed, of_feeds, of_slot, gather}
-use Rattle.gather.specs.Views.{word_held, held_won}
+use Rattle.gather.specs.Views.{word_held}
+use Rattle.gather.proofs.Views.{held_won}
 use Rattle.words.specs.Words.{feeds_of, arrays_of, array_count}
 use Rattle.words.specs.TableBut.{Table}
 use Rattle.words.specs.Half.{half_of}

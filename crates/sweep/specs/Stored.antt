@@ -1,7 +1,7 @@
 -- The scratch after the pass from below: each word is the old one, or the set of the one prefix that stands in its slot. So later
 -- stores do no harm to earlier ones. Assumes nothing.
-use Rattle.std.specs.Prelude.{◌≡◌, ◌⊎◌, List}
-use Rattle.std.proofs.Common.{sym, ◌∙◌, get_or-set_other}
+use Rattle.std.specs.Prelude.{◌≡◌, refl, ◌⊎◌, List}
+use Rattle.std.proofs.Common.{◌∙◌, get_or-set_other}
 use Rattle.std.proofs.Math.Path.{ap₂}
 use Rattle.std.proofs.Math.Logic.{inl, inr, ⊎_elim}
 use Prim.Native.Nat.{ℕ, zero, suc, ◌+◌, ◌*◌, ◌≤◌, ◌<◌}
@@ -80,6 +80,10 @@ module _ (ws : List ℕ) (tb : Table 4 ws) where
       ),
     )
 
+    -- what is so of a list is so of one that is equal
+    store_as : (ms ps os : List ℕ) (d p v : ℕ) → os ≡ ps → Keeps ms ps × Done ps d p v → Keeps ms os × Done os d p v
+    store_as ms ps os d p v e k = rw e k
+
     pub store_is : (d p v l h : ℕ) (ms : List ℕ) → l + d ≡ 32 → At ws tb p v l → Gives ws tb G d v l h → length ws ≤ length ms
         → Keeps ms (store_at ws d p h ms) × Done (store_at ws d p h ms) d p v
     unfolding store_at Done
@@ -108,7 +112,7 @@ module _ (ws : List ℕ) (tb : Table 4 ws) where
         let c : p < length os = omega (arith, x.0.size, y.0.size) in
         let k = keeps_set os p v l (suc d) x₀ e s c m in
         let ps = set os p x₀ in
-        rw q (
+        store_as ms ps (store_at ws (suc d) p h ms) (suc d) p v (rw q refl) (
           keeps_two ms os ps (keeps_two ms ns os x.0 y.0) k,
           (
             get_or-set_same os p x₀ 0 c ∙ m,

@@ -76,4 +76,5 @@ routes_at ws ms (suc d) p v h =
     let r = pick 32 (get_or ms p 0) h in
     own (suc d) v (32 - suc d) r
     ++ cond (eqb (total_in ws p) 0) [] (cond (eqb (half_of ws p) 0) []
-    (routes_at ws ms d (half_of ws p) (2 * v) (under r h) ++ routes_at ws ms d (half_of ws p + slot_words) (2 * v + 1) (under r h)))
+    (routes_at ws ms d (half_of ws p) (2 * v) (under r h)
+    ++ routes_at ws ms d (half_of ws p + slot_words) (2 * v + 1) (under r h)))

@@ -13,7 +13,7 @@ use Rattle.laws.specs.Collect.{routes_hop}
 use Rattle.laws.specs.Longest.{longest-walk, routes_wfs}
 use Rattle.candidates.specs.Winners.{winners}
 use Rattle.tree.specs.Arrays.{held}
-use Rattle.gather.specs.Views.{tree_winners}
+use Rattle.gather.proofs.Views.{tree_winners}
 use Rattle.words.specs.Words.{feeds_of, arrays_of, array_count}
 use Rattle.words.specs.Table.{list_of}
 use Rattle.words.specs.TableBut.{Table}
@@ -24,9 +24,10 @@ use Rattle.shortest.specs.Shortest.{hop_of, forwards, upto}
 use Rattle.shortest.specs.Chosen.{pick, under, above, chosen, shortest}
 use Rattle.shortest.specs.Inside.{In}
 use Rattle.shortest.specs.Given.{Hops, hops-left, hops_right, set_at, below}
-use Rattle.shortest.specs.Leaf.{chosen_leaf}
+use Rattle.shortest.proofs.Leaf.{chosen_leaf}
 use Rattle.shortest.specs.Lists.{carried_last}
-use Rattle.shortest.specs.Proved.{Upto, upto_hop, forwards_some, forwards-upto, whole_length}
+use Rattle.shortest.specs.Proved.{Upto, upto_hop, forwards_some, forwards-upto}
+use Rattle.shortest.proofs.Proved.{whole_length}
 use Rattle.sweep.specs.Walk.{won_at, hop_in, small_at, cost_at, store_at, routes_at}
 use Rattle.sweep.specs.Slot.{At, slot_hop, slot_lower, slot_upper, bare-lower, bare_upper, empty_below}
 use Rattle.sweep.specs.Sets.{Gives, gives_left, gives_right, flat, set_is, small_is}

@@ -16,7 +16,8 @@ use Rattle.tree.specs.Need.{held_at, at_some}
 use Rattle.tree.specs.SlotSet.{at_none}
 use Rattle.tree.specs.Taken.{First}
 use Rattle.inside.specs.Inside.{inside}
-use Rattle.inside.specs.Below.{collect-length, routes-inside}
+use Rattle.inside.specs.Below.{collect-length}
+use Rattle.inside.proofs.Below.{routes-inside}
 use Rattle.totals.specs.Sums.{some, sum, Sums, counted, sum_inner, sum_outer, sum_none}
 
 own-length : (d v l h : ℕ) → length (own d v l h) ≡ some h
@@ -29,30 +30,30 @@ module _ (f : ℕ → ℕ → ℕ) where
   abbrev size : ℕ → ℕ → ℕ → ℕ
   size e u l = length (collect f e u l)
 
-  collect-count : (e u l : ℕ) → size (suc e) u l ≡ some (f u l) + (size e (2 * u) (suc l) + size e (2 * u + 1) (suc l))
+  pub collect-count : (e u l : ℕ) → size (suc e) u l ≡ some (f u l) + (size e (2 * u) (suc l) + size e (2 * u + 1) (suc l))
   collect-count e u l = collect-length f e u l ∙ rw (own-length (suc e) u l (f u l))
 
-  collect_last : (u l : ℕ) → size zero u l ≡ some (f u l)
+  pub collect_last : (u l : ℕ) → size zero u l ≡ some (f u l)
   unfolding collect
   collect_last u l = own-length zero u l (f u l)
 
   -- the same prefix, in other words
-  collect_at : (e u l u' l' : ℕ) → u ≡ u' → l ≡ l' → size e u l ≡ size e u' l'
+  pub collect_at : (e u l u' l' : ℕ) → u ≡ u' → l ≡ l' → size e u l ≡ size e u' l'
   collect_at e u l u' l' p q = rw (p, q)
 
-root_node : (t : Arrays) → node t 0 0 ≡ 1
+pub root_node : (t : Arrays) → node t 0 0 ≡ 1
 unfolding node
 root_node t = refl
 
 module _ (A L : ℕ) (t : Arrays) (T : ℕ → ℕ → ℕ) (s : Shape A L t) (c : Sums A t T) (r : First A t) where
-  abbrev f : ℕ → ℕ → ℕ
+  abbrev pub f : ℕ → ℕ → ℕ
   f = held t
 
-  low-node : (v k : ℕ) → node t v k ≤ A
+  pub low-node : (v k : ℕ) → node t v k ≤ A
   low-node v k = same (node t v k) 0 (λ e _. omega arith) (λ n _. (node-level A L t s v k (omega arith)).within)
 
   -- below the last level is nothing
-  last_down : (v k : ℕ) → suc k ≡ L → node t v (suc k) ≡ 0
+  pub last_down : (v k : ℕ) → suc k ≡ L → node t v (suc k) ≡ 0
   last_down v k e =
       same (node t v (suc k)) 0
       (λ z _. z)
@@ -61,104 +62,17 @@ module _ (A L : ℕ) (t : Arrays) (T : ℕ → ℕ → ℕ) (s : Shape A L t) (c
       absurd (omega (arith, u.level, h))))
 
   -- the array below a cell
-  down-node : (v k x : ℕ) → x < cell_count → down t (node t v k) x ≡ node t (v * 256 + x) (suc k)
+  pub down-node : (v k x : ℕ) → x < cell_count → down t (node t v k) x ≡ node t (v * 256 + x) (suc k)
   down-node v k x h =
       let e : (v * 256 + x) / 256 ≡ v = omega arith in
       let g : (v * 256 + x) % 256 ≡ x = omega arith in
       sym (node_suc t (v * 256 + x) k ∙ rw (e, g))
 
   -- below the root no array holds anything of length 0
-  at_one : (v k : ℕ) → at t (node t v (suc k)) 1 ≡ 0
+  pub at_one : (v k : ℕ) → at t (node t v (suc k)) 1 ≡ 0
   at_one v k =
       let a = node t v (suc k) in
       same a 0
       (λ e _. at_none t a 1 e)
       (λ n _. (let u = node-level A L t s v (suc k) (omega arith) in
       at_some t a 1 u.some ∙ r a u.some u.within (omega (arith, u.level))))
-
-  -- what an array has in all, the root's length 0 aside
-  halves : (v k : ℕ) → sum T (node t v (suc k)) 1 ≡ sum T (node t v (suc k)) 2 + sum T (node t v (suc k)) 3
-  unfolding some
-  halves v k =
-      sum_inner A t T c (node t v (suc k)) 1 (low-node v (suc k)) (omega arith) (omega arith) ∙ rw (at_one v k) (omega arith)
-
-  -- one slot from the next
-  step_inner : (k d x v : ℕ) → 1 ≤ d → d < 8 → x < 2 ^ d
-      → sum T (node t v k) (2 ^ d + x) ≡ some (f (v * 2 ^ d + x) (8 * k + d))
-      + (sum T (node t v k) (2 ^ suc d + 2 * x) + sum T (node t v k) (2 ^ suc d + (2 * x + 1)))
-  step_inner k d x v h w b =
-      let two = pow-succ' 2 d in
-      let y : 2 * (2 ^ d + x) ≡ 2 ^ suc d + 2 * x = omega (arith, two) in
-      let z : 2 * (2 ^ d + x) + 1 ≡ 2 ^ suc d + (2 * x + 1) = omega (arith, two) in
-      let g : 2 ^ d + x < cell_slots = omega (arith, two, pow_mono {i = suc d} {j = 8} (omega arith)) in
-      sum_inner A t T c (node t v k) (2 ^ d + x) (low-node v k) (omega (arith, pow_pos d)) g
-      ∙ rw (z, y, held_at t v k d x h (omega arith) b)
-
-  step_outer : (k x v : ℕ) → x < cell_count
-      → sum T (node t v k) (cell_slots + x) ≡ some (f (v * 256 + x) (8 * k + 8)) + sum T (node t (v * 256 + x) (suc k)) 1
-  step_outer k x v b =
-      sum_outer A t T c (node t v k) x (low-node v k) b
-      ∙ rw (down-node v k x b, held_at t v k 8 x (omega arith) (omega arith) b)
-
-  -- a total is what lies below its slot: from the last bit up
-  pub total_slot : (e k d x v : ℕ) → 8 * k + d + e ≡ 8 * L → 1 ≤ d → d ≤ 8 → x < 2 ^ d
-      → sum T (node t v k) (2 ^ d + x) ≡ length (collect f e (v * 2 ^ d + x) (8 * k + d))
-  total_slot zero k d x v p h w b =
-      let ed : d ≡ 8 = omega arith in
-      let bx : x < cell_count = rw ed at b in
-      let y = v * 256 + x in
-      let none = sum_none T (node t y (suc k)) 1 (last_down y k (omega arith)) in
-      rw ed (step_outer k x v bx ∙ rw (collect_last f y (8 * k + 8), none) (omega arith))
-  total_slot (suc e) k d x v p h w b =
-      let z = v * 2 ^ d + x in
-      let l = 8 * k + d in
-      let two = pow-succ' 2 d in
-      less d 8
-      (λ g _.
-      (let low = total_slot e k (suc d) (2 * x) v (omega arith) (omega arith) g (omega (arith, two)) in
-      let high = total_slot e k (suc d) (2 * x + 1) v (omega arith) (omega arith) g (omega (arith, two)) in
-      let one = collect_at f e _ (8 * k + suc d) (2 * z) (suc l) (omega (arith, dbl v d)) (omega arith) in
-      let other = collect_at f e _ (8 * k + suc d) (2 * z + 1) (suc l) (omega (arith, dbl v d)) (omega arith) in
-      step_inner k d x v h g b ∙ rw (low ∙ one, high ∙ other) (sym (collect-count f e z l))))
-      (λ g _.
-      (let ed : d ≡ 8 = omega arith in
-      let bx : x < cell_count = rw ed at b in
-      let y = v * 256 + x in
-      let m = 8 * k + 8 in
-      let low = total_slot e (suc k) 1 0 y (omega arith) (omega arith) (omega arith) (omega arith) in
-      let high = total_slot e (suc k) 1 1 y (omega arith) (omega arith) (omega arith) (omega arith) in
-      let one = collect_at f e (y * 2 + 0) (8 * suc k + 1) (2 * y) (suc m) (omega arith) (omega arith) in
-      let other = collect_at f e (y * 2 + 1) (8 * suc k + 1) (2 * y + 1) (suc m) (omega arith) (omega arith) in
-      rw ed (step_outer k x v bx
-      ∙ ap (λ (n : ℕ). some (f y m) + n) (halves y k ∙ ap₂ ◌+◌ (low ∙ one) (high ∙ other))
-      ∙ sym (collect-count f e y m))))
-
-  -- the root's length 0: all there is
-  pub total_root : sum T 1 1 ≡ length (collect f (8 * L) 0 0)
-  unfolding node held
-  total_root =
-      let m = 8 * L - 1 in
-      let some = s.some_level in
-      let e : 8 * L ≡ suc m = omega (arith, some) in
-      let low = total_slot m 0 1 0 0 (omega (arith, some)) (omega arith) (omega arith) (omega arith) in
-      let high = total_slot m 0 1 1 0 (omega (arith, some)) (omega arith) (omega arith) (omega arith) in
-      rw e (sum_inner A t T c 1 1 s.many (omega arith) (omega arith) ∙ rw (low, high) (sym (collect-count f m 0 0)))
-
-  pub counted-collect : (v l : ℕ) → l ≤ 8 * L → v < 2 ^ l → counted t T v l ≡ length (collect f (8 * L - l) v l)
-  unfolding counted
-  counted-collect v zero h b =
-      let e : v ≡ 0 = omega arith in
-      let w : 8 * L - 0 ≡ 8 * L = omega arith in
-      rw (e, w) (rw (root_node t) total_root)
-  counted-collect v (suc l) h b =
-      let d = depth_of (suc l) in
-      let k = level (suc l) in
-      let m = 8 * L - suc l in
-      let e : 8 * k + d ≡ suc l = omega arith in
-      total_slot m k d (v % 2 ^ d) (v / 2 ^ d) (omega arith) (omega arith) (omega arith) (mod-lt v (pow_pos d))
-      ∙ collect_at f m (v / 2 ^ d * 2 ^ d + v % 2 ^ d) (8 * k + d) v (suc l) (split v d) e
-
-  -- the answer is the count over the whole list
-  pub counted-inside : (v l : ℕ) → l ≤ 8 * L → v < 2 ^ l
-      → counted t T v l ≡ inside (8 * L) (routes (8 * L) (held t)) (v * 2 ^ (8 * L - l)) l
-  counted-inside v l h b = counted-collect v l h b ∙ sym (routes-inside (8 * L) f v l h b)

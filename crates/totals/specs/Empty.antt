@@ -11,29 +11,12 @@ use Rattle.totals.specs.Check.{SumsAt}
 
 module _ (A : ℕ) (t : Arrays) (T : ℕ → ℕ → ℕ) (a : ℕ) (c : Sums A t T) (h : 1 ≤ a) (w : a ≤ A)
     (f : (s : ℕ) → 1 ≤ s → s < slot_end → t.slot a s ≡ 0) (g : (i : ℕ) → i < cell_count → t.link a i ≡ 0) where
-  last_row : (s : ℕ) → cell_slots ≤ s → s < slot_end → T a s ≡ 0
+  pub last_row : (s : ℕ) → cell_slots ≤ s → s < slot_end → T a s ≡ 0
   last_row s y x =
       let i = s - cell_slots in
       let e : cell_slots + i ≡ s = omega arith in
       let q : T a s ≡ some (t.slot a s) + sum T (t.link a i) 1 = rw e at (c.outer a i h w (omega arith)) in
       q ∙ rw (some_none (t.slot a s) (f s (omega arith) x), sum_none T (t.link a i) 1 (g i (omega arith)))
-
-  -- rows from the last up
-  rows : (m s : ℕ) → 1 ≤ s → s < slot_end → cell_slots ≤ s * 2 ^ m → T a s ≡ 0
-  rows zero s l x p = last_row s (omega arith) x
-  rows (suc m) s l x p =
-      let e = dbl s m in
-      less s cell_slots
-      (λ y _. c.inner a s h w l y
-      ∙ rw (
-        some_none (t.slot a s) (f s l x),
-        rows m (2 * s) (omega arith) (omega arith) (omega (arith, e, pow_pos m)),
-        rows m (2 * s + 1) (omega arith) (omega arith) (omega (arith, e, pow_pos m)),
-      ))
-      (λ y _. last_row s y x)
-
-  pub empty_none : (s : ℕ) → 1 ≤ s → s < slot_end → T a s ≡ 0
-  empty_none s l x = rows 8 s l x (omega arith)
 
 -- and totals 0 are right there
 pub none_sums : (t : Arrays) (T : ℕ → ℕ → ℕ) (a : ℕ) → ((s : ℕ) → 1 ≤ s → s < slot_end → t.slot a s ≡ 0)
@@ -56,32 +39,5 @@ none_sums t T a f g z = record {
 }
 
 module _ (A L : ℕ) (t u : Arrays) (T : ℕ → ℕ → ℕ) (p i a : ℕ) (g : HungBelow A L t u p i a) where
-  low : 1 ≤ a
+  pub low : 1 ≤ a
   low = omega (arith, g.some)
-
-  -- the array gained
-  pub gain_sums : Sums A t T → Sums A u T
-  gain_sums c =
-      let none = empty_none A t T a c low g.within g.no_slot g.no_link in
-      record {
-        inner = λ b s h w l x. rw (g.slots b s h l (omega arith)) (c.inner b s h w l x);
-        outer = λ b j h w x. rw (g.slots b (cell_slots + j) h (omega arith) (omega arith))
-            (cell-cases b j p i
-            (λ e d. c.outer b j h w x ∙ rw (e, d, g.on, g.off)
-            (rw (sum_none T 0 1 refl, sum_some T a 1 low, none 1 (omega arith) (omega arith))))
-            (λ n. rw (g.links b j h x n) (c.outer b j h w x)));
-      }
-
-  -- the array freed: its totals are 0 before and after
-  pub free_sums : Sums A u T → Sums A t T
-  free_sums c =
-      let none = empty_none A u T a c low g.within (λ s l x. g.slots a s low l x ∙ g.no_slot s l x)
-      (λ j x. g.links a j low x (inl (λ e. other A L t u p i a g (sym e))) ∙ g.no_link j x) in
-      record {
-        inner = λ b s h w l x. rw (← (g.slots b s h l (omega arith))) (c.inner b s h w l x);
-        outer = λ b j h w x. rw (← (g.slots b (cell_slots + j) h (omega arith) (omega arith)))
-            (cell-cases b j p i
-            (λ e d. c.outer b j h w x ∙ rw (e, d, g.on, g.off)
-            (rw (sum_none T 0 1 refl, sum_some T a 1 low, none 1 (omega arith) (omega arith))))
-            (λ n. rw (← (g.links b j h x n)) (c.outer b j h w x)));
-      }

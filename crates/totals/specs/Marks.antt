@@ -42,35 +42,24 @@ pub mark_suc : (t : Arrays) (v k r a s : ℕ)
 unfolding mark
 mark_suc t v k r a s = refl
 
-part_split : (b r a s : ℕ) → r < slot_end → 1 ≤ s
+pub part_split : (b r a s : ℕ) → r < slot_end → 1 ≤ s
     → part b r a s ≡ spot b r a s + (part b r a (2 * s) + part b r a (2 * s + 1))
 unfolding part spot
 part_split b r a s w h = same a b (λ q e. rw e (above_split 9 r s h w)) (λ n e. rw e)
 
-part_last : (b r a s : ℕ) → r < slot_end → cell_slots ≤ s → part b r a s ≡ spot b r a s
+pub part_last : (b r a s : ℕ) → r < slot_end → cell_slots ≤ s → part b r a s ≡ spot b r a s
 unfolding part spot
 part_last b r a s w h = same a b (λ q e. rw e (above_last 9 r s (omega arith) w)) (λ n e. rw e)
 
 -- a slot is below no other of its row
-spot_off : (b r a s : ℕ) → s < r → spot b r a s ≡ 0
+pub spot_off : (b r a s : ℕ) → s < r → spot b r a s ≡ 0
 unfolding spot
 spot_off b r a s h = same a b (λ q e. rw e (is_other r s (λ z. omega arith))) (λ n e. rw e)
-
-pub mark_inner : (t : Arrays) (k v r a s : ℕ) → r < slot_end → 1 ≤ s → s < cell_slots
-    → mark t v k r a s ≡ spot (node t v k) r a s + (mark t v k r a (2 * s) + mark t v k r a (2 * s + 1))
-unfolding node
-mark_inner t zero v r a s w h l =
-    rw (mark_zero t v r a s, mark_zero t v r a (2 * s), mark_zero t v r a (2 * s + 1)) (part_split 1 r a s w h)
-mark_inner t (suc k) v r a s w h l =
-    let up = mark_inner t k (v / 256) (cell_slot_of v) a s (omega arith) h l in
-    let off = spot_off (node t (v / 256) k) (cell_slot_of v) a s (omega arith) in
-    rw (mark_suc t v k r a s, mark_suc t v k r a (2 * s), mark_suc t v k r a (2 * s + 1))
-    (omega (arith, part_split (node t v (suc k)) r a s w h, up, off))
 
 -- ---- from an array to the one above
 
 module _ (A L : ℕ) (t : Arrays) (shape : Shape A L t) where
-  part_one : (b r a : ℕ) → 1 ≤ r → r < slot_end → part b r a 1 ≡ is a b
+  pub part_one : (b r a : ℕ) → 1 ≤ r → r < slot_end → part b r a 1 ≡ is a b
   unfolding part is
   part_one b r a h w = same a b (λ q e. rw e (above_one 9 r h w)) (λ n e. rw e)
 
@@ -89,7 +78,7 @@ module _ (A L : ℕ) (t : Arrays) (shape : Shape A L t) where
       decode a (node t (v / 256) k) i (v % 256) (lev t a + 1) (k + 2) b (omega arith) deep (omega (arith, u.level))
       (sym c.named ∙ ap t.tag x ∙ node_tag A L t shape v k p)
 
-  one_cell : (a i v k : ℕ) → 1 ≤ a → a ≤ A → i < cell_count → 1 ≤ node t v (suc k)
+  pub one_cell : (a i v k : ℕ) → 1 ≤ a → a ≤ A → i < cell_count → 1 ≤ node t v (suc k)
       → spot (node t (v / 256) k) (cell_slot_of v) a (cell_slots + i) ≡ is (t.link a i) (node t v (suc k))
   unfolding spot
   one_cell a i v k h w b p =
@@ -103,7 +92,7 @@ module _ (A L : ℕ) (t : Arrays) (shape : Shape A L t) where
       (λ n e. rw e (sym (is_other _ _ (λ x. n (back x).0))))
 
   -- what is added to the total of a whole array
-  sum_zero : (v r a i : ℕ) → 1 ≤ r → r < slot_end → 1 ≤ a → a ≤ A → i < cell_count
+  pub sum_zero : (v r a i : ℕ) → 1 ≤ r → r < slot_end → 1 ≤ a → a ≤ A → i < cell_count
       → sum (mark t v zero r) (t.link a i) 1 ≡ 0
   sum_zero v r a i h w g x b =
       let m = mark t v zero r in
@@ -111,31 +100,6 @@ module _ (A L : ℕ) (t : Arrays) (shape : Shape A L t) where
       same d 0
       (λ e _. sum_none m d 1 e)
       (λ n _. sum_some m d 1 (omega arith) ∙ mark_zero t v r d 1 ∙ part_one 1 r d h w ∙ is_other _ _ (not_root a i g x b))
-
-  sum_suc : (v k r b : ℕ) → 1 ≤ r → r < slot_end → 1 ≤ node t v (suc k)
-      → sum (mark t v (suc k) r) b 1 ≡ is b (node t v (suc k)) + sum (mark t (v / 256) k (cell_slot_of v)) b 1
-  sum_suc v k r b h w p =
-      let m = mark t v (suc k) r in
-      let up = mark t (v / 256) k (cell_slot_of v) in
-      let c = node t v (suc k) in
-      same b 0
-      (λ e _. rw (sum_none m b 1 e, sum_none up b 1 e, is_other b c (λ q. omega arith)))
-      (λ n _. rw (sum_some m b 1 (omega arith), sum_some up b 1 (omega arith), mark_suc t v k r b 1, part_one c r b h w))
-
-  pub mark_outer : (k v r a i : ℕ) → 1 ≤ r → r < slot_end → 1 ≤ a → a ≤ A → i < cell_count → 1 ≤ node t v k
-      → mark t v k r a (cell_slots + i) ≡ spot (node t v k) r a (cell_slots + i) + sum (mark t v k r) (t.link a i) 1
-  unfolding node
-  mark_outer zero v r a i h w g x b p =
-      rw (sum_zero v r a i h w g x b, mark_zero t v r a (cell_slots + i))
-      (omega (arith, part_last 1 r a (cell_slots + i) w (omega arith)))
-  mark_outer (suc k) v r a i h w g x b p =
-      rw (sum_suc v k r (t.link a i) h w p, mark_suc t v k r a (cell_slots + i))
-      (omega (
-        arith,
-        part_last (node t v (suc k)) r a (cell_slots + i) w (omega arith),
-        mark_outer k (v / 256) (cell_slot_of v) a i (omega arith) (omega arith) g x b (node-up A L t shape v k p),
-        one_cell a i v k g x b p,
-      ))
 
 -- links alone make the marks
 pub mark_same : (t u : Arrays) → ((c i : ℕ) → 1 ≤ c → i < cell_count → u.link c i ≡ t.link c i) → (k v r a s : ℕ)

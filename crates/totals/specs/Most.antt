@@ -42,7 +42,7 @@ module _ (A L : ℕ) (t : Arrays) (T : ℕ → ℕ → ℕ) (shape : Shape A L t
       (λ k _. (let f = sym (above_next n r s m) ∙ e in
       omega (arith, up_one a r h w (omega arith) x, up_all n a (r / 2) s h w (omega arith) (omega arith) y f))))
 
-  part_most : (b r a s : ℕ) → 1 ≤ a → a ≤ A → 1 ≤ r → r < slot_end → 1 ≤ s → 1 ≤ T b r → part b r a s ≤ T a s
+  pub part_most : (b r a s : ℕ) → 1 ≤ a → a ≤ A → 1 ≤ r → r < slot_end → 1 ≤ s → 1 ≤ T b r → part b r a s ≤ T a s
   unfolding part
   part_most b r a s h w l x y p =
       same a b
@@ -53,7 +53,7 @@ module _ (A L : ℕ) (t : Arrays) (T : ℕ → ℕ → ℕ) (shape : Shape A L t
       (λ n e. rw e (omega arith))
 
   -- an array further down has no mark
-  mark_off : (k v r a s : ℕ) → 1 ≤ node t v k → k + 1 < lev t a → mark t v k r a s ≡ 0
+  pub mark_off : (k v r a s : ℕ) → 1 ≤ node t v k → k + 1 < lev t a → mark t v k r a s ≡ 0
   unfolding mark part
   mark_off zero v r a s p h = rw (ne_eqb a 1 (λ e. omega (arith, shape.root, ap t.tag e)))
   mark_off (suc k) v r a s p h =
@@ -62,7 +62,7 @@ module _ (A L : ℕ) (t : Arrays) (T : ℕ → ℕ → ℕ) (shape : Shape A L t
       rw (ne_eqb a (node t v (suc k)) (λ e. omega (arith, u.level, ap (lev t) e)), up)
 
   -- the cell's total above an array that has something
-  cell_some : (k v r : ℕ) → 1 ≤ node t v (suc k) → 1 ≤ r → r < slot_end → 1 ≤ T (node t v (suc k)) r
+  pub cell_some : (k v r : ℕ) → 1 ≤ node t v (suc k) → 1 ≤ r → r < slot_end → 1 ≤ T (node t v (suc k)) r
       → 1 ≤ T (node t (v / 256) k) (cell_slot_of v)
   cell_some k v r p l x g =
       let b = node t (v / 256) k in
@@ -73,18 +73,3 @@ module _ (A L : ℕ) (t : Arrays) (T : ℕ → ℕ → ℕ) (shape : Shape A L t
       let e : t.link b y ≡ a = sym (node_suc t v k ∙ down_some t b y u.some) in
       let q = rw e at (c.outer b y u.some u.within (omega arith)) in
       omega (arith, q, sum_some T a 1 p, up_all 9 a r 1 p w l x (omega arith) (above_one 9 r l x))
-
-  pub mark_most : (k v r a s : ℕ) → 1 ≤ node t v k → 1 ≤ r → r < slot_end → 1 ≤ T (node t v k) r → 1 ≤ a → a ≤ A → 1 ≤ s
-      → mark t v k r a s ≤ T a s
-  unfolding node part
-  mark_most zero v r a s p l x g h w y = rw (mark_zero t v r a s) (part_most 1 r a s h w l x y g)
-  mark_most (suc k) v r a s p l x g h w y =
-      let u = node-level A L t shape v (suc k) p in
-      let z = cell_slot_of v in
-      let up = node-up A L t shape v k p in
-      let own = part_most (node t v (suc k)) r a s h w l x y g in
-      same a (node t v (suc k))
-      (λ q _. rw (mark_suc t v k r a s, mark_off k (v / 256) z a s up (omega (arith, u.level, ap (lev t) q)))
-      (omega (arith, own)))
-      (λ n _. rw (mark_suc t v k r a s, ne_eqb a (node t v (suc k)) n)
-      (omega (arith, mark_most k (v / 256) z a s up (omega arith) (omega arith) (cell_some k v r p l x g) h w y)))

@@ -8,7 +8,7 @@ use Rattle.tree.specs.Shape.{Child, Shape}
 use Rattle.tree.specs.SlotSet.{TreeSlotSet}
 use Rattle.totals.specs.Sums.{some, some_none, some_one, sum, Sums, sum_none, sum_some}
 use Rattle.totals.specs.Cover.{is_same, is_other}
-use Rattle.totals.specs.Marks.{mark, spot, mark_inner, mark_outer}
+use Rattle.totals.specs.Marks.{mark, spot}
 
 -- u is t but for slot r of array b, that is free in t and holds a hop in u
 pub record Takes (t u : Arrays) (b r : ℕ) : Type 0 where
@@ -29,7 +29,7 @@ set_frees t u b s g p =
       slots = λ c r h l w n. sym (g.slots c r h l w n);
     }
 
-takes_some : (t u : Arrays) (b r : ℕ) → Takes t u b r → (a s : ℕ) → 1 ≤ a → 1 ≤ s → s < slot_end
+pub takes_some : (t u : Arrays) (b r : ℕ) → Takes t u b r → (a s : ℕ) → 1 ≤ a → 1 ≤ s → s < slot_end
     → some (u.slot a s) ≡ some (t.slot a s) + spot b r a s
 unfolding spot
 takes_some t u b r g a s h l w =
@@ -47,14 +47,14 @@ pub record Raised (A : ℕ) (t : Arrays) (T U : ℕ → ℕ → ℕ) (v k r : �
 
 module _ (A L : ℕ) (t u : Arrays) (T U : ℕ → ℕ → ℕ) (v k r : ℕ) (shape : Shape A L t) (there : 1 ≤ node t v k) (low : 1 ≤ r)
     (high : r < slot_end) (g : Takes t u (node t v k) r) (m : Raised A t T U v k r) where
-  link_in : (a i : ℕ) → 1 ≤ a → a ≤ A → i < cell_count → t.link a i ≤ A
+  pub link_in : (a i : ℕ) → 1 ≤ a → a ≤ A → i < cell_count → t.link a i ≤ A
   link_in a i h w b =
       ⊎_elim
       (λ (z : t.link a i ≡ 0). omega arith)
       (λ (z : Child A L t a i (t.link a i)). z.within)
       (shape.links a i h w b)
 
-  sum-up : (b : ℕ) → b ≤ A → sum U b 1 ≡ sum T b 1 + sum (mark t v k r) b 1
+  pub sum-up : (b : ℕ) → b ≤ A → sum U b 1 ≡ sum T b 1 + sum (mark t v k r) b 1
   sum-up b w =
       let d = mark t v k r in
       same b 0
@@ -63,52 +63,16 @@ module _ (A L : ℕ) (t u : Arrays) (T U : ℕ → ℕ → ℕ) (v k r : ℕ) (s
       (m.at b 1 (omega arith) w (omega arith) (omega arith)))
 
   -- how the sides of each condition differ in t and u: by as much, so that it holds in both or in neither
-  record Inner (a s : ℕ) : Type 0 where
+  pub record Inner (a s : ℕ) : Type 0 where
     pub own : some (u.slot a s) ≡ some (t.slot a s) + spot (node t v k) r a s
     pub marks : mark t v k r a s ≡ spot (node t v k) r a s + (mark t v k r a (2 * s) + mark t v k r a (2 * s + 1))
     pub here : U a s ≡ T a s + mark t v k r a s
     pub one : U a (2 * s) ≡ T a (2 * s) + mark t v k r a (2 * s)
     pub other : U a (2 * s + 1) ≡ T a (2 * s + 1) + mark t v k r a (2 * s + 1)
 
-  inner : (a s : ℕ) → 1 ≤ a → a ≤ A → 1 ≤ s → s < cell_slots → Inner a s
-  inner a s h w l x =
-      record {
-        own = takes_some t u (node t v k) r g a s h l (omega arith);
-        marks = mark_inner t k v r a s high l x;
-        here = m.at a s h w l (omega arith);
-        one = m.at a (2 * s) h w (omega arith) (omega arith);
-        other = m.at a (2 * s + 1) h w (omega arith) (omega arith);
-      }
-
-  record Outer (a i : ℕ) : Type 0 where
+  pub record Outer (a i : ℕ) : Type 0 where
     pub own : some (u.slot a (cell_slots + i)) ≡ some (t.slot a (cell_slots + i)) + spot (node t v k) r a (cell_slots + i)
     pub marks : mark t v k r a (cell_slots + i)
         ≡ spot (node t v k) r a (cell_slots + i) + sum (mark t v k r) (t.link a i) 1
     pub here : U a (cell_slots + i) ≡ T a (cell_slots + i) + mark t v k r a (cell_slots + i)
     pub below : sum U (t.link a i) 1 ≡ sum T (t.link a i) 1 + sum (mark t v k r) (t.link a i) 1
-
-  outer : (a i : ℕ) → 1 ≤ a → a ≤ A → i < cell_count → Outer a i
-  outer a i h w b =
-      record {
-        own = takes_some t u (node t v k) r g a (cell_slots + i) h (omega arith) (omega arith);
-        marks = mark_outer A L t shape k v r a i low high h w b there;
-        here = m.at a (cell_slots + i) h w (omega arith) (omega arith);
-        below = sum-up (t.link a i) (link_in a i h w b);
-      }
-
-  pub raise : Sums A t T → Sums A u U
-  raise c = record {
-    inner = λ a s h w l x. (let d = inner a s h w l x in
-        omega (arith, c.inner a s h w l x, d.own, d.marks, d.here, d.one, d.other));
-    outer = λ a i h w b. rw (g.links a i h b) (let d = outer a i h w b in
-        omega (arith, c.outer a i h w b, d.own, d.marks, d.here, d.below));
-  }
-
-  -- and back
-  pub lower : Sums A u U → Sums A t T
-  lower c = record {
-    inner = λ a s h w l x. (let d = inner a s h w l x in
-        omega (arith, c.inner a s h w l x, d.own, d.marks, d.here, d.one, d.other));
-    outer = λ a i h w b. (let d = outer a i h w b in
-        omega (arith, rw (g.links a i h b) at (c.outer a i h w b), d.own, d.marks, d.here, d.below));
-  }

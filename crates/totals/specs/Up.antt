@@ -1,8 +1,10 @@
 -- The totals of a slot and of those above it in one page, each with the same number added. Assumes nothing.
 --
 --     slot 19: words total_at 19, total_at 9, total_at 4, total_at 2, total_at 1
-use Rattle.std.specs.Prelude.{◌≡◌, ℕ, zero, suc, ◌+◌, ◌/◌, ◌%◌, ◌^◌, ◌<◌, ◌≤◌, cond, ◌≢◌, ◌⊎◌, List, length, ◌==◌, slice_index, slice_set, refl}
-use Rattle.std.proofs.Common.{sym, ap, ◌∙◌, inl, inr, ⊎_elim, arith, length-set, get_or-set_same, get_or-set_other, eq-eqb, ne_eqb}
+use Rattle.std.specs.Prelude.{◌≡◌, ℕ, zero, suc, ◌+◌, ◌/◌, ◌%◌, ◌^◌, ◌<◌, ◌≤◌, cond, ◌≢◌, ◌⊎◌, List, length, ◌==◌, slice_index}
+use Rattle.std.specs.Prelude.{slice_set, refl}
+use Rattle.std.proofs.Common.{sym, ap, ◌∙◌, inl, inr, ⊎_elim, arith, length-set, get_or-set_same, get_or-set_other, eq-eqb}
+use Rattle.std.proofs.Common.{ne_eqb}
 use Rattle.std.proofs.Math.Nat.{pow-succ'}
 use Rattle.logic.specs.Cases.{same}
 use Rattle.sizes.specs.Sizes.{array_words, slot_end, totals_at, total_at}

@@ -29,7 +29,8 @@ ChildP A L t a i b = ((b ≤ A) × ((1 ≤ lev t a) × (lev t a < L))) × (t.tag
 abbrev HungP : ℕ → Arrays → ℕ → Type 0
 HungP A t a = ((1 ≤ par t a) × (par t a ≤ A)) × (t.link (par t a) (cell t a) ≡ a)
 
-link_reflects : (A L : ℕ) (t : Arrays) (a i : ℕ) → Reflects (link_b A L t a i) ((t.link a i ≡ 0) ⊎ Child A L t a i (t.link a i))
+pub link_reflects : (A L : ℕ) (t : Arrays) (a i : ℕ)
+    → Reflects (link_b A L t a i) ((t.link a i ≡ 0) ⊎ Child A L t a i (t.link a i))
 unfolding link_b
 link_reflects A L t a i =
     reflects_as
@@ -58,10 +59,3 @@ parent_links_reflects A t a =
     (λ z. ⊎_elim (λ (x : t.tag a ≡ 0). inl x) (λ (x : ParentLinks A t a). inr ((x.some, x.within), x.back)) z)
     (reflects_or (reflects_eq (t.tag a) 0) (reflects_and (reflects_and (reflects_le 1 (par t a)) (reflects_le (par t a) A))
     (reflects_eq (t.link (par t a) (cell t a)) a)))
-
-pub links_reflects : (A L : ℕ) (t : Arrays) (a : ℕ)
-    → Reflects (links_b A L t a) ((i : ℕ) → i < cell_count → (t.link a i ≡ 0) ⊎ Child A L t a i (t.link a i))
-unfolding links_b
-links_reflects A L t a =
-    reflects_all (link_b A L t a) (λ i. (t.link a i ≡ 0) ⊎ Child A L t a i (t.link a i)) cell_count
-    (λ i h. link_reflects A L t a i)

@@ -1,7 +1,8 @@
 -- The used arrays are as many as the list needs. Assumes nothing.
 use Rattle.std.specs.Prelude.{◌≡◌, refl, Bool, true, cond, List, [], ◌∷◌, eqb}
 use Rattle.std.proofs.Math.Path.{sym}
-use Rattle.std.proofs.Common.{ap, ◌∙◌, ⊎_elim, mul-le-mul_right, le_refl, mod-lt, arith, pow_pos, pow-add, pow_mono, shr-shr, shr_lt, eq-eqb, ne_eqb}
+use Rattle.std.proofs.Common.{ap, ◌∙◌, ⊎_elim, mul-le-mul_right, le_refl, mod-lt, arith, pow_pos, pow-add, pow_mono, shr-shr}
+use Rattle.std.proofs.Common.{shr_lt, eq-eqb, ne_eqb}
 use Rattle.std.proofs.Math.Bool.{false}
 use Rattle.std.proofs.lemmas.Bool.{false≢true}
 use Prim.Native.Nat.{ℕ, zero, suc, ◌+◌, ◌-◌, ◌*◌, ◌/◌, ◌%◌, ◌^◌, ◌≤◌, ◌<◌}
@@ -17,7 +18,7 @@ use Rattle.laws.specs.Room.{distinct-mem}
 use Rattle.laws.specs.Heads.{Below, heads_in, heads_out}
 use Rattle.tree.specs.Arrays.{Arrays, lev, at, node, depth_of, slot_of, held, used_in}
 use Rattle.tree.specs.Shape.{Shape, HasSlot, HasLink, Filled}
-use Rattle.tree.specs.Tree.{path, node-level, node_suc, node-up, node_inj, down_some, reach, used-level, pow8}
+use Rattle.tree.specs.Tree.{path, node-level, node_suc, node-up, down_some, reach, used-level, pow8}
 
 -- ---- a slot's length and value
 
@@ -159,7 +160,7 @@ module _ (A L : ℕ) (t : Arrays) (s : Shape A L t) where
 
 -- ---- the paths of the arrays of one level
 
-abbrev paths_at : Arrays → ℕ → ℕ → List ℕ
+abbrev pub paths_at : Arrays → ℕ → ℕ → List ℕ
 paths_at t k zero = []
 paths_at t k (suc n) = cond (eqb (lev t (suc n)) (suc k)) (path t k (suc n) ∷ paths_at t k n) (paths_at t k n)
 
@@ -169,7 +170,7 @@ count_at t k zero = 0
 count_at t k (suc n) = count_at t k n + cond (eqb (lev t (suc n)) (suc k)) 1 0
 
 -- how many of the first n arrays have a level below k
-abbrev sum_to : Arrays → ℕ → ℕ → ℕ
+abbrev pub sum_to : Arrays → ℕ → ℕ → ℕ
 sum_to t zero n = 0
 sum_to t (suc k) n = sum_to t k n + count_at t k n
 
@@ -200,14 +201,14 @@ hits_one y (suc k) h w =
     (λ q e. rw e (omega (arith, hits-above y k (omega arith))))
     (λ n e. rw e (omega (arith, hits_one y k h (omega arith))))
 
-record PathOf (t : Arrays) (k n z : ℕ) : Type 0 where
+pub record PathOf (t : Arrays) (k n z : ℕ) : Type 0 where
   pub a : ℕ
   pub some : 1 ≤ a
   pub within : a ≤ n
   pub level : lev t a ≡ suc k
   pub is : path t k a ≡ z
 
-path_out : (t : Arrays) (k n z : ℕ) → mem z (paths_at t k n) ≡ true → PathOf t k n z
+pub path_out : (t : Arrays) (k n z : ℕ) → mem z (paths_at t k n) ≡ true → PathOf t k n z
 path_out t k zero z m = absurd (false≢true m)
 path_out t k (suc n) z m =
     same (lev t (suc n)) (suc k)
@@ -219,7 +220,7 @@ path_out t k (suc n) z m =
     more : PathOf t k n z → PathOf t k (suc n) z
     more p = record { a = p.a; some = p.some; within = omega (arith, p.within); level = p.level; is = p.is }
 
-path_in : (t : Arrays) (k n a : ℕ) → 1 ≤ a → a ≤ n → lev t a ≡ suc k → mem (path t k a) (paths_at t k n) ≡ true
+pub path_in : (t : Arrays) (k n a : ℕ) → 1 ≤ a → a ≤ n → lev t a ≡ suc k → mem (path t k a) (paths_at t k n) ≡ true
 path_in t k zero a h w e = absurd (omega arith)
 path_in t k (suc n) a h w e =
     same a (suc n)
@@ -229,14 +230,14 @@ path_in t k (suc n) a h w e =
     (path_in t k n a h (omega arith) e)))
     (λ d. rw d (path_in t k n a h (omega arith) e)))
 
-iff : (a b : Bool) → (a ≡ true → b ≡ true) → (b ≡ true → a ≡ true) → a ≡ b
+pub iff : (a b : Bool) → (a ≡ true → b ≡ true) → (b ≡ true → a ≡ true) → a ≡ b
 iff true b f g = sym (f refl)
 iff false true f g = g refl
 iff false false f g = refl
 
 module _ (A L : ℕ) (t : Arrays) (s : Shape A L t) where
   -- no two of them are equal
-  distinct_paths : (k n : ℕ) → n ≤ A → distinct (paths_at t k n) ≡ count_at t k n
+  pub distinct_paths : (k n : ℕ) → n ≤ A → distinct (paths_at t k n) ≡ count_at t k n
   distinct_paths k zero w = refl
   distinct_paths k (suc n) w =
       same (lev t (suc n)) (suc k)
@@ -252,7 +253,7 @@ module _ (A L : ℕ) (t : Arrays) (s : Shape A L t) where
           let z : p.a ≡ suc n = sym x ∙ ap (λ (u : ℕ). node t u k) p.is ∙ y in
           omega (arith, p.within)
 
-  used-sum : (n : ℕ) → n ≤ A → used_in t 0 n ≡ sum_to t L n
+  pub used-sum : (n : ℕ) → n ≤ A → used_in t 0 n ≡ sum_to t L n
   used-sum zero w = sym (sum_zero t L)
   used-sum (suc n) w =
       let f : 0 + suc n ≡ suc n = omega arith in
@@ -262,7 +263,7 @@ module _ (A L : ℕ) (t : Arrays) (s : Shape A L t) where
       (λ q e. let u = used-level A L t s (suc n) (omega arith) w (omega arith) in
       rw (f, e, sum_suc t L n, hits_one (lev t (suc n)) L u.0 u.1) (omega (arith, used-sum n (omega arith))))
 
-  root_count : count_at t 0 A ≡ 1
+  pub root_count : count_at t 0 A ≡ 1
   unfolding path
   root_count =
       sym (distinct_paths 0 A (le_refl A))
@@ -272,43 +273,3 @@ module _ (A L : ℕ) (t : Arrays) (s : Shape A L t) where
       (λ m. same 0 z
       (λ e _. rw (← e) (path_in t 0 A 1 (omega arith) s.many (omega (arith, s.root))))
       (λ n e. absurd (false≢true (rw e at m)))))
-
-  module _ (full : Filled A t 0) where
-    -- the arrays of level k are the heads of 8 * k bits
-    heads_paths : (k z : ℕ) → 1 ≤ k → k < L → mem z (paths_at t k A) ≡ mem z (heads (8 * L) (8 * k) (routes (8 * L) (held t)))
-    heads_paths k z h w =
-        iff (mem z (paths_at t k A)) (mem z (heads (8 * L) (8 * k) (routes (8 * L) (held t)))) to from
-      where
-        wide : 8 * L < 256
-        wide = omega (arith, s.levels)
-
-        to : mem z (paths_at t k A) ≡ true → mem z (heads (8 * L) (8 * k) (routes (8 * L) (held t))) ≡ true
-        to m =
-            let p = path_out t k A z m in
-            let r = reach A L t s k p.a p.some p.within p.level in
-            let n : 1 ≤ node t z k = rw (← p.is, r.leads) p.some in
-            heads_in (8 * L) (8 * k) z (held t) wide
-            (below A L t s full (L - k) k z h (omega arith) n (rw (← p.is) r.small))
-
-        from : mem z (heads (8 * L) (8 * k) (routes (8 * L) (held t))) ≡ true → mem z (paths_at t k A) ≡ true
-        from m =
-            let b = heads_out (8 * L) (8 * k) z (held t) wide m in
-            let n = above A L t s (8 * L) k z h b in
-            let e : 8 * k + (b.l - 8 * k) ≡ b.l = omega (arith, b.long) in
-            let small : z < 2 ^ (8 * k) = rw (← b.head) (shr_lt (8 * k) (b.l - 8 * k) (rw e b.small)) in
-            let u = node-level A L t s z k n in
-            let r = reach A L t s k (node t z k) u.some u.within (omega (arith, u.level)) in
-            let q = (node_inj A L t s k k (path t k (node t z k)) z (rw r.leads n) r.leads r.small small).1 in
-            rw q at (path_in t k A (node t z k) u.some u.within (omega (arith, u.level)))
-
-    need_to_fact : (j : ℕ) → j < L → sum_to t (suc j) A ≡ need_to (8 * L) j (routes (8 * L) (held t))
-    unfolding need_to
-    need_to_fact zero h = omega (arith, root_count)
-    need_to_fact (suc j) h =
-        let e = distinct-mem (paths_at t (suc j) A) (heads (8 * L) (8 * suc j) (routes (8 * L) (held t)))
-        (λ z. heads_paths (suc j) z (omega arith) h) in
-        omega (arith, need_to_fact j (omega arith), distinct_paths (suc j) A (le_refl A), e)
-
-    -- the arrays used are as many as the list needs
-    pub used-need : (J : ℕ) → L ≡ suc J → used_in t 0 A ≡ need_to (8 * L) J (routes (8 * L) (held t))
-    used-need J e = used-sum A (le_refl A) ∙ ap (λ (k : ℕ). sum_to t k A) e ∙ need_to_fact J (omega arith)

@@ -18,7 +18,7 @@ use Rattle.tree.specs.Arrays.{Arrays, lev, held}
 use Rattle.tree.specs.Shape.{Shape}
 use Rattle.tree.specs.Tree.{used-level, reach, path}
 use Rattle.tree.specs.Need.{Binary, binary, depth_high}
-use Rattle.tree.specs.SlotSet.{TreeSlotSet, Place, same_shape, held-cases, held_place, slot_set-remove}
+use Rattle.tree.specs.SlotSet.{TreeSlotSet, Place, same_shape, held-cases, held_place}
 
 -- how many slots of array a are taken, if it is used, and how many of the arrays 1 .. n
 abbrev pub taken_in : Arrays → ℕ → ℕ
@@ -30,20 +30,20 @@ taken_to t (suc n) = taken_to t n + taken_in t (suc n)
 
 -- ---- a list that loses a route
 
-length-remove : (k : ℕ) (rs : List Route) → hop_at rs k ≢ 0 → length rs ≡ suc (length (remove k rs))
+pub length-remove : (k : ℕ) (rs : List Route) → hop_at rs k ≢ 0 → length rs ≡ suc (length (remove k rs))
 length-remove k [] n = absurd (n refl)
 length-remove k (r ∷ rs) n =
     same (key r) k (λ e q. rw q) (λ m q. rw q (ap suc (length-remove k rs (λ z. n (hop_skip r rs k m ∙ z)))))
 
 -- ---- a taken slot
 
-record One (f : ℕ → ℕ) (n : ℕ) : Type 0 where
+pub record One (f : ℕ → ℕ) (n : ℕ) : Type 0 where
   pub s : ℕ
   pub low : 1 ≤ s
   pub high : s ≤ n
   pub some : f s ≢ 0
 
-one : (f : ℕ → ℕ) (n : ℕ) → taken f n ≢ 0 → One f n
+pub one : (f : ℕ → ℕ) (n : ℕ) → taken f n ≢ 0 → One f n
 unfolding taken
 one f zero h = absurd (h refl)
 one f (suc n) h =
@@ -79,14 +79,14 @@ taken-freed f s (suc n) z h w =
 
 -- ---- a taken slot of some array
 
-record Some (t : Arrays) (n : ℕ) : Type 0 where
+pub record Some (t : Arrays) (n : ℕ) : Type 0 where
   pub a : ℕ
   pub low : 1 ≤ a
   pub high : a ≤ n
   pub used : t.tag a ≢ 0
   pub slot : One (t.slot a) last_slot
 
-some : (t : Arrays) (n : ℕ) → taken_to t n ≢ 0 → Some t n
+pub some : (t : Arrays) (n : ℕ) → taken_to t n ≢ 0 → Some t n
 unfolding taken_to
 some t zero h = absurd (h refl)
 some t (suc n) h =
@@ -109,11 +109,11 @@ none t (suc n) a s e h w u l b =
     (λ q _. none t n a s (omega (arith, e)) h (omega arith) u l b)
 
 -- t with slot s of array a freed
-abbrev emptied : Arrays → ℕ → ℕ → Arrays
+abbrev pub emptied : Arrays → ℕ → ℕ → Arrays
 emptied t a s = record { tag = t.tag; link = t.link; slot = λ c. cond (eqb c a) (freed (t.slot c) s) (t.slot c) }
 
 module _ (t : Arrays) (a s : ℕ) where
-  abbrev u : Arrays
+  abbrev pub u : Arrays
   u = emptied t a s
 
   total_below : (n : ℕ) → n < a → taken_to u n ≡ taken_to t n
@@ -121,7 +121,8 @@ module _ (t : Arrays) (a s : ℕ) where
   total_below zero h = refl
   total_below (suc n) h = rw (ne_eqb (suc n) a (λ e. omega arith), total_below n (omega arith))
 
-  total_freed : (n : ℕ) → 1 ≤ a → a ≤ n → t.tag a ≢ 0 → 1 ≤ s → s ≤ last_slot → t.slot a s ≢ 0 → taken_to t n ≡ suc (taken_to u n)
+  pub total_freed : (n : ℕ) → 1 ≤ a → a ≤ n → t.tag a ≢ 0 → 1 ≤ s → s ≤ last_slot → t.slot a s ≢ 0
+      → taken_to t n ≡ suc (taken_to u n)
   unfolding taken_to
   total_freed zero h w p l b z = absurd (omega arith)
   total_freed (suc n) h w p l b z =
@@ -135,7 +136,7 @@ module _ (t : Arrays) (a s : ℕ) where
       ) (omega arith))
       (λ e q. rw (q, total_freed n h (omega arith) p l b z) (omega arith))
 
-  slotted : TreeSlotSet t u a s 0
+  pub slotted : TreeSlotSet t u a s 0
   slotted = record {
     tags = λ c h. refl;
     links = λ c i h w. refl;
@@ -150,13 +151,13 @@ abbrev pub First : ℕ → Arrays → Type 0
 First A t = (a : ℕ) → 1 ≤ a → a ≤ A → 2 ≤ lev t a → t.slot a 1 ≡ 0
 
 module _ (A L : ℕ) where
-  held_none : (t : Arrays) → Shape A L t → taken_to t A ≡ 0 → (v l : ℕ) → held t v l ≡ 0
+  pub held_none : (t : Arrays) → Shape A L t → taken_to t A ≡ 0 → (v l : ℕ) → held t v l ≡ 0
   held_none t sh e =
       held-cases A L t sh (λ h. h ≡ 0) refl
       (λ a s some within used low high. none t A a s e some within (λ z. omega arith) low high)
 
   -- where a taken slot stands
-  place : (t : Arrays) → Shape A L t → First A t → (o : Some t A) → (b : Binary o.slot.s)
+  pub place : (t : Arrays) → Shape A L t → First A t → (o : Some t A) → (b : Binary o.slot.s)
       → Place A L t o.a (path t (lev t o.a - 1) o.a) (lev t o.a - 1) b.d b.x
   place t sh fi o b =
       let lv = used-level A L t sh o.a o.low o.high (omega (arith, o.used)) in
@@ -176,40 +177,3 @@ module _ (A L : ℕ) where
       root z =
           let e : o.slot.s ≡ 1 = omega (arith, b.whole, b.less, ap (λ (n : ℕ). 2 ^ n) z) in
           same (lev t o.a - 1) 0 (λ q _. q) (λ q _. absurd (o.slot.some (rw e (fi o.a o.low o.high (omega arith)))))
-
-  -- as many slots are taken as there are routes
-  pub taken-routes : (m : ℕ) (t : Arrays) → Shape A L t → First A t → taken_to t A ≡ m → m ≡ length (routes (8 * L) (held t))
-  unfolding routes
-  taken-routes zero t sh fi e = rw (collect_none (held t) (held_none t sh e) (8 * L) 0 0)
-  taken-routes (suc m) t sh fi e =
-      let o = some t A (λ z. omega arith) in
-      let a = o.a in
-      let s = o.slot.s in
-      let u = emptied t a s in
-      let b = binary slot_end s o.slot.low (omega (arith, o.slot.high)) in
-      let d = b.d in
-      let x = b.x in
-      let p = place t sh fi o b in
-      let k = lev t a - 1 in
-      let q = path t k a in
-      let lv = used-level A L t sh a o.low o.high (omega (arith, o.used)) in
-      let w : 8 * L < 256 = omega (arith, sh.levels) in
-      let f : 8 * k + d ≤ 8 * L = omega (arith, p.deep) in
-      let g : TreeSlotSet t u a (2 ^ d + x) 0 = rw (← b.whole) (slotted t a s) in
-      let less = slot_set-remove A L t u a q k d x 0 sh p g (8 * L) w f refl in
-      let fits : q * 2 ^ d + x < 2 ^ (8 * k + d) =
-      omega (arith, pow-add 2 (8 * k) d, mul-le-mul_right (2 ^ d) p.head, p.small) in
-      let y = routes_hop (8 * L) w (held t) (q * 2 ^ d + x) (8 * k + d) f fits ∙ held_place A L t a q k d x p in
-      let z : t.slot a (2 ^ d + x) ≢ 0 = rw (← b.whole) o.slot.some in
-      let shape = same_shape t u (λ c h. refl) (λ c i h v. refl) A L sh in
-      let one = total_freed t a s A o.low o.high o.used o.slot.low o.slot.high o.slot.some in
-      let i = taken-routes m u shape (first t o fi) (omega (arith, one)) in
-      ap suc (i ∙ ap length less)
-      ∙ sym (length-remove (key (route_of (8 * L - (8 * k + d)) (q * 2 ^ d + x) (8 * k + d) 0)) (routes (8 * L) (held t))
-      (λ n. z (sym y ∙ n)))
-    where
-      first : (t : Arrays) (o : Some t A) → First A t → First A (emptied t o.a o.slot.s)
-      first t o fi c h w l =
-          same c o.a
-          (λ e q. rw q (same 1 o.slot.s (λ _ r. rw r) (λ _ r. rw r (fi c h w l))))
-          (λ e q. rw q (fi c h w l))

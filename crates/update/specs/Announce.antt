@@ -26,8 +26,9 @@ use Rattle.tree.specs.SlotSet.{Place}
 use Rattle.tree.specs.Free.{used-full}
 use Rattle.tree.specs.Missing.{need_more}
 use Rattle.gather.specs.Views.{word_held}
-use Rattle.gather.specs.WordSet.{TreeWordSet, tree_put}
-use Rattle.gather.specs.Hung.{gathered_same}
+use Rattle.gather.specs.WordSet.{TreeWordSet}
+use Rattle.gather.proofs.WordSet.{tree_put}
+use Rattle.gather.proofs.Hung.{gathered_same}
 use Rattle.totals.specs.Sums.{some as Some-of, some_one}
 use Rattle.words.specs.Words.{feeds_of, arrays_of, array_count, words_of, slots_of}
 use Rattle.words.specs.TableBut.{TableBut, Table}

@@ -5,7 +5,8 @@
 --     cell's prefixes longer than 8 * k
 use Rattle.std.specs.Prelude.{◌≡◌, ◌⊎◌}
 use Rattle.std.proofs.Math.Path.{refl, ap}
-use Rattle.std.proofs.Common.{sym, ◌∙◌, ⊎_elim, mul-div_cancel, mul-le-mul_right, add-mul, mul_assoc, one-mul, pow_pos, pow-add, shr_lt}
+use Rattle.std.proofs.Common.{sym, ◌∙◌, ⊎_elim, mul-div_cancel, mul-le-mul_right, add-mul, mul_assoc, one-mul, pow_pos, pow-add}
+use Rattle.std.proofs.Common.{shr_lt}
 use Prim.Native.Nat.{ℕ, zero, suc, ◌+◌, ◌-◌, ◌*◌, ◌/◌, ◌^◌, ◌≤◌, ◌<◌}
 use native.Mathlib.Omega.{arith}
 use Rattle.std.proofs.Math.Pow.{shr-shr}
@@ -28,7 +29,8 @@ module _ (L : ℕ) (t : Arrays) (b q k : ℕ) (wide : 8 * L < 256) (top : k < L)
     (head : q < 2 ^ (8 * k)) where
   -- a prefix of a cell is held where its slot is taken
   slot_held : (i e : ℕ) → i < cell_count → 1 ≤ e → e ≤ 8
-      → hop_at (routes (8 * L) (held t)) (cell_key (8 * L) k (q * 256 + i) (8 * k + e)) ≡ t.slot b ((cell_slots + i) / 2 ^ (8 - e))
+      → hop_at (routes (8 * L) (held t)) (cell_key (8 * L) k (q * 256 + i) (8 * k + e))
+      ≡ t.slot b ((cell_slots + i) / 2 ^ (8 - e))
   slot_held i e w lo hi =
       let m = 8 - e in
       let x = i / 2 ^ m in

@@ -1,11 +1,11 @@
 -- What announce_local and withdraw_local promise, on any words: they test what the update itself touches, and no more. Assumes
 -- nothing.
 --
---     the words                      the answer                                  the words afterwards
---     a table of L levels            that of the call that tests all of it       those that this call promises
---     any others                     `local_answer`: refused with the first of    `local_words`: as they were where it is refused;
---                                    1, 3, 4, 5, 10, 2, 7 and 8 that applies,    else the arrays of the path, those gained or
---                                    or done                                     freed and the header may differ
+--     the words                    the answer                                  the words afterwards
+--     a table of L levels          that of the call that tests all of it       those that this call promises
+--     any others                   `local_answer`: refused with the first of    `local_words`: as they were where it is refused;
+--                                  1, 3, 4, 5, 10, 2, 7 and 8 that applies,    else the arrays of the path, those gained or
+--                                  or done                                     freed and the header may differ
 use Rattle.std.specs.Prelude.{◌≡◌, refl, ◌≢◌, true, false, List, ℕ, ◌*◌, ◌≤◌, length}
 use Rattle.std.proofs.Common.{sym, ◌∙◌, true≢false, arith, ne_eqb}
 use Rattle.routes.specs.Answers.{is_refused}

@@ -12,7 +12,7 @@ use Rattle.rivals.specs.Won.{winners_hop}
 use Rattle.tree.specs.Arrays.{node, held}
 use Rattle.tree.specs.Need.{held_at}
 use Rattle.tree.specs.SlotSet.{held_place, at_none}
-use Rattle.gather.specs.Views.{tree_winners}
+use Rattle.gather.proofs.Views.{tree_winners}
 use Rattle.words.specs.Words.{feeds_of, arrays_of, array_count, slots_of}
 use Rattle.words.specs.Table.{list_of}
 use Rattle.words.specs.TableBut.{TableBut}

@@ -106,7 +106,8 @@ module _ (L : ℕ) (ws : List ℕ) (some : 1 ≤ L) (levels : L < level_bound) w
       (λ z _. bool (table_b L ws) (λ b. (is_table m b, z)) (λ b. absurd (omega (arith, refusal_foreign L ws f m z b))))
       (λ z _. absurd (omega (arith, refusal_fault L ws f m z))))
 
-pub applied : (L : ℕ) (ws vs : List ℕ) (u : Update) (r : code.Reply) → Table L ws → fault_of (8 * L) u ≡ 0 → HasApplied L ws vs u r
+pub applied : (L : ℕ) (ws vs : List ℕ) (u : Update) (r : code.Reply) → Table L ws → fault_of (8 * L) u ≡ 0
+    → HasApplied L ws vs u r
     → vs ≡ words_by L ws u (touch_fault L ws u) → HasUpdated L ws vs u r
 unfolding answer
 applied L ws vs u r t f p w = record {
@@ -122,5 +123,6 @@ applied L ws vs u r t f p w = record {
     held_in : {A B : ℕ} {xs ys : List Candidate} → table A xs ≡ table B ys → xs ≡ ys
     held_in e = cc
 
-    none : faulty (8 * L) u (verdict (8 * L) (array_count ws) (list_of L ws) u) ≡ verdict (8 * L) (array_count ws) (list_of L ws) u
+    none : faulty (8 * L) u (verdict (8 * L) (array_count ws) (list_of L ws) u)
+        ≡ verdict (8 * L) (array_count ws) (list_of L ws) u
     none = faulty_by (8 * L) u (verdict (8 * L) (array_count ws) (list_of L ws) u) ∙ rw f

@@ -7,8 +7,9 @@ use Rattle.slots.specs.Word.{IsFeed, RightWord}
 use Rattle.slots.specs.Winner.{won_hop}
 use Rattle.slots.specs.Slot.{with_word}
 use Rattle.tree.specs.SlotSet.{TreeSlotSet, Place}
-use Rattle.gather.specs.Views.{tree_winners}
-use Rattle.gather.specs.WordSet.{TreeWordSet, won_set, won_before, won_after}
+use Rattle.gather.proofs.Views.{tree_winners}
+use Rattle.gather.specs.WordSet.{TreeWordSet, won_set}
+use Rattle.gather.proofs.WordSet.{won_before, won_after}
 use Rattle.words.specs.Words.{feeds_of, arrays_of, array_count, words_of, slots_of}
 use Rattle.words.specs.Table.{list_of}
 use Rattle.words.specs.TableBut.{TableBut}
@@ -38,7 +39,8 @@ module _ {L e : ℕ} {ws vs : List ℕ} {b q k d x f w c m : ℕ} (ok : TableBut
     fits : 8 * k + d ≤ 8 * L
     fits = omega (arith, p.deep)
 
-    pub seated_cells : c ≡ reloaded (8 * L) (list_of L ws) (list_of L vs) ((q * 2 ^ d + x) * 2 ^ (8 * L - (8 * k + d))) (8 * k + d)
+    pub seated_cells : c ≡ reloaded (8 * L) (list_of L ws) (list_of L vs) ((q * 2 ^ d + x) * 2 ^ (8 * L - (8 * k + d)))
+        (8 * k + d)
     seated_cells =
         let t = feeds_of ws in
         let u = feeds_of vs in

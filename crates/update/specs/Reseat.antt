@@ -38,7 +38,8 @@ pub record Reseated (ws us : List ℕ) (a k d x f w cells : ℕ) : Type 0 where
   pub slot : SlotSet ws us a (2 ^ d + x) f w
   pub sums : Sums (array_count ws) (arrays_of us) (totals_of us)
   pub count : cells ≡ reseated ws a d x f w
-  pub off : (v : ℕ) → node (arrays_of ws) v k ≡ a → (c : ℕ) → ((i : ℕ) → i ≤ k → node (arrays_of ws) (v / 2 ^ (8 * (k - i))) i ≢ c)
+  pub off : (v : ℕ) → node (arrays_of ws) v k ≡ a → (c : ℕ)
+      → ((i : ℕ) → i ≤ k → node (arrays_of ws) (v / 2 ^ (8 * (k - i))) i ≢ c)
       → Alike ws us c
   pub still : some (slots_of us a (2 ^ d + x)) ≡ some (slots_of ws a (2 ^ d + x)) → (c : ℕ) → c ≢ a → Alike ws us c
 

@@ -5,7 +5,8 @@ use Rattle.std.proofs.Math.Path.{refl}
 use Rattle.std.proofs.Common.{sym, ap, ◌∙◌, inl, inr, ⊎_elim, mul-le-mul_right, arith, pow-add, pow_mono}
 use Prim.Native.Nat.{ℕ, zero, suc, ◌+◌, ◌-◌, ◌*◌, ◌/◌, ◌^◌, ◌≤◌, ◌<◌}
 use Rattle.logic.specs.Cases.{same, less}
-use Rattle.sizes.specs.Sizes.{array_words, slot_at, slot_end, cell_count, cell_slots, cells_at, total_at, array_at, word_at, cell_at}
+use Rattle.sizes.specs.Sizes.{array_words, slot_at, slot_end, cell_count, cell_slots, cells_at, total_at, array_at, word_at}
+use Rattle.sizes.specs.Sizes.{cell_at}
 use Rattle.calm.specs.Calm.{Settled}
 use Rattle.calm.specs.Same.{settled_ext}
 use Rattle.slots.specs.Word.{IsFeed, hop_in}

@@ -23,7 +23,8 @@ use Rattle.update.specs.Update.{Touched}
 -- arrays hung at the levels j + 1 .. k, then a slot set in the last. A prefix that was held had its whole path and keeps its slot
 -- taken
 module _ {L : ℕ} {ws vs us : List ℕ} {a j k r d x f w h c : ℕ} (l : ℕ) (top : k < L) (level : level l ≡ k)
-    (g : Grown L ws vs a j k r) (re : Reseated vs us r k d x f w c) (sl : TreeSlotSet (arrays_of vs) (arrays_of us) r (2 ^ d + x) h)
+    (g : Grown L ws vs a j k r) (re : Reseated vs us r k d x f w c)
+    (sl : TreeSlotSet (arrays_of vs) (arrays_of us) r (2 ^ d + x) h)
     (held : winning (list_of L ws) (a * 256 + l) ≢ 0
     → (j ≡ k) × (some (slots_of us r (2 ^ d + x)) ≡ some (slots_of vs r (2 ^ d + x)))) where
   hung_on : (c i : ℕ) → i ≤ k → node (arrays_of vs) (front L a i) i ≡ c → (i ≡ k) ⊎ (winning (list_of L ws) (a * 256 + l) ≡ 0)

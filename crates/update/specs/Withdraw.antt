@@ -19,8 +19,9 @@ use Rattle.tree.specs.Arrays.{node}
 use Rattle.tree.specs.Tree.{Level, node-level}
 use Rattle.tree.specs.SlotSet.{Place, same_node}
 use Rattle.gather.specs.Views.{word_held}
-use Rattle.gather.specs.WordSet.{TreeWordSet, tree_cut}
-use Rattle.gather.specs.Hung.{gathered_same}
+use Rattle.gather.specs.WordSet.{TreeWordSet}
+use Rattle.gather.proofs.WordSet.{tree_cut}
+use Rattle.gather.proofs.Hung.{gathered_same}
 use Rattle.totals.specs.Sums.{some as Some-of, some_one}
 use Rattle.words.specs.Words.{feeds_of, arrays_of, array_count, words_of, slots_of}
 use Rattle.words.specs.Table.{list_of}

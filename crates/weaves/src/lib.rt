@@ -1,2 +1,2 @@
-// Two feeds in one, demand 3 as item 7 has it: it stands in specs/, and no code belongs to it.
+// Two feeds in one, demand 3 as item 7 has it: it stands in specs/, and what rests on it in proofs/; no code belongs to it.
 #![tactic(auto)]

@@ -20,7 +20,7 @@ use Rattle.tree.specs.Need.{node_child, node-above}
 use Rattle.inside.specs.Inside.{inside, prefixes_inside}
 use Rattle.inside.specs.Seen.{asked, within_on}
 use Rattle.totals.specs.Sums.{sum, counted, sum_none, sum_some}
-use Rattle.totals.specs.Counted.{counted-inside}
+use Rattle.totals.proofs.Counted.{counted-inside}
 use Rattle.words.specs.Words.{arrays_of, array_count, totals_of}
 use Rattle.words.specs.Table.{list_of, seen}
 use Rattle.words.specs.TableBut.{Table}

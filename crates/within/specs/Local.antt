@@ -20,7 +20,8 @@ use Rattle.within.specs.Walk.{walk_from, walk, walked}
 
 -- the arrays of the first 8 * j bits of x, for j up to k, have the same words
 abbrev pub AlikeOn : ℕ → List ℕ → List ℕ → ℕ → ℕ → Type 0
-AlikeOn L ws us x k = (j : ℕ) → j ≤ k → 1 ≤ node (arrays_of ws) (front L x j) j → Alike ws us (node (arrays_of ws) (front L x j) j)
+AlikeOn L ws us x k = (j : ℕ) → j ≤ k → 1 ≤ node (arrays_of ws) (front L x j) j
+    → Alike ws us (node (arrays_of ws) (front L x j) j)
 
 module _ (L : ℕ) (ws us : List ℕ) (x s k : ℕ) (top : k < L) (small : s < slot_end) (size : length us ≡ length ws)
     (f : AlikeOn L ws us x k) where

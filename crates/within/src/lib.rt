@@ -14,7 +14,7 @@ ghost use Rattle.within.specs.Answer.{within_answer};
 
 use sizes::LAST_SLOT;
 
-#[derive(Drop)]
+#[derive(Clone, Copy)]
 pub enum Inside {
     Prefixes(u32),
     Refused(u32),

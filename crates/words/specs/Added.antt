@@ -3,11 +3,13 @@
 --
 --     root, cell 10 ──▶ array 3, cell 1 ──▶ array 2, slot 19
 --     added_on: in array 2 at 19, 9, 4, 2, 1; in array 3 at 257, 128, .. 1; in the root at 266, 133, .. 1
-use Rattle.std.specs.Prelude.{◌≡◌, ℕ, zero, suc, ◌+◌, ◌-◌, ◌*◌, ◌/◌, ◌%◌, ◌^◌, ◌<◌, ◌≤◌, ◌≢◌, ◌⊎◌, List, length, slice_index, refl}
+use Rattle.std.specs.Prelude.{◌≡◌, ℕ, zero, suc, ◌+◌, ◌-◌, ◌*◌, ◌/◌, ◌%◌, ◌^◌, ◌<◌, ◌≤◌, ◌≢◌, ◌⊎◌, List, length, slice_index}
+use Rattle.std.specs.Prelude.{refl}
 use Rattle.std.proofs.Common.{sym, ap, ◌∙◌, ⊎_elim, arith, shr-shr}
 use Rattle.std.proofs.Math.Logic.{inl, inr}
 use Rattle.logic.specs.Cases.{same, less}
-use Rattle.sizes.specs.Sizes.{array_words, least_words, slot_end, cell_count, cells_at, cell_slots, totals_at, total_at, unused_at}
+use Rattle.sizes.specs.Sizes.{array_words, least_words, slot_end, cell_count, cells_at, cell_slots, totals_at, total_at}
+use Rattle.sizes.specs.Sizes.{unused_at}
 use Rattle.sizes.specs.Sizes.{array_at, word_at, cell_at, level_bound}
 use Rattle.array.specs.Tag.{tag_of, parent_in, cell_in, level_in}
 use Rattle.array.specs.Cell.{link_in}
@@ -203,7 +205,8 @@ on_size (suc k) {ws = ws} {v} g s by w =
 
 -- what is no total stays, of any array, and the header
 pub on_kept : (k : ℕ) {L : ℕ} {ws : List ℕ} {v : ℕ} → Climbs L ws v k → (s by : ℕ) → s < slot_end → (c j : ℕ) → j < array_words
-    → (c ≡ 0) ⊎ NoTotal j → slice_index (added_on k ws (node (arrays_of ws) v k) s by) (word_at c j) ≡ slice_index ws (word_at c j)
+    → (c ≡ 0) ⊎ NoTotal j
+    → slice_index (added_on k ws (node (arrays_of ws) v k) s by) (word_at c j) ≡ slice_index ws (word_at c j)
 unfolding added_on
 on_kept zero {ws = ws} g s by w c j b o = in_kept ws _ s by (climbs_fit g) w c j b (other g c j o)
 on_kept (suc k) {ws = ws} {v} g s by w c j b o =

@@ -1,12 +1,14 @@
 -- The check's tests tell whether the words are a table. Assumes nothing.
-use Rattle.std.specs.Prelude.{◌≡◌, ℕ, ◌+◌, ◌-◌, ◌%◌, ◌<◌, ◌≤◌, Bool, true, not, ◌&&◌, ◌||◌, ◌≢◌, ◌⊎◌, List, length, ◌==◌, slice_index, slice_index_or}
+use Rattle.std.specs.Prelude.{◌≡◌, ℕ, ◌+◌, ◌-◌, ◌%◌, ◌<◌, ◌≤◌, Bool, true, not, ◌&&◌, ◌||◌, ◌≢◌, ◌⊎◌, List, length, ◌==◌}
+use Rattle.std.specs.Prelude.{slice_index, slice_index_or}
 use Rattle.std.proofs.Math.Logic.{inl, inr, ⊎_elim}
 use Rattle.std.proofs.Common.{arith, ne_eqb}
 use Rattle.logic.specs.Cases.{same}
 use Rattle.logic.specs.Bools.{and_to, and_from}
 use Rattle.logic.specs.Every.{all_b}
 use Rattle.logic.specs.Reflects.{Reflects, reflects_eq, reflects_and, reflects_all, reflects_as}
-use Rattle.sizes.specs.Sizes.{array_words, least_words, most_words, slot_at, last_slot, slot_end, cell_count, cells_at, body_words}
+use Rattle.sizes.specs.Sizes.{array_words, least_words, most_words, slot_at, last_slot, slot_end, cell_count, cells_at}
+use Rattle.sizes.specs.Sizes.{body_words}
 use Rattle.sizes.specs.Sizes.{totals_at, total_at, array_at, word_at, cell_at, level_bound, group_count, rest_at, rest_words}
 use Rattle.array.specs.Cell.{link_blank}
 use Rattle.array.specs.Right.{Right}
@@ -21,9 +23,11 @@ use Rattle.tree.specs.Arrays.{Arrays, lev, used_in, used_of}
 use Rattle.tree.specs.Shape.{Child, ParentLinks, HasSlot, HasLink}
 use Rattle.words.specs.Words.{arrays_of, array_count, words_of, slots_of, bests_of, blocks_of, totals_of}
 use Rattle.totals.specs.Check.{SumsAt, sums_reflects, sums_all, sums_one}
-use Rattle.totals.specs.Empty.{empty_none, none_sums}
+use Rattle.totals.specs.Empty.{none_sums}
+use Rattle.totals.proofs.Empty.{empty_none}
 use Rattle.words.specs.TableBut.{Header, RightSlotsOf, TableBut, Table}
-use Rattle.tree.specs.Check.{links_b, parent_links_b, links_reflects, parent_links_reflects}
+use Rattle.tree.specs.Check.{links_b, parent_links_b, parent_links_reflects}
+use Rattle.tree.proofs.Check.{links_reflects}
 use Rattle.words.specs.Table.{slots_b, content_b, blank_b, array_b, group_b, header_b, table_b}
 
 -- something in an array
@@ -166,7 +170,8 @@ module _ (L : ℕ) (ws : List ℕ) (a : ℕ) where
       }))
 
 -- a free array of a table is blank
-pub blank_array : (L e : ℕ) (ws : List ℕ) → TableBut L e ws → (a : ℕ) → 1 ≤ a → a ≤ array_count ws → slice_index ws (array_at a) ≡ 0
+pub blank_array : (L e : ℕ) (ws : List ℕ) → TableBut L e ws → (a : ℕ) → 1 ≤ a → a ≤ array_count ws
+    → slice_index ws (array_at a) ≡ 0
     → blank_b ws a ≡ true
 blank_array L e ws k a h w z =
     let blank = k.blank a h w z in

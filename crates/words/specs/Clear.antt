@@ -1,11 +1,13 @@
 -- The cleared words are a table that holds nothing. Assumes nothing.
-use Rattle.std.specs.Prelude.{◌≡◌, ℕ, zero, suc, ◌+◌, ◌-◌, ◌*◌, ◌/◌, ◌%◌, ◌^◌, ◌<◌, ◌≤◌, false, ◌≢◌, List, [], length, replicate, slice_index, slice_index_or, slice_set, refl}
+use Rattle.std.specs.Prelude.{◌≡◌, ℕ, zero, suc, ◌+◌, ◌-◌, ◌*◌, ◌/◌, ◌%◌, ◌^◌, ◌<◌, ◌≤◌, false, ◌≢◌, List, [], length, replicate}
+use Rattle.std.specs.Prelude.{slice_index, slice_index_or, slice_set, refl}
 use Rattle.std.proofs.Common.{sym, ap, ap₂, ◌∙◌, inl, arith, length-set}
 use Rattle.std.proofs.Math.ListN.{length-replicate, get_or-eq_default}
 use Rattle.std.proofs.lemmas.List.{get_or-replicate}
 use Rattle.std.proofs.Math.Seq.{get_or-set_same, get_or-set_other}
 use Rattle.logic.specs.Cases.{same, less}
-use Rattle.sizes.specs.Sizes.{slot_at, total_at, array_words, least_words, most_words, array_at, word_at, cell_at, level_bound, per_group}
+use Rattle.sizes.specs.Sizes.{slot_at, total_at, array_words, least_words, most_words, array_at, word_at, cell_at, level_bound}
+use Rattle.sizes.specs.Sizes.{per_group}
 use Rattle.routes.specs.Room.{level}
 use Rattle.calm.specs.Same.{none_settled}
 use Rattle.slots.specs.Word.{IsFeed}
@@ -20,7 +22,7 @@ use Rattle.totals.specs.Check.{sums_all}
 use Rattle.totals.specs.Empty.{none_sums}
 use Rattle.gather.specs.Gather.{gathered}
 use Rattle.gather.specs.Views.{feed_view, word_held}
-use Rattle.gather.specs.Hung.{gathered_none}
+use Rattle.gather.proofs.Hung.{gathered_none}
 use Rattle.words.specs.Words.{feeds_of, arrays_of, words_of, slots_of, bests_of, blocks_of, totals_of}
 use Rattle.words.specs.TableBut.{TableBut, Table}
 use Rattle.candidates.specs.Seen.{table, misfits, arrays}
@@ -47,7 +49,8 @@ module _ (n : ℕ) (low : least_words ≤ n) where
   pub cleared-word : (k : ℕ) → k ≢ 0 → k ≢ 1 → k ≢ array_words → slice_index (cleared n) k ≡ 0
   unfolding cleared
   cleared-word k a b c =
-      get_or-set_other (slice_set (slice_set z 0 1) 1 1) array_words k 1 0 c ∙ get_or-set_other (slice_set z 0 1) 1 k 1 0 b ∙ get_or-set_other z 0 k 1 0 a
+      get_or-set_other (slice_set (slice_set z 0 1) 1 1) array_words k 1 0 c ∙ get_or-set_other (slice_set z 0 1) 1 k 1 0 b
+      ∙ get_or-set_other z 0 k 1 0 a
       ∙ zero_word k
 
   cleared-count : slice_index_or (cleared n) 0 0 ≡ 1
@@ -65,7 +68,8 @@ module _ (n : ℕ) (low : least_words ≤ n) where
 
   cleared_root : slice_index_or (cleared n) array_words 0 ≡ 1
   unfolding cleared
-  cleared_root = get_or-set_same (slice_set (slice_set z 0 1) 1 1) array_words 1 0 (simp (length-set, length-replicate) (omega arith))
+  cleared_root = get_or-set_same (slice_set (slice_set z 0 1) 1 1) array_words 1 0
+      (simp (length-set, length-replicate) (omega arith))
 
   abbrev t : Arrays
   t = arrays_of (cleared n)

@@ -1,6 +1,7 @@
 -- What the totals know: the total of a slot is how many prefixes are held at it and below it. So where it is 0 nothing is
 -- collected there and no candidate gathered, and a walk over a table's slots passes by. Assumes nothing.
-use Rattle.std.specs.Prelude.{◌≡◌, ℕ, zero, suc, ◌+◌, ◌-◌, ◌*◌, ◌/◌, ◌%◌, ◌^◌, ◌<◌, ◌≤◌, List, [], ◌∷◌, ◌++◌, length, slice_index, refl}
+use Rattle.std.specs.Prelude.{◌≡◌, ℕ, zero, suc, ◌+◌, ◌-◌, ◌*◌, ◌/◌, ◌%◌, ◌^◌, ◌<◌, ◌≤◌, List, [], ◌∷◌, ◌++◌, length, slice_index}
+use Rattle.std.specs.Prelude.{refl}
 use Rattle.std.proofs.Math.Path.{sym, ap}
 use Rattle.std.proofs.Common.{◌∙◌, ⊎_elim, mul-le-mul_right, pow_mono, pow-add}
 use native.Mathlib.Omega.{arith}
@@ -16,9 +17,10 @@ use Rattle.slots.specs.Slot.{RightSlot, FreeSlot, won_free}
 use Rattle.tree.specs.Arrays.{Arrays, held}
 use Rattle.tree.specs.SlotSet.{Place}
 use Rattle.gather.specs.Gather.{of_feeds, of_slot, gather}
-use Rattle.gather.specs.Views.{word_held, held_won, held_right}
+use Rattle.gather.specs.Views.{word_held, held_right}
+use Rattle.gather.proofs.Views.{held_won}
 use Rattle.totals.specs.Sums.{some_one, sum, counted, sum_some}
-use Rattle.totals.specs.Counted.{counted-collect}
+use Rattle.totals.proofs.Counted.{counted-collect}
 use Rattle.words.specs.Words.{feeds_of, arrays_of, array_count, slots_of, totals_of}
 use Rattle.words.specs.TableBut.{Table}
 use Rattle.words.specs.Retotalled.{table_first}

@@ -1,6 +1,7 @@
 -- Free arrays found one after the other, on any words: those that `taken` says, where they are all clean. On a table as many are
 -- found as there is room for. Assumes nothing.
-use Rattle.std.specs.Prelude.{◌≡◌, ℕ, zero, suc, ◌+◌, ◌-◌, ◌*◌, ◌/◌, ◌<◌, ◌≤◌, Bool, true, false, ◌≢◌, List, length, replicate, slice_index, slice_index_or, slice_set, refl}
+use Rattle.std.specs.Prelude.{◌≡◌, ℕ, zero, suc, ◌+◌, ◌-◌, ◌*◌, ◌/◌, ◌<◌, ◌≤◌, Bool, true, false, ◌≢◌, List, length, replicate}
+use Rattle.std.specs.Prelude.{slice_index, slice_index_or, slice_set, refl}
 use Rattle.std.proofs.Math.Path.{sym, ap}
 use Rattle.std.proofs.Common.{◌∙◌}
 use Rattle.std.proofs.Math.Bool.{true≢false}
@@ -201,7 +202,8 @@ module _ (ws : List ℕ) (m i f : ℕ) (l : List ℕ) (s : FreesTo ws i f l) whe
       frees_more b be z =
           let lt : i < length l = omega (arith, s.size) in
           let at : slice_index_or (slice_set l i r) i 0 ≡ r = get_or-set_same l i r 0 lt in
-          let old : (h : ℕ) → h ≢ i → slice_index (slice_set l i r) h ≡ slice_index_or l h 0 = λ h q. get_or-set_other l i h r 0 (λ w. q (w)) in
+          let old : (h : ℕ) → h ≢ i
+          → slice_index (slice_set l i r) h ≡ slice_index_or l h 0 = λ h q. get_or-set_other l i h r 0 (λ w. q (w)) in
           let own : Fresh ws r = record {
             low = frees_fits.0;
             within = frees_fits.1;

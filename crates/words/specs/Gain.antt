@@ -16,7 +16,7 @@ use Rattle.tree.specs.Shape.{Child}
 use Rattle.tree.specs.HungBelow.{HungBelow, hang_shape, hang_filled}
 use Rattle.gather.specs.Views.{feed_view, RightWords}
 use Rattle.gather.specs.Hung.{feed-hung-below}
-use Rattle.totals.specs.Empty.{gain_sums}
+use Rattle.totals.proofs.Empty.{gain_sums}
 use Rattle.words.specs.Words.{feeds_of, arrays_of, array_count, words_of, slots_of, bests_of, blocks_of, totals_of}
 use Rattle.words.specs.TableBut.{TableBut}
 use Rattle.words.specs.Gained.{Ends, Gained}
@@ -90,7 +90,8 @@ module _ (L : ℕ) (ws : List ℕ) (p i a : ℕ) (ok : TableBut L p ws) (gn : Ga
     }
 
     -- the same of each feed
-    pub gained_feed : (f : ℕ) → IsFeed f → HungBelow (array_count ws) L (feed_view (feeds_of ws) f) (feed_view (feeds_of vs) f) p i a
+    pub gained_feed : (f : ℕ) → IsFeed f
+        → HungBelow (array_count ws) L (feed_view (feeds_of ws) f) (feed_view (feeds_of vs) f) p i a
     gained_feed f y =
         feed-hung-below (array_count ws) L (feeds_of ws) (feeds_of vs) p i a gained_hung-below f
         (λ c s h l b. re_words gain_ends re c s f h l b y) (λ s l b. no_word s l b f y)

@@ -82,7 +82,8 @@ pub record RehungAny (ws vs : List ℕ) (p a x n m : ℕ) : Type 0 where
 -- a, hung below cell i of p
 abbrev pub Gained : List ℕ → List ℕ → ℕ → ℕ → ℕ → Type 0
 Gained ws vs p i a =
-    Rehung ws vs p i a (tag_of p i (level_in (slice_index ws (array_at p)) + 1)) a (slice_index ws 0 + 1) (slice_index ws (group_at a) + 1)
+    Rehung ws vs p i a (tag_of p i (level_in (slice_index ws (array_at p)) + 1)) a (slice_index ws 0 + 1)
+    (slice_index ws (group_at a) + 1)
 
 -- a, taken from the cell that its tag names
 abbrev pub Released : List ℕ → List ℕ → ℕ → Type 0

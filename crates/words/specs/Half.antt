@@ -27,7 +27,8 @@ cell_below p = p - p % array_words + (cells_at - cell_slots) + p % array_words /
 -- the slot of the lower half of the prefix in slot p, 0 where there is none; the upper half's is the next
 unfoldable pub half_of : List ℕ → ℕ → ℕ
 half_of ws p =
-    cond (nat_lt (p % array_words) (slot_at cell_slots)) (p + p % array_words) (first_of (link_in (slice_index ws (cell_below p))))
+    cond (nat_lt (p % array_words) (slot_at cell_slots)) (p + p % array_words)
+    (first_of (link_in (slice_index ws (cell_below p))))
 
 pub first_some : (b n : ℕ) → b ≡ n → 1 ≤ n → first_of b ≡ word_at n (slot_at 2)
 first_some b zero e h = absurd (omega arith)

@@ -76,7 +76,8 @@ module _ (ws : List ℕ) (a : ℕ) where
   lent_right k =
       reflects_same (right_reflects k (slots b) (bests b) (page_hops b))
       (right_reflects k (slots_of ws a) (bests_of ws a) (λ s h w. won_small (words_of ws a s)))
-      (right_ext k (slots b) (bests b) (slots_of ws a) (bests_of ws a) (λ s _ h. sym (lent_slot s h)) (λ i h. sym (lent_best i h)))
+      (right_ext k (slots b) (bests b) (slots_of ws a) (bests_of ws a) (λ s _ h. sym (lent_slot s h))
+      (λ i h. sym (lent_best i h)))
       (right_ext k (slots_of ws a) (bests_of ws a) (slots b) (bests b) (λ s _ h. lent_slot s h) (λ i h. lent_best i h))
 
   pub lent_block : (i : ℕ) → i < cell_count → blocks b i ≡ blocks_of ws a i

@@ -12,9 +12,11 @@ use Rattle.candidates.specs.Candidate.{Candidate, place, key, IsCandidate, IsLis
 use Rattle.rivals.specs.Maps.{ext}
 use Rattle.slots.specs.Word.{IsFeed}
 use Rattle.gather.specs.Gather.{meant}
-use Rattle.gather.specs.Found.{gathered-find}
-use Rattle.gather.specs.Views.{word_held, tree_list}
-use Rattle.gather.specs.Counted.{candidates_of, tree_count}
+use Rattle.gather.proofs.Found.{gathered-find}
+use Rattle.gather.specs.Views.{word_held}
+use Rattle.gather.proofs.Views.{tree_list}
+use Rattle.gather.specs.Counted.{candidates_of}
+use Rattle.gather.proofs.Counted.{tree_count}
 use Rattle.words.specs.Words.{feeds_of, array_count}
 use Rattle.words.specs.Table.{list_of}
 use Rattle.words.specs.TableBut.{Table}

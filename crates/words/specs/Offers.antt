@@ -3,7 +3,8 @@
 --
 --     groups     1 .. 8 │ 9 .. 16 │ 17 .. 24 │ 25 .. A       the last one may be short, and is never passed over
 --     header        8   │    5    │     8    │    ..         told full: the first and the third
-use Rattle.std.specs.Prelude.{◌≡◌, ℕ, zero, suc, ◌+◌, ◌-◌, ◌*◌, ◌/◌, ◌<◌, ◌≤◌, Bool, true, false, cond, not, ◌&&◌, ◌≢◌, List, length, ◌==◌, nat_le, slice_index, slice_index_or, refl}
+use Rattle.std.specs.Prelude.{◌≡◌, ℕ, zero, suc, ◌+◌, ◌-◌, ◌*◌, ◌/◌, ◌<◌, ◌≤◌, Bool, true, false, cond, not, ◌&&◌, ◌≢◌, List}
+use Rattle.std.specs.Prelude.{length, ◌==◌, nat_le, slice_index, slice_index_or, refl}
 use Rattle.std.proofs.Common.{sym, ◌∙◌, zero-add, add-zero, arith, eqb-true, eq-eqb, ne_eqb, leb-true, le-leb}
 use Rattle.logic.specs.Bools.{and_to, and_from}
 use Rattle.logic.specs.Cases.{bool, same}
@@ -170,14 +171,16 @@ module _ (ws : List ℕ) where
   groups_shut g (suc n) f h =
       let z : g + suc n ≡ g + n + 1 = omega arith in
       let y : g + 1 + n ≡ g + n + 1 = omega arith in
-      let e : slice_index_or ws (g + n + 1) 0 ≡ per_group = rw y at (eqb-true (slice_index ws (g + 1 + n)) per_group (f n (omega arith))) in
+      let e : slice_index_or ws (g + n + 1) 0 ≡ per_group =
+      rw y at (eqb-true (slice_index ws (g + 1 + n)) per_group (f n (omega arith))) in
       rw z (group_shut (g + n) (told-full (g + n) _ refl e (omega arith)) (omega arith))
       ∙ groups_shut g n (λ k l. f k (omega arith)) (omega arith)
 
 -- ---- the rest of an array's group, and the groups past it
 
 module _ (ws : List ℕ) (f : ℕ) (o : told_full ws ((f - 1) / per_group) ≡ false) (some : f ≢ 0) where
-  rest : (n : ℕ) → f + n ≤ per_group * ((f + 7) / per_group) → first_free (offers ws) (f + 1) n ≡ first_free (arrays_of ws) (f + 1) n
+  rest : (n : ℕ) → f + n ≤ per_group * ((f + 7) / per_group)
+      → first_free (offers ws) (f + 1) n ≡ first_free (arrays_of ws) (f + 1) n
   rest n h = offers_open ws ((f - 1) / per_group) (f + 1) n o (omega arith) (omega arith)
 
   pub after_all : (r n : ℕ) → n ≡ array_count ws → f ≤ n → n ≤ per_group * ((f + 7) / per_group)

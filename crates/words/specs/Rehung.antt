@@ -1,6 +1,7 @@
 -- The words after an array is gained or released: how they come about, what is seen in them, and what the header counts then.
 -- Assumes nothing.
-use Rattle.std.specs.Prelude.{◌≡◌, ℕ, ◌+◌, ◌-◌, ◌*◌, ◌/◌, ◌<◌, ◌≤◌, ◌≢◌, ◌⊎◌, List, length, slice_index, slice_index_or, slice_set, refl}
+use Rattle.std.specs.Prelude.{◌≡◌, ℕ, ◌+◌, ◌-◌, ◌*◌, ◌/◌, ◌<◌, ◌≤◌, ◌≢◌, ◌⊎◌, List, length, slice_index, slice_index_or}
+use Rattle.std.specs.Prelude.{slice_set, refl}
 use Rattle.std.proofs.Common.{sym, ap, ◌∙◌, inl, inr, ⊎_elim, arith, ext_get_or}
 use Rattle.std.proofs.Math.ListN.{length-set}
 use Rattle.std.proofs.Math.Seq.{get_or-set_same, get_or-set_other}
@@ -144,7 +145,8 @@ gained_any ws b p i a n m g l ne me =
           rw (← nn, ← mm) (rehangs ws b p i a x a n m e z (l.right (page_settled ws p r.settled) o));
     }
 
-pub released_any : (ws b : List ℕ) (a p i n m : ℕ) → p ≡ parent_in (slice_index ws (array_at a)) → i ≡ cell_in (slice_index ws (array_at a))
+pub released_any : (ws b : List ℕ) (a p i n m : ℕ) → p ≡ parent_in (slice_index ws (array_at a))
+    → i ≡ cell_in (slice_index ws (array_at a))
     → slice_index ws 0 < 4294967296 → slice_index ws (group_at a) < 4294967296
     → Ends ws p i a → CutAny (page_of ws p) b i
     → n ≡ plus (slice_index ws 0) minus_one → m ≡ plus (slice_index ws (group_at a)) minus_one
@@ -169,7 +171,8 @@ released_any ws b a p i n m pe ie nb mb e l ne me =
 
 module _ {ws vs : List ℕ} {p i a x n m : ℕ} (g : Ends ws p i a) (r : RehungAny ws vs p a x n m) where
   -- another array than p
-  pub any_word : (d k : ℕ) → 1 ≤ d → k < array_words → d ≢ p → (d ≢ a) ⊎ (k ≢ 0) → slice_index vs (word_at d k) ≡ slice_index ws (word_at d k)
+  pub any_word : (d k : ℕ) → 1 ≤ d → k < array_words → d ≢ p → (d ≢ a) ⊎ (k ≢ 0)
+      → slice_index vs (word_at d k) ≡ slice_index ws (word_at d k)
   any_word d k h w e f =
       r.other (word_at d k) (no_tag d a k w f) (λ q. omega arith) (no_group d a k h (omega (arith, g.within, g.size)))
       (less d p (λ l _. inl (omega arith)) (λ l _. inr (omega arith)))
@@ -191,7 +194,8 @@ module _ {ws vs : List ℕ} {p i a x n m : ℕ} (g : Ends ws p i a) (r : RehungA
 
 module _ {ws vs : List ℕ} {p i a x c n m : ℕ} (g : Ends ws p i a) (r : Rehung ws vs p i a x c n m) where
   -- another array than p
-  pub re_word : (d k : ℕ) → 1 ≤ d → k < array_words → d ≢ p → (d ≢ a) ⊎ (k ≢ 0) → slice_index vs (word_at d k) ≡ slice_index ws (word_at d k)
+  pub re_word : (d k : ℕ) → 1 ≤ d → k < array_words → d ≢ p → (d ≢ a) ⊎ (k ≢ 0)
+      → slice_index vs (word_at d k) ≡ slice_index ws (word_at d k)
   re_word d k h w e f =
       r.other (word_at d k) (no_tag d a k w f) (λ q. omega arith) (no_group d a k h (omega (arith, g.within, g.size)))
       (less d p (λ l _. inl (omega arith)) (λ l _. inr (omega arith)))
@@ -264,7 +268,8 @@ module _ {ws vs : List ℕ} {p i a x c n m : ℕ} (g : Ends ws p i a) (r : Rehun
   pub re_settled : (d : ℕ) → 1 ≤ d → d ≢ p → Settled (slots_of ws d) ((arrays_of ws).link d) (blocks_of ws d)
       → Settled (slots_of vs d) ((arrays_of vs).link d) (blocks_of vs d)
   re_settled d h f =
-      settled_ext (slots_of ws d) ((arrays_of ws).link d) (blocks_of ws d) (slots_of vs d) ((arrays_of vs).link d) (blocks_of vs d)
+      settled_ext (slots_of ws d) ((arrays_of ws).link d) (blocks_of ws d) (slots_of vs d) ((arrays_of vs).link d)
+      (blocks_of vs d)
       (λ s l b. re_slots d s h l b) (λ j b. re_links d j h b (inl f)) (λ j b _. ap block_in (re_cell d j h b f))
 
 -- ---- the header

@@ -17,7 +17,7 @@ use Rattle.tree.specs.Free.{used_some}
 use Rattle.tree.specs.HungBelow.{HungBelow, unhang_shape, unhang_filled}
 use Rattle.gather.specs.Views.{feed_view, RightWords}
 use Rattle.gather.specs.Hung.{feed-hung-below}
-use Rattle.totals.specs.Empty.{free_sums}
+use Rattle.totals.proofs.Empty.{free_sums}
 use Rattle.words.specs.Words.{feeds_of, arrays_of, array_count, words_of, slots_of, bests_of, blocks_of, totals_of}
 use Rattle.words.specs.TableBut.{TableBut}
 use Rattle.words.specs.Gained.{group_at, Ends, Releases, ReleasesRight, Released}

@@ -2,7 +2,8 @@
 -- last, else as they were. Their conditions hold again. Assumes nothing.
 --
 --     ws ── a word of slot s of array a set ──▶ vs ── the totals on the path changed ──▶ us
-use Rattle.std.specs.Prelude.{◌≡◌, ℕ, suc, ◌+◌, ◌-◌, ◌*◌, ◌/◌, ◌%◌, ◌^◌, ◌<◌, ◌≤◌, cond, ◌≢◌, ◌⊎◌, List, length, ◌==◌, slice_index, slice_index_or, refl}
+use Rattle.std.specs.Prelude.{◌≡◌, ℕ, suc, ◌+◌, ◌-◌, ◌*◌, ◌/◌, ◌%◌, ◌^◌, ◌<◌, ◌≤◌, cond, ◌≢◌, ◌⊎◌, List, length, ◌==◌}
+use Rattle.std.specs.Prelude.{slice_index, slice_index_or, refl}
 use Rattle.std.proofs.Common.{sym, ap, ◌∙◌, inl, inr, ⊎_elim, arith, eq-eqb, ne_eqb}
 use Rattle.logic.specs.Cases.{same}
 use Rattle.sizes.specs.Sizes.{array_words, slot_at, slot_end, last_slot, cell_count, cells_at, totals_at, total_at}
@@ -21,11 +22,13 @@ use Rattle.tree.specs.Taken.{First}
 use Rattle.tree.specs.SlotSet.{TreeSlotSet, same_shape, same_node}
 use Rattle.gather.specs.WordSet.{won_set}
 use Rattle.totals.specs.Sums.{some, some_none, some_one, Sums, sums_ext}
-use Rattle.totals.specs.Empty.{empty_none}
-use Rattle.totals.specs.Bound.{total_most}
+use Rattle.totals.proofs.Empty.{empty_none}
+use Rattle.totals.proofs.Bound.{total_most}
 use Rattle.totals.specs.Marks.{mark, mark_same}
-use Rattle.totals.specs.Most.{mark_most, own_some}
-use Rattle.totals.specs.Raise.{Takes, set_takes, set_frees, Raised, raise, lower}
+use Rattle.totals.specs.Most.{own_some}
+use Rattle.totals.proofs.Most.{mark_most}
+use Rattle.totals.specs.Raise.{Takes, set_takes, set_frees, Raised}
+use Rattle.totals.proofs.Raise.{raise, lower}
 use Rattle.words.specs.Words.{feeds_of, arrays_of, array_count, words_of, slots_of, bests_of, blocks_of, totals_of}
 use Rattle.words.specs.TableBut.{TableBut}
 use Rattle.words.specs.CheckReflects.{blank-slots, blank-links}
@@ -181,7 +184,8 @@ module _ {L e : ℕ} {ws vs : List ℕ} {v k a s f w : ℕ} (g : WordSet L e ws 
   small c q h l x y = omega (arith, small_total g.ok c q h l x y, g.ok.high)
 
   -- the slot got its first candidate
-  took_sums : slots_of ws a s ≡ 0 → 1 ≤ slots_of vs a s → Sums A (arrays_of (added_on k vs a s 1)) (totals_of (added_on k vs a s 1))
+  took_sums : slots_of ws a s ≡ 0 → 1 ≤ slots_of vs a s
+      → Sums A (arrays_of (added_on k vs a s 1)) (totals_of (added_on k vs a s 1))
   took_sums z p =
       let us = added_on k vs a s 1 in
       let up : Raised A t T (totals_of us) v k s = record {

@@ -1,9 +1,11 @@
 -- One array's slots, bests and blocks rewritten, and totals of any: the conditions of a table that do not ask for totals stay.
 -- Assumes nothing.
-use Rattle.std.specs.Prelude.{◌≡◌, ℕ, zero, suc, ◌+◌, ◌-◌, ◌*◌, ◌/◌, ◌<◌, ◌≤◌, ◌≢◌, ◌⊎◌, List, length, slice_index, slice_index_or, refl}
+use Rattle.std.specs.Prelude.{◌≡◌, ℕ, zero, suc, ◌+◌, ◌-◌, ◌*◌, ◌/◌, ◌<◌, ◌≤◌, ◌≢◌, ◌⊎◌, List, length, slice_index}
+use Rattle.std.specs.Prelude.{slice_index_or, refl}
 use Rattle.std.proofs.Common.{sym, ap, ◌∙◌, inl, inr, ⊎_elim, arith}
 use Rattle.logic.specs.Cases.{same}
-use Rattle.sizes.specs.Sizes.{array_words, slot_at, slot_end, cell_count, cells_at, totals_at, array_at, word_at, cell_at, per_group}
+use Rattle.sizes.specs.Sizes.{array_words, slot_at, slot_end, cell_count, cells_at, totals_at, array_at, word_at, cell_at}
+use Rattle.sizes.specs.Sizes.{per_group}
 use Rattle.slots.specs.Word.{IsFeed, hop_in, RightWord}
 use Rattle.slots.specs.Winner.{winner_same}
 use Rattle.slots.specs.Slot.{with_word}

@@ -5,8 +5,8 @@ use Rattle.routes.specs.Collect.{routes}
 use Rattle.routes.specs.Room.{need_to, need}
 use Rattle.candidates.specs.Winners.{winners}
 use Rattle.tree.specs.Arrays.{held}
-use Rattle.tree.specs.Need.{used-need}
-use Rattle.gather.specs.Views.{tree_winners}
+use Rattle.tree.proofs.Need.{used-need}
+use Rattle.gather.proofs.Views.{tree_winners}
 use Rattle.words.specs.Words.{feeds_of, arrays_of, array_count}
 use Rattle.words.specs.TableBut.{TableBut, Table}
 use Rattle.words.specs.Table.{list_of}

@@ -1,6 +1,7 @@
 -- When words are a table, as conditions: what the tests of `table_b` tell. Assumes nothing.
 use Rattle.std.specs.Prelude.{◌≡◌, ℕ, ◌+◌, ◌%◌, ◌<◌, ◌≤◌, List, length, slice_index, slice_index_or}
-use Rattle.sizes.specs.Sizes.{array_words, slot_at, slot_end, least_words, most_words, totals_at, array_at, word_at, group_count, rest_at}
+use Rattle.sizes.specs.Sizes.{array_words, slot_at, slot_end, least_words, most_words, totals_at, array_at, word_at, group_count}
+use Rattle.sizes.specs.Sizes.{rest_at}
 use Rattle.slots.specs.Slot.{RightSlot}
 use Rattle.array.specs.Right.{Right}
 use Rattle.tree.specs.Arrays.{lev, used_in, used_of}

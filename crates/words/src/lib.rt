@@ -7,7 +7,8 @@ pub mod total; // the totals of arrays
 
 ghost use Rattle.std.specs.Prelude.{◌≡◌, ◌+◌, ◌-◌, ◌*◌, ◌/◌, ◌<◌, ◌≤◌, true, false, ◌≢◌, length, nat_eq, slice_index};
 ghost use Rattle.logic.specs.Every.{all_b};
-ghost use Rattle.sizes.specs.Sizes.{most_arrays, least_words, most_words, cell_count, array_at, per_group, group_count, group_stride};
+ghost use Rattle.sizes.specs.Sizes.{most_arrays, least_words, most_words, cell_count, array_at, per_group, group_count};
+ghost use Rattle.sizes.specs.Sizes.{group_stride};
 ghost use Rattle.array.specs.Check.{empty_b, bare_b};
 ghost use Rattle.array.specs.Frame.{page_of};
 ghost use Rattle.words.specs.Words.{arrays_of, array_count, slots_of};

@@ -9,7 +9,7 @@ use lib.ListN.{length, get_or, set, drop, length-append, drop_of_length-le}
 use lib.Seq.{sets, drop-cons}
 use Rattle.numbers.specs.Wrote.{Wrote, wrote_none, wrote_two}
 use Rattle.numbers.specs.Digits.{one, two, digits}
-use Rattle.numbers.specs.Back.{number_digits}
+use Rattle.numbers.proofs.Back.{number_digits}
 use Rattle.numbers.specs.Number.{AreBytes}
 use Rattle.routes.specs.Family.{levels, announcing_for, kind_of}
 use Rattle.candidates.specs.Bytes.{announces_for, sent_bytes}

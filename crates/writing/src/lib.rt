@@ -23,7 +23,7 @@ use words::part::half;
 use words::total::total_in;
 
 // The number of bytes of the list written out, or the number with which that is refused.
-#[derive(Drop)]
+#[derive(Clone, Copy)]
 pub enum Counted {
     Bytes(usize),
     Refused(u32),

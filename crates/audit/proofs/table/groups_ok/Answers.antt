@@ -1,0 +1,30 @@
+-- `audit::table::groups_ok` tells whether each group's count is right: those passed are. Assumes nothing.
+use mathlib.Core.Bool.{true, false}
+use native.Mathlib.Omega.{arith}
+use borrow.Author.Tests.{ne_eqb, eq-eqb}
+use Rattle.logic.specs.Reflects.{all_none, all_more, all_stop}
+use Rattle.sizes.specs.Sizes.{group_count}
+use Rattle.words.specs.Table.{group_b}
+use Rattle.audit.proofs.Laws.{group_is}
+use Rattle.audit.proofs.table.groups_ok.Goals as goal
+
+pub loop-g-init : goal.loop-g-init
+loop-g-init c = (omega arith, all_none _)
+
+pub returns-then-words-h : goal.returns-then-words-h
+returns-then-words-h c =
+    let l = c.loop-g in
+    let a = c.args in
+    let u = c.used_in-m in
+    all_stop (group_b a.words.now) group_count l.g (omega arith)
+    (group_is a.words.now l.g u.result false u.ensures (ne_eqb _ _ c.if-words-h.true))
+
+pub loop-g-preserved : goal.loop-g-preserved
+loop-g-preserved c =
+    let l = c.loop-g in
+    let a = c.args in
+    let u = c.used_in-m in (
+      omega arith,
+      all_more (group_b a.words.now) l.g l.invariant.1
+          (group_is a.words.now l.g u.result true u.ensures (eq-eqb _ _ c.if-words-h.false)),
+    )

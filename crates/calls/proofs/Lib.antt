@@ -1,0 +1,14 @@
+pub mod Both
+pub mod ExportedBoth
+pub mod Rows
+pub mod ExportedRows
+pub mod MovedRuns
+pub mod SwappedRuns
+pub mod Copy
+pub mod Three
+pub mod ExportedSwapped
+pub mod Exported
+pub mod ExportedMoved
+pub mod Swapped
+pub mod Moved
+pub mod ExportedRound

@@ -1,0 +1,3 @@
+pub mod Taken
+pub mod Encoded
+pub mod Round

@@ -1,0 +1,34 @@
+-- The theorem for a list: looks that tell the list's entries, each with its best match, find the longest match. Assumes nothing.
+use Rattle.std.specs.Prelude.{◌≡◌, refl, ◌≢◌, Bool, true, false, cond, ◌||◌, List, [], ◌∷◌, ℕ, zero, suc, ◌+◌, ◌-◌, ◌/◌, ◌^◌, ◌≤◌}
+use Rattle.std.specs.Prelude.{◌<◌, eqb}
+use Rattle.std.proofs.Common.{sym, ap, ◌∙◌, arith, shr-shr, eq-eqb}
+use Rattle.std.proofs.lemmas.Bool.{false≢true}
+use Rattle.routes.specs.Route.{Route, key}
+use Rattle.routes.specs.Match.{longest}
+use Rattle.routes.specs.Room.{mem}
+use Rattle.logic.specs.Cases.{same, less}
+use Rattle.laws.specs.Sorted.{hop_skip}
+use Rattle.laws.specs.Longest.{Wfs, key_at, along, longest_last, last_same}
+use Rattle.logic.specs.Bools.{or_left, or_right}
+use Rattle.lengths.specs.Way.{Look, miss, hit, search, turns, turns_at, code, best}
+use Rattle.lengths.specs.Finds.{Marked}
+use Rattle.lengths.proofs.Finds.{way_finds}
+use Rattle.listing.specs.Heads.{picks, picks_more}
+use Rattle.lengths.specs.Marks.{held_at, is_entry, entries, best_at}
+use Rattle.lengths.specs.Entries.{key_other}
+use Rattle.lengths.specs.Held.{best_along, marked}
+
+module _ (rs : List Route) (w : Wfs 32 rs) (a : ℕ) where
+  abbrev g : ℕ → ℕ
+  g = along 32 a (omega arith) rs
+
+  abbrev E : ℕ → Bool
+  E m = mem (a / 2 ^ (32 - m)) (entries m rs)
+
+  -- looks that tell the entries of the list at the address
+  pub list_way : (look : ℕ → Look) → ((m : ℕ) → 1 ≤ m → m ≤ 32
+      → look m ≡ cond (mem (a / 2 ^ (32 - m)) (entries m rs)) (hit (best_at rs m (a / 2 ^ (32 - m)))) miss)
+      → search look 4 16 (best_at rs 0 (a / 2 ^ 32)) ≡ hit (code (longest 32 a rs))
+  list_way look f =
+      rw (best_along rs w a 0 (omega arith), longest_last 32 a (omega arith) rs w)
+      (way_finds look E g (record { at = λ m h k. f m h k ∙ rw (best_along rs w a m k) }) (marked rs w a))

@@ -1,0 +1,4 @@
+pub mod Won
+pub mod Lowest
+pub mod Updates
+pub mod Counted

@@ -1,0 +1,2 @@
+pub mod Fourth
+pub mod Any

@@ -1,0 +1,5 @@
+pub mod Tree
+pub mod SlotSet
+pub mod Taken
+pub mod Check
+pub mod Need

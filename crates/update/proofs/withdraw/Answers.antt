@@ -1,0 +1,8 @@
+-- `update::withdraw` meets its contract: the bytes lent are the address. Assumes nothing.
+use native.Mathlib.Omega.{arith}
+use Rattle.numbers.specs.Four.{four-number}
+use Rattle.update.proofs.withdraw.Goals as goal
+
+pub returns : goal.returns
+returns c =
+    rw (c.four_of-bytes.ensures, four-number c.args.address (omega arith)) at c.withdraw_of.ensures

@@ -1,0 +1,5 @@
+pub mod Steps
+pub mod Joined
+pub mod Enough
+pub mod Fed
+pub mod Example
