@@ -1,6 +1,7 @@
-/* The C face for any processor. The proved functions of the kit's module take every slice, IPv6 address and answer by pointer,
- * which is the same in each calling convention; this file turns that into the calls of toggleash.h, by the convention of the
- * processor that it is compiled for. ./build compiles it together with the module, so that a call costs nothing more. */
+/* The C face for any processor. The proved functions of the kit's module take a slice as its start and a length of 64 bits, and
+ * every IPv6 address and answer by pointer, whatever the calling convention; this file turns that into the calls of toggleash.h, by
+ * the convention of the processor that it is compiled for. ./build compiles it together with the module, so that a call costs
+ * next to nothing more. */
 #define TOGGLEASH_ARCHIVE
 #include "toggleash.h"
 #include "slice.h"
@@ -18,35 +19,35 @@ LAID_OUT(needed, 16, words, uint64_t);
 LAID_OUT(built, 24, markers, uint64_t);
 
 /* The proved functions, under the names that ./build gives them in the module. */
-uint32_t proved_clear(slice *words);
-void proved_check(toggleash_counts *r, slice *words);
-void proved_lookup(toggleash_answer *r, slice *words, uint32_t address);
-void proved_within(toggleash_total *r, slice *words, uint32_t address, uint32_t length);
-void proved_announce(toggleash_update *r, slice *words, uint32_t address, uint32_t length, uint32_t hop, uint32_t feed,
+uint32_t proved_clear(SLICE(words));
+void proved_check(toggleash_counts *r, SLICE(words));
+void proved_lookup(toggleash_answer *r, SLICE(words), uint32_t address);
+void proved_within(toggleash_total *r, SLICE(words), uint32_t address, uint32_t length);
+void proved_announce(toggleash_update *r, SLICE(words), uint32_t address, uint32_t length, uint32_t hop, uint32_t feed,
                      uint8_t preference);
-void proved_withdraw(toggleash_update *r, slice *words, uint32_t address, uint32_t length, uint32_t feed);
-void proved_write_out(toggleash_written *r, slice *words, slice *buffer);
-void proved_run(toggleash_ran *r, slice *words, slice *feed, slice *reply);
-void proved_announce_local(toggleash_update *r, slice *words, uint32_t address, uint32_t length, uint32_t hop, uint32_t feed,
+void proved_withdraw(toggleash_update *r, SLICE(words), uint32_t address, uint32_t length, uint32_t feed);
+void proved_write_out(toggleash_written *r, SLICE(words), SLICE(buffer));
+void proved_run(toggleash_ran *r, SLICE(words), SLICE(feed), SLICE(reply));
+void proved_announce_local(toggleash_update *r, SLICE(words), uint32_t address, uint32_t length, uint32_t hop, uint32_t feed,
                            uint8_t preference);
-void proved_withdraw_local(toggleash_update *r, slice *words, uint32_t address, uint32_t length, uint32_t feed);
-void proved_run_local(toggleash_ran *r, slice *words, slice *feed, slice *reply);
-uint32_t proved_v6_clear(slice *words);
-void proved_v6_check(toggleash_counts *r, slice *words);
-void proved_v6_lookup(toggleash_answer *r, slice *words, toggleash_ipv6 *address);
-void proved_v6_within(toggleash_total *r, slice *words, toggleash_ipv6 *address, uint32_t length);
-void proved_v6_announce(toggleash_update *r, slice *words, toggleash_ipv6 *address, uint32_t length, uint32_t hop,
+void proved_withdraw_local(toggleash_update *r, SLICE(words), uint32_t address, uint32_t length, uint32_t feed);
+void proved_run_local(toggleash_ran *r, SLICE(words), SLICE(feed), SLICE(reply));
+uint32_t proved_v6_clear(SLICE(words));
+void proved_v6_check(toggleash_counts *r, SLICE(words));
+void proved_v6_lookup(toggleash_answer *r, SLICE(words), toggleash_ipv6 *address);
+void proved_v6_within(toggleash_total *r, SLICE(words), toggleash_ipv6 *address, uint32_t length);
+void proved_v6_announce(toggleash_update *r, SLICE(words), toggleash_ipv6 *address, uint32_t length, uint32_t hop,
                         uint32_t feed, uint8_t preference);
-void proved_v6_withdraw(toggleash_update *r, slice *words, toggleash_ipv6 *address, uint32_t length, uint32_t feed);
-void proved_v6_write_out(toggleash_written *r, slice *words, slice *buffer);
-void proved_v6_run(toggleash_ran *r, slice *words, slice *feed, slice *reply);
-void proved_v6_announce_local(toggleash_update *r, slice *words, toggleash_ipv6 *address, uint32_t length, uint32_t hop,
+void proved_v6_withdraw(toggleash_update *r, SLICE(words), toggleash_ipv6 *address, uint32_t length, uint32_t feed);
+void proved_v6_write_out(toggleash_written *r, SLICE(words), SLICE(buffer));
+void proved_v6_run(toggleash_ran *r, SLICE(words), SLICE(feed), SLICE(reply));
+void proved_v6_announce_local(toggleash_update *r, SLICE(words), toggleash_ipv6 *address, uint32_t length, uint32_t hop,
                               uint32_t feed, uint8_t preference);
-void proved_v6_withdraw_local(toggleash_update *r, slice *words, toggleash_ipv6 *address, uint32_t length, uint32_t feed);
-void proved_v6_run_local(toggleash_ran *r, slice *words, slice *feed, slice *reply);
-void proved_copy_need(toggleash_needed *r, slice *bytes);
-void proved_copy_build(toggleash_built *r, slice *bytes, slice *words);
-void proved_copy_lookup(toggleash_match *r, slice *words, uint32_t address);
+void proved_v6_withdraw_local(toggleash_update *r, SLICE(words), toggleash_ipv6 *address, uint32_t length, uint32_t feed);
+void proved_v6_run_local(toggleash_ran *r, SLICE(words), SLICE(feed), SLICE(reply));
+void proved_copy_need(toggleash_needed *r, SLICE(bytes));
+void proved_copy_build(toggleash_built *r, SLICE(bytes), SLICE(words));
+void proved_copy_lookup(toggleash_match *r, SLICE(words), uint32_t address);
 
 /* The version is in the name. */
 #define JOINED_(start, end) start##end
@@ -58,182 +59,157 @@ uint32_t JOINED(toggleash_version_, TOGGLEASH_VERSION)(void) {
 }
 
 uint32_t toggleash_clear(uint32_t *words, size_t n) {
-    slice w = of(words, n);
-    return proved_clear(&w);
+    return proved_clear(OF(words, n));
 }
 
 toggleash_counts toggleash_check(const uint32_t *words, size_t n) {
     toggleash_counts r;
-    slice w = of(words, n);
-    proved_check(&r, &w);
+    proved_check(&r, OF(words, n));
     return r;
 }
 
 toggleash_answer toggleash_lookup(const uint32_t *words, size_t n, uint32_t address) {
     toggleash_answer r;
-    slice w = of(words, n);
-    proved_lookup(&r, &w, address);
+    proved_lookup(&r, OF(words, n), address);
     return r;
 }
 
 toggleash_total toggleash_within(const uint32_t *words, size_t n, uint32_t address, uint32_t length) {
     toggleash_total r;
-    slice w = of(words, n);
-    proved_within(&r, &w, address, length);
+    proved_within(&r, OF(words, n), address, length);
     return r;
 }
 
 toggleash_update toggleash_announce(uint32_t *words, size_t n, uint32_t address, uint32_t length, uint32_t hop,
                                     uint32_t feed, uint8_t preference) {
     toggleash_update r;
-    slice w = of(words, n);
-    proved_announce(&r, &w, address, length, hop, feed, preference);
+    proved_announce(&r, OF(words, n), address, length, hop, feed, preference);
     return r;
 }
 
 toggleash_update toggleash_withdraw(uint32_t *words, size_t n, uint32_t address, uint32_t length, uint32_t feed) {
     toggleash_update r;
-    slice w = of(words, n);
-    proved_withdraw(&r, &w, address, length, feed);
+    proved_withdraw(&r, OF(words, n), address, length, feed);
     return r;
 }
 
 toggleash_written toggleash_write_out(const uint32_t *words, size_t n, uint8_t *buffer, size_t room) {
     toggleash_written r;
-    slice w = of(words, n), b = of(buffer, room);
-    proved_write_out(&r, &w, &b);
+    proved_write_out(&r, OF(words, n), OF(buffer, room));
     return r;
 }
 
 toggleash_ran toggleash_run(uint32_t *words, size_t n, const uint8_t *feed, size_t feed_len, uint8_t *reply,
                             size_t reply_len) {
     toggleash_ran r;
-    slice w = of(words, n), f = of(feed, feed_len), p = of(reply, reply_len);
-    proved_run(&r, &w, &f, &p);
+    proved_run(&r, OF(words, n), OF(feed, feed_len), OF(reply, reply_len));
     return r;
 }
 
 toggleash_update toggleash_announce_local(uint32_t *words, size_t n, uint32_t address, uint32_t length, uint32_t hop,
                                           uint32_t feed, uint8_t preference) {
     toggleash_update r;
-    slice w = of(words, n);
-    proved_announce_local(&r, &w, address, length, hop, feed, preference);
+    proved_announce_local(&r, OF(words, n), address, length, hop, feed, preference);
     return r;
 }
 
 toggleash_update toggleash_withdraw_local(uint32_t *words, size_t n, uint32_t address, uint32_t length, uint32_t feed) {
     toggleash_update r;
-    slice w = of(words, n);
-    proved_withdraw_local(&r, &w, address, length, feed);
+    proved_withdraw_local(&r, OF(words, n), address, length, feed);
     return r;
 }
 
 toggleash_ran toggleash_run_local(uint32_t *words, size_t n, const uint8_t *feed, size_t feed_len, uint8_t *reply,
                                   size_t reply_len) {
     toggleash_ran r;
-    slice w = of(words, n), f = of(feed, feed_len), p = of(reply, reply_len);
-    proved_run_local(&r, &w, &f, &p);
+    proved_run_local(&r, OF(words, n), OF(feed, feed_len), OF(reply, reply_len));
     return r;
 }
 
 uint32_t toggleash_v6_clear(uint32_t *words, size_t n) {
-    slice w = of(words, n);
-    return proved_v6_clear(&w);
+    return proved_v6_clear(OF(words, n));
 }
 
 toggleash_counts toggleash_v6_check(const uint32_t *words, size_t n) {
     toggleash_counts r;
-    slice w = of(words, n);
-    proved_v6_check(&r, &w);
+    proved_v6_check(&r, OF(words, n));
     return r;
 }
 
 toggleash_answer toggleash_v6_lookup(const uint32_t *words, size_t n, toggleash_ipv6 address) {
     toggleash_answer r;
-    slice w = of(words, n);
-    proved_v6_lookup(&r, &w, &address);
+    proved_v6_lookup(&r, OF(words, n), &address);
     return r;
 }
 
 toggleash_total toggleash_v6_within(const uint32_t *words, size_t n, toggleash_ipv6 address, uint32_t length) {
     toggleash_total r;
-    slice w = of(words, n);
-    proved_v6_within(&r, &w, &address, length);
+    proved_v6_within(&r, OF(words, n), &address, length);
     return r;
 }
 
 toggleash_update toggleash_v6_announce(uint32_t *words, size_t n, toggleash_ipv6 address, uint32_t length, uint32_t hop,
                                        uint32_t feed, uint8_t preference) {
     toggleash_update r;
-    slice w = of(words, n);
-    proved_v6_announce(&r, &w, &address, length, hop, feed, preference);
+    proved_v6_announce(&r, OF(words, n), &address, length, hop, feed, preference);
     return r;
 }
 
 toggleash_update toggleash_v6_withdraw(uint32_t *words, size_t n, toggleash_ipv6 address, uint32_t length,
                                        uint32_t feed) {
     toggleash_update r;
-    slice w = of(words, n);
-    proved_v6_withdraw(&r, &w, &address, length, feed);
+    proved_v6_withdraw(&r, OF(words, n), &address, length, feed);
     return r;
 }
 
 toggleash_written toggleash_v6_write_out(const uint32_t *words, size_t n, uint8_t *buffer, size_t room) {
     toggleash_written r;
-    slice w = of(words, n), b = of(buffer, room);
-    proved_v6_write_out(&r, &w, &b);
+    proved_v6_write_out(&r, OF(words, n), OF(buffer, room));
     return r;
 }
 
 toggleash_ran toggleash_v6_run(uint32_t *words, size_t n, const uint8_t *feed, size_t feed_len, uint8_t *reply,
                                size_t reply_len) {
     toggleash_ran r;
-    slice w = of(words, n), f = of(feed, feed_len), p = of(reply, reply_len);
-    proved_v6_run(&r, &w, &f, &p);
+    proved_v6_run(&r, OF(words, n), OF(feed, feed_len), OF(reply, reply_len));
     return r;
 }
 
 toggleash_update toggleash_v6_announce_local(uint32_t *words, size_t n, toggleash_ipv6 address, uint32_t length,
                                              uint32_t hop, uint32_t feed, uint8_t preference) {
     toggleash_update r;
-    slice w = of(words, n);
-    proved_v6_announce_local(&r, &w, &address, length, hop, feed, preference);
+    proved_v6_announce_local(&r, OF(words, n), &address, length, hop, feed, preference);
     return r;
 }
 
 toggleash_update toggleash_v6_withdraw_local(uint32_t *words, size_t n, toggleash_ipv6 address, uint32_t length,
                                              uint32_t feed) {
     toggleash_update r;
-    slice w = of(words, n);
-    proved_v6_withdraw_local(&r, &w, &address, length, feed);
+    proved_v6_withdraw_local(&r, OF(words, n), &address, length, feed);
     return r;
 }
 
 toggleash_ran toggleash_v6_run_local(uint32_t *words, size_t n, const uint8_t *feed, size_t feed_len, uint8_t *reply,
                                      size_t reply_len) {
     toggleash_ran r;
-    slice w = of(words, n), f = of(feed, feed_len), p = of(reply, reply_len);
-    proved_v6_run_local(&r, &w, &f, &p);
+    proved_v6_run_local(&r, OF(words, n), OF(feed, feed_len), OF(reply, reply_len));
     return r;
 }
 
 toggleash_needed toggleash_copy_need(const uint8_t *bytes, size_t bytes_len) {
     toggleash_needed r;
-    slice b = of(bytes, bytes_len);
-    proved_copy_need(&r, &b);
+    proved_copy_need(&r, OF(bytes, bytes_len));
     return r;
 }
 
 toggleash_built toggleash_copy_build(const uint8_t *bytes, size_t bytes_len, uint32_t *words, size_t n) {
     toggleash_built r;
-    slice b = of(bytes, bytes_len), w = of(words, n);
-    proved_copy_build(&r, &b, &w);
+    proved_copy_build(&r, OF(bytes, bytes_len), OF(words, n));
     return r;
 }
 
 toggleash_match toggleash_copy_lookup(const uint32_t *words, size_t n, uint32_t address) {
     toggleash_match r;
-    slice w = of(words, n);
-    proved_copy_lookup(&r, &w, address);
+    proved_copy_lookup(&r, OF(words, n), address);
     return r;
 }

@@ -1,5 +1,5 @@
 /* The C face of resolving for any processor, as tools/face.c is that of the table: ./build compiles it together with the module
- * that the kit makes of the crate `resolver`. */
+ * that the kit makes of the crate `resolver_c`. */
 #define TOGGLEASH_ARCHIVE
 #include "toggleash_resolve.h"
 #include "slice.h"
@@ -10,7 +10,7 @@ _Static_assert(_Alignof(toggleash_hop) == 4, "an entry is not aligned as in the 
 
 /* The proved functions, under the names that ./build gives them in the module. */
 uint32_t proved_resolve_version_6(void);
-void proved_resolve(toggleash_route *r, slice *words, slice *entries, uint32_t address);
+void proved_resolve(toggleash_route *r, SLICE(words), SLICE(entries), uint32_t address);
 
 uint32_t toggleash_resolve_version_6(void) {
     return proved_resolve_version_6();
@@ -19,7 +19,6 @@ uint32_t toggleash_resolve_version_6(void) {
 toggleash_route toggleash_resolve(const uint32_t *words, size_t n, const toggleash_hop *entries, size_t count,
                                   uint32_t address) {
     toggleash_route r;
-    slice w = of(words, n), e = of(entries, count);
-    proved_resolve(&r, &w, &e, address);
+    proved_resolve(&r, OF(words, n), OF(entries, count), address);
     return r;
 }

@@ -1,9 +1,10 @@
 # Turns the kit's module into one for any processor: awk -v face=FACE.c -f portable.awk FACE.ll MODULE.ll >
 # PORTABLE.ll, all three as text.
 #
-# The module has each exported call twice: the proved function, with every slice, struct and answer by pointer, and a face by
-# x86-64's calling convention. The faces go, since the face has them; the proved functions get the names and the declarations that
-# the face calls them by. What the face calls and the module lacks, or has with other types, ends this with one line and status 1,
+# The module has each exported call twice: the proved function, with every slice as its start and its length, every struct by
+# pointer, the answer too but for one of two fields, which is a pair, and a face by x86-64's calling convention. The faces go, since
+# the face has them; the proved functions get the names and the declarations that the face calls them by, and where the answer is a
+# pair a function that stores it. What the face calls and the module lacks, or has with other types, ends this with one line and status 1,
 # and so does a call of the module that the face lacks: names inside the module are the kit's own matter and may change with it.
 
 function fail(text) {
@@ -55,6 +56,18 @@ function named(list,    n, part, i, all) {
     return all
 }
 
+# A function for the face that stores the pair which a function of the module answers with.
+function storing(call, name, pair,    n, part, i, type, all) {
+    n = split(given[call], part, / *, */)
+    for (i = 2; i <= n; i++) {
+        type = part[i]
+        sub(/ .*/, "", type)
+        all = all (i > 2 ? ", " : "") type " %a" (i - 1)
+    }
+    return "\ndefine void @proved_" call "(" named(given[call]) ") {\n  %pair = call " pair " " name "(" all ")\n  store " pair \
+        " %pair, ptr %a0\n  ret void\n}\n"
+}
+
 FNR == 1 { file++ }
 
 file == 1 && /^declare .*@proved_/ {
@@ -77,12 +90,19 @@ dropping {
         dropping = 0
     next
 }
-/^define internal .*@"(toggleash::((copies|local|six)::)?|resolver::|packing::|shortener::|damper::)toggleash_/ {
-    call = name_after("toggleash_")
-    if (!(call in given) || types(given[call]) != types(parameters()) || plain(result[call]) != plain(returned()))
+/^define internal .*@"(toggleash|resolver|packing|shortener|damper)_c::((copies|local|six)::)?toggleash_/ {
+    call = name_after("::toggleash_")
+    is_pair = plain(returned()) ~ /^[{]/
+    taken = (is_pair ? " ptr" : "") types(parameters())
+    answer = is_pair ? "void" : plain(returned())
+    if (!(call in given) || types(given[call]) != taken || plain(result[call]) != answer)
         fail("the module has toggleash_" call " with other types than " face ": " $0)
     found[call]
-    $0 = "define " result[call] " @proved_" call "(" named(given[call]) ")" substr($0, index($0, ")") + 1)
+    if (is_pair) {
+        match($0, /@"[^"]*"/)
+        pairs = pairs storing(call, substr($0, RSTART, RLENGTH), plain(returned()))
+    } else
+        $0 = "define " result[call] " @proved_" call "(" named(given[call]) ")" substr($0, index($0, ")") + 1)
 }
 {
     gsub(/captures\(none\)/, "nocapture") # the word that older readers of such text know too
@@ -96,4 +116,5 @@ END {
     for (call in given)
         if (!(call in found))
             fail("the module has no function toggleash_" call)
+    printf "%s", pairs
 }
