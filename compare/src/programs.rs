@@ -1,6 +1,5 @@
 //! The proved program beside the reference: the same bytes on standard input, the same bytes on standard output.
 
-use std::env;
 use std::io::{ErrorKind, Write};
 use std::process::{Command, Output, Stdio};
 use std::thread;
@@ -25,7 +24,7 @@ pub fn compare(
     let cut = random.chance(5).then(|| random.below(length + 1));
     let mut second = Command::new(reference[0]);
     second.args(&reference[1..]);
-    let (ours, theirs) = (output(linked(proved), &feed, cut)?, output(second, &feed, cut)?);
+    let (ours, theirs) = (output(Command::new(proved), &feed, cut)?, output(second, &feed, cut)?);
     if ours == theirs {
         return Ok(ours.iter().filter(|&&byte| byte == b'\n').count());
     }
@@ -35,16 +34,6 @@ pub fn compare(
         Some((at, (our, their))) => format!("line {}: '{our}' and '{their}' for {} bytes", at + 1, feed.len()),
         None => format!("one output goes on where the other ends, for {} bytes", feed.len()),
     })
-}
-
-/// The proved program, under the runner that TOGGLEASH_RUNNER names where it names one: the kit builds for one processor.
-fn linked(program: &str) -> Command {
-    let Some(runner) = env::var_os("TOGGLEASH_RUNNER").filter(|runner| !runner.is_empty()) else {
-        return Command::new(program);
-    };
-    let mut command = Command::new(runner);
-    command.arg(program);
-    command
 }
 
 fn output(mut command: Command, feed: &[u8], cut: Option<usize>) -> Result<Vec<u8>, String> {

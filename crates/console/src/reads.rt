@@ -1,12 +1,15 @@
 // Bytes read from a file, and bytes of a record or a reply as numbers. What is past the end counts as 0.
-ghost use Rattle.std.specs.Prelude.{◌+◌, ◌*◌, ◌<◌, ◌≤◌, ◌≡◌, get_or, length, IfOk};
+ghost use Rattle.std.specs.Prelude.{◌+◌, ◌*◌, ◌<◌, ◌≤◌, ◌≡◌, get_or, length, take, IfOk};
+ghost use Rattle.std.specs.Io.KnownBytes.{Consumes, IsAtEnd};
 
 use std::io;
 use std::io::Read;
 
 // Fills the bytes from the front, as far as the file goes, and hands back how many it gave.
 pub(crate) fn fill<I: Read>(file: &mut I, input: &mut [u8]) -> io::Result<usize>
-    ensures { IfOk result (λ n. n ≤ length input.new) }
+    ensures within { IfOk result (λ n. n ≤ length input.new) }
+    ensures bytes { IfOk result (λ n. Consumes (I.remaining file.old) (I.remaining file.new) (take n input.new)) }
+    ensures whole { IfOk result (λ n. n < length input.new → IsAtEnd (I.remaining file.new)) }
 {
     let mut n = 0;
     while n < input.len() {
