@@ -1,45 +1,36 @@
--- What the loops and returns of `address` ask, over plain numbers and lists. Assumes nothing.
-use mathlib.Core.Path.{◌≡◌, sym, ap, ap₂, ◌∙◌}
+-- What the returns of `address` ask, over plain numbers and lists. Assumes nothing.
+use mathlib.Core.Path.{◌≡◌, refl, sym, ap, ap₂, ◌∙◌}
 use mathlib.Core.Logic.{◌≢◌}
 use mathlib.Core.Bool.{Bool, true, false, not}
-use mathlib.Core.List.{List}
+use mathlib.Core.List.{List, [], ◌∷◌}
+use Rattle.std.specs.List.{list_any}
 use Prim.Native.Nat.{ℕ, ◌+◌, ◌-◌, ◌*◌, ◌/◌, ◌%◌, ◌^◌, ◌≤◌, ◌<◌}
-use native.Mathlib.Nat.{mod-one, zero-mul, mul-le-mul_right}
+use native.Mathlib.Nat.{zero-mul, mul-le-mul_right}
 use native.Mathlib.Omega.{arith}
 use lib.Dec.{eqb}
-use lib.ListN.{length, get_or, set, drop}
-use lib.Seq.{get_or-set_same, get_or-set_other}
+use lib.ListN.{length, get_or, drop}
 use lib.Pow.{pow_pos, mod-pow-add, mod-mod-pow}
-use borrow.Author.Tests.{eq-eqb, ne_eqb, eqb-true, eqb-false}
+use borrow.Author.Tests.{ne_eqb, eqb-true, eqb-false}
 use Rattle.logic.specs.Cases.{same}
 use Rattle.logic.specs.Bools.{not_true, not_false}
 use Rattle.routes.specs.Route.{stray}
-use Rattle.numbers.specs.Number.{number, AreBytes, number_some, number_end}
+use Rattle.numbers.specs.Number.{number, AreBytes}
 use Rattle.numbers.proofs.Number.{number_byte, number_rest}
 
--- ---- sixteen_of
+-- ---- bytes of which one is not 0
 
--- the first k bytes of an address are those lent
-abbrev pub Copied : List ℕ → List ℕ → ℕ → Type 0
-Copied bs a k = (i : ℕ) → i < k → get_or a i 0 ≡ get_or bs i 0
-
-pub copied_turn : (bs a : List ℕ) (k : ℕ) → k < length a → Copied bs a k → Copied bs (set a k (get_or bs k 0)) (k + 1)
-copied_turn bs a k h ok i l =
-    same i k
-    (λ e _. rw e (get_or-set_same a k (get_or bs k 0) 0 h))
-    (λ n _. get_or-set_other a k i (get_or bs k 0) 0 n ∙ ok i (omega arith))
-
--- ---- set_from
-
-pub set_here : (bs : List ℕ) (from i : ℕ) → i < length bs → number (drop i bs) ≡ number (drop from bs) → (get_or bs i 0 ≡ 0 → ⊥)
-    → true ≡ not (eqb (number (drop from bs)) 0)
-set_here bs from i h e n =
-    let p : number (drop from bs) ≡ 0 → ⊥ = λ z. omega (arith, number_some bs i h (omega arith)) in
-    sym (ap not (ne_eqb (number (drop from bs)) 0 p))
-
-pub set_none : (bs : List ℕ) (from i : ℕ) → length bs ≤ i → number (drop i bs) ≡ number (drop from bs)
-    → false ≡ not (eqb (number (drop from bs)) 0)
-set_none bs from i h e = sym (ap not (eq-eqb (number (drop from bs)) 0 (sym e ∙ number_end bs i h)))
+pub some_any : (bs : List ℕ) → list_any (λ y. not (eqb y 0)) bs ≡ not (eqb (number bs) 0)
+unfolding number
+some_any [] = refl
+some_any (b ∷ bs) =
+    let p = 2 ^ (8 * length bs) in
+    same b 0
+    (λ e t.
+    let z : b * p + number bs ≡ number bs = omega (arith, zero-mul p, ap (λ (n : ℕ). n * p) e) in
+    rw (t, some_any bs) (rw z))
+    (λ n t.
+    let g : 1 * p ≤ b * p = mul-le-mul_right p (omega arith) in
+    rw (t, ne_eqb (b * p + number bs) 0 (λ z. omega (arith, pow_pos (8 * length bs)))))
 
 -- ---- stray
 
@@ -62,11 +53,6 @@ module _ (bs : List ℕ) (ok : AreBytes bs) (l k : ℕ) (top : l ≤ 8 * length 
       ap (λ (n : ℕ). a % 2 ^ n) (sym p) ∙ mod-pow-add a s e
       ∙ ap₂ (λ (x z : ℕ). x * 2 ^ e + z) m (number_rest bs ok (k + 1) (omega arith))
 
-  pub stray_whole : k ≡ length bs → false ≡ stray (8 * length bs) (number bs) l
-  stray_whole h =
-      let e : 8 * length bs - l ≡ 0 = omega arith in
-      sym (ap not (eq-eqb (number bs % 2 ^ (8 * length bs - l)) 0 (ap (λ (n : ℕ). number bs % 2 ^ n) e ∙ mod-one (number bs))))
-
   abbrev here : Bool
   here = stray 8 (get_or bs k 0) (l % 8)
 
@@ -79,11 +65,11 @@ module _ (bs : List ℕ) (ok : AreBytes bs) (l k : ℕ) (top : l ≤ 8 * length 
       sym (ap not (ne_eqb (number bs % 2 ^ (8 * length bs - l)) 0 (λ z. omega (arith, after h, pow_pos e))))
 
   pub stray_rest : k < length bs → here ≡ false
-      → not (eqb (number (drop (k + 1) bs)) 0) ≡ stray (8 * length bs) (number bs) l
+      → list_any (λ y. not (eqb y 0)) (drop (k + 1) bs) ≡ stray (8 * length bs) (number bs) l
   stray_rest h n =
       let e = 8 * length bs - 8 * (k + 1) in
       let y = get_or bs k 0 % 2 ^ (8 - l % 8) in
       let z : y ≡ 0 = eqb-true y 0 (not_false (eqb y 0) n) in
       let f : number bs % 2 ^ (8 * length bs - l) ≡ number (drop (k + 1) bs) =
       after h ∙ ap (λ (n : ℕ). n * 2 ^ e + number (drop (k + 1) bs)) z ∙ omega (arith, zero-mul (2 ^ e)) in
-      rw f
+      some_any (drop (k + 1) bs) ∙ rw f

@@ -1,5 +1,4 @@
--- The number of an address by parts: one byte more, zeros behind the first bytes. And four bytes written down again. Assumes
--- nothing.
+-- The number of an address by parts: one byte more, zeros behind the first bytes. Assumes nothing.
 use Rattle.std.specs.Prelude.{◌≡◌, refl, List, [], ◌∷◌, ◌++◌, ℕ, zero, suc, ◌+◌, ◌-◌, ◌*◌, ◌^◌, ◌≤◌, ◌<◌, take, replicate}
 use Rattle.std.proofs.Math.Path.{ap}
 use Rattle.std.proofs.Common.{◌∙◌, zero-mul, arith, take-suc}
@@ -60,5 +59,3 @@ module _ (bs : List ℕ) (m : ℕ) (h : m ≤ length bs) where
 
   pub filled-bytes : AreBytes bs → AreBytes (filled m bs)
   filled-bytes ok i = less i m (λ s _. rw (filled-own i s) (ok i)) (λ s _. omega (arith, filled_zero i s))
-
--- ---- four bytes

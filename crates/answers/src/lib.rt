@@ -2,20 +2,23 @@
 // update, a run or a match is one struct in all of them.
 #![tactic(auto)]
 
-ghost use Rattle.std.specs.Prelude.{◌≡◌, cond, ◌≤◌, eqb};
+ghost use Rattle.std.specs.Prelude.{◌≡◌};
 ghost use Rattle.lookup.specs.Ended.{ended};
-ghost use Rattle.within.specs.Answer.{within_answer};
-ghost use Rattle.writing.specs.Answer.{count_answer};
-ghost use Rattle.feed.specs.Runs.{run_answer};
-ghost use Rattle.audit.specs.Answer.{clear_answer, check_answer};
+ghost use Rattle.audit.specs.Answer.{check_answer};
 ghost use Rattle.replies.specs.Said.{said_reply, said_match};
-ghost use Rattle.answers.specs.Numbers.{refusal as refusal_of, counted, looked, totalled, updated, wrote, ran, matched};
+ghost use Rattle.refusals.specs.Number.{said};
+ghost use Rattle.answers.specs.Numbers.{refusal as refusal_of, counted, looked, totalled, updated, wrote, ran, needed, matched};
 
-use replies::{Match, Reply};
+use audit::Counts;
+use feed::Report;
+use refusals::Refusal;
+use replies::{Best, Reply};
 use sizes::HOP_BOUND;
 
+// kept: the C interface has numbers for a refusal and for found or not.
+
 #[repr(C)]
-#[derive(Clone, Copy)]
+#[derive(Clone, Copy, Debug, Default, PartialEq, Eq)]
 pub struct Counted {
     pub refusal: u32,
     pub routes: u32,
@@ -23,7 +26,7 @@ pub struct Counted {
 }
 
 #[repr(C)]
-#[derive(Clone, Copy)]
+#[derive(Clone, Copy, Debug, Default, PartialEq, Eq)]
 pub struct Found {
     pub refusal: u32,
     pub found: u32,
@@ -33,14 +36,14 @@ pub struct Found {
 }
 
 #[repr(C)]
-#[derive(Clone, Copy)]
+#[derive(Clone, Copy, Debug, Default, PartialEq, Eq)]
 pub struct Total {
     pub refusal: u32,
     pub prefixes: u32,
 }
 
 #[repr(C)]
-#[derive(Clone, Copy)]
+#[derive(Clone, Copy, Debug, Default, PartialEq, Eq)]
 pub struct Updated {
     pub refusal: u32,
     pub hop: u32,
@@ -48,14 +51,14 @@ pub struct Updated {
 }
 
 #[repr(C)]
-#[derive(Clone, Copy)]
+#[derive(Clone, Copy, Debug, Default, PartialEq, Eq)]
 pub struct Written {
     pub refusal: u32,
     pub bytes: u64,
 }
 
 #[repr(C)]
-#[derive(Clone, Copy)]
+#[derive(Clone, Copy, Debug, Default, PartialEq, Eq)]
 pub struct Ran {
     pub refusal: u32,
     pub stop: u32,
@@ -66,14 +69,14 @@ pub struct Ran {
 }
 
 #[repr(C)]
-#[derive(Clone, Copy)]
+#[derive(Clone, Copy, Debug, Default, PartialEq, Eq)]
 pub struct Needed {
     pub refusal: u32,
     pub words: u64,
 }
 
 #[repr(C)]
-#[derive(Clone, Copy)]
+#[derive(Clone, Copy, Debug, Default, PartialEq, Eq)]
 pub struct Matched {
     pub refusal: u32,
     pub found: u32,
@@ -83,167 +86,167 @@ pub struct Matched {
 
 // ---- answers in plain numbers: the refusal's number, or 0 and the values
 
-pub fn number(answer: audit::Cleared) -> u32
-    ensures { result ≡ refusal_of (clear_answer answer) }
+pub fn number(answer: Result<(), Refusal>) -> u32
+    ensures { result ≡ refusal_of (said answer) }
 {
     match answer {
-        audit::Cleared::Done => 0,
-        audit::Cleared::Refused(n) => n,
+        Ok(()) => 0,
+        Err(why) => why.number(),
     }
 }
 
-pub fn counts(answer: audit::Checked) -> Counted
-    ensures { result ≡ counted (check_answer answer) }
-{
-    match answer {
-        audit::Checked::Counts(routes, arrays) => Counted {
-            refusal: 0,
-            routes: routes,
-            arrays: arrays,
-        },
-        audit::Checked::Refused(n) => Counted {
-            refusal: n,
-            routes: 0,
-            arrays: 0,
-        },
-    }
-}
+impl From<Result<Counts, Refusal>> for Counted {
+    ghost from_gives = { λ answer r. r ≡ counted (check_answer answer) };
 
-// 1 for a hop, 0 for none.
-fn some(hop: u32) -> u32
-    ensures { (result ≡ cond (eqb hop 0) 0 1) × (result ≤ 1) }
-{
-    if hop == 0 { 0 } else { 1 }
+    fn from(answer: Result<Counts, Refusal>) -> Counted {
+        match answer {
+            Ok(Counts { routes, arrays }) => Counted {
+                refusal: 0,
+                routes,
+                arrays,
+            },
+            Err(why) => Counted {
+                refusal: why.number(),
+                ..Counted::default()
+            },
+        }
+    }
 }
 
 // A walk's end is not told apart by cases: a branch on whether something was found would go either way, and a lookup of random
 // addresses take half as long again.
+// kept: speed, by that half; so it is a function of numbers and no `From` over cases.
 pub fn finding(end: lookup::End) -> Found
     ensures { result ≡ looked (ended end) }
 {
     if end.block > lookup::MOST_BITS {
         return Found {
             refusal: end.block - lookup::MOST_BITS,
-            found: 0,
-            hop: 0,
-            length: 0,
-            block: 0,
+            ..Found::default()
         };
     }
     let hop = end.best % HOP_BOUND;
-    let found = some(hop);
+    let found = u32::from(hop != 0);
     Found {
         refusal: 0,
-        found: found,
-        hop: hop,
+        found,
+        hop,
         length: found * (end.best / HOP_BOUND),
         block: end.block,
     }
 }
 
-pub fn inside(answer: within::Inside) -> Total
-    ensures { result ≡ totalled (within_answer answer) }
-{
-    match answer {
-        within::Inside::Prefixes(n) => Total {
-            refusal: 0,
-            prefixes: n,
-        },
-        within::Inside::Refused(n) => Total {
-            refusal: n,
-            prefixes: 0,
-        },
+impl From<Result<u32, Refusal>> for Total {
+    ghost from_gives = { λ answer r. r ≡ totalled (said answer) };
+
+    fn from(answer: Result<u32, Refusal>) -> Total {
+        match answer {
+            Ok(prefixes) => Total {
+                refusal: 0,
+                prefixes,
+            },
+            Err(why) => Total {
+                refusal: why.number(),
+                ..Total::default()
+            },
+        }
     }
 }
 
 // No update is found, nor nothing.
-pub fn change(answer: Reply) -> Updated
-    ensures { result ≡ updated (said_reply answer) }
-{
-    match answer {
-        Reply::Done(hop, cells) => Updated {
-            refusal: 0,
-            hop: hop,
-            cells: cells,
-        },
-        Reply::Found(_, _, _) => Updated {
-            refusal: 0,
-            hop: 0,
-            cells: 0,
-        },
-        Reply::Nothing(_) => Updated {
-            refusal: 0,
-            hop: 0,
-            cells: 0,
-        },
-        Reply::Refused(n) => Updated {
-            refusal: n,
-            hop: 0,
-            cells: 0,
-        },
+impl From<Reply> for Updated {
+    ghost from_gives = { λ answer r. r ≡ updated (said_reply answer) };
+
+    fn from(answer: Reply) -> Updated {
+        match answer {
+            Reply::Done(hop, cells) => Updated {
+                refusal: 0,
+                hop,
+                cells,
+            },
+            Reply::Found(..) | Reply::Nothing(_) => Updated::default(),
+            Reply::Refused(refusal) => Updated {
+                refusal,
+                ..Updated::default()
+            },
+        }
     }
 }
 
-pub fn size(answer: writing::Counted) -> Written
-    ensures { result ≡ wrote (count_answer answer) }
-{
-    match answer {
-        writing::Counted::Bytes(n) => Written {
-            refusal: 0,
-            bytes: n as u64,
-        },
-        writing::Counted::Refused(n) => Written {
-            refusal: n,
-            bytes: 0,
-        },
+// The bytes of a list written out.
+impl From<Result<usize, Refusal>> for Written {
+    ghost from_gives = { λ answer r. r ≡ wrote (said answer) };
+
+    fn from(answer: Result<usize, Refusal>) -> Written {
+        match answer {
+            Ok(bytes) => Written {
+                refusal: 0,
+                bytes: bytes as u64,
+            },
+            Err(why) => Written {
+                refusal: why.number(),
+                ..Written::default()
+            },
+        }
     }
 }
 
-pub fn report(answer: feed::Ran) -> Ran
-    ensures { result ≡ ran (run_answer answer) }
-{
-    match answer {
-        feed::Ran::Stopped(r) => Ran {
-            refusal: 0,
-            stop: r.stop,
-            consumed: r.consumed as u64,
-            written: r.written as u64,
-            accepted: r.accepted as u64,
-            refused: r.refused as u64,
-        },
-        feed::Ran::Refused(n) => Ran {
-            refusal: n,
-            stop: 0,
-            consumed: 0,
-            written: 0,
-            accepted: 0,
-            refused: 0,
-        },
+impl From<Result<Report, Refusal>> for Ran {
+    ghost from_gives = { λ answer r. r ≡ ran (said answer) };
+
+    fn from(answer: Result<Report, Refusal>) -> Ran {
+        match answer {
+            Ok(told) => Ran {
+                refusal: 0,
+                stop: told.stop,
+                consumed: told.consumed as u64,
+                written: told.written as u64,
+                accepted: told.accepted as u64,
+                refused: told.refused as u64,
+            },
+            Err(why) => Ran {
+                refusal: why.number(),
+                ..Ran::default()
+            },
+        }
+    }
+}
+
+// The words that an engine needs.
+impl From<Result<usize, Refusal>> for Needed {
+    ghost from_gives = { λ answer r. r ≡ needed (said answer) };
+
+    fn from(answer: Result<usize, Refusal>) -> Needed {
+        match answer {
+            Ok(words) => Needed {
+                refusal: 0,
+                words: words as u64,
+            },
+            Err(why) => Needed {
+                refusal: why.number(),
+                ..Needed::default()
+            },
+        }
     }
 }
 
 // A match of the read-only engines, which know no block.
-pub fn matching(answer: Match) -> Matched
-    ensures { result ≡ matched (said_match answer) }
-{
-    match answer {
-        Match::Found(hop, length) => Matched {
-            refusal: 0,
-            found: 1,
-            hop: hop,
-            length: length,
-        },
-        Match::Nothing => Matched {
-            refusal: 0,
-            found: 0,
-            hop: 0,
-            length: 0,
-        },
-        Match::Refused(n) => Matched {
-            refusal: n,
-            found: 0,
-            hop: 0,
-            length: 0,
-        },
+impl From<Result<Option<Best>, Refusal>> for Matched {
+    ghost from_gives = { λ answer r. r ≡ matched (said_match answer) };
+
+    fn from(answer: Result<Option<Best>, Refusal>) -> Matched {
+        match answer {
+            Ok(Some(Best { hop, length })) => Matched {
+                refusal: 0,
+                found: 1,
+                hop,
+                length,
+            },
+            Ok(None) => Matched::default(),
+            Err(why) => Matched {
+                refusal: why.number(),
+                ..Matched::default()
+            },
+        }
     }
 }

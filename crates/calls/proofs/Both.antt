@@ -11,9 +11,8 @@ use Rattle.candidates.specs.Bytes.{Sent as SentRecord, meanings, AllFit}
 use Rattle.candidates.specs.Runs.{run}
 use Rattle.candidates.specs.Seen.{table}
 use Rattle.words.specs.Table.{seen}
-use Rattle.feed.specs.Runs.{HasRun, report_of}
-use Rattle.feed.specs.declared.Ran.{Ran}
-use Rattle.weaves.specs.Feeds.{Weave, flip, heard, kept, kept_both, Meets, Closes, bytes}
+use Rattle.feed.specs.Runs.{Ran, HasRun, report_of}
+use Rattle.weaves.specs.Feeds.{Weave, flip, heard, kept_both, Meets, Closes, bytes}
 use Rattle.weaves.proofs.Enough.{enough}
 use Rattle.calls.proofs.Three.{demand_3_called}
 use Rattle.calls.specs.Three.{Called}

@@ -7,19 +7,15 @@
 use Rattle.std.specs.Prelude.{◌≡◌, List, ◌≤◌, length}
 use Rattle.std.proofs.Common.{sym, ap, ◌∙◌, le-ltb}
 use Rattle.routes.specs.Family.{v4}
-use Rattle.routes.specs.Route as routes
 use Rattle.routes.specs.Match.{longest}
 use Rattle.candidates.specs.Candidate.{Candidate}
 use Rattle.candidates.specs.Winners.{winners}
-use Rattle.candidates.specs.Seen.{table}
 use Rattle.rivals.specs.Won.{winners_list}
-use Rattle.lookup.specs.Walk.{walk}
 use Rattle.lengths.specs.Marks.{markers, words_for}
-use Rattle.listing.specs.Listed.{listed}
 use Rattle.lengths.specs.Laid.{Laid, laid_front}
 use Rattle.lengths.proofs.Laid.{laid_walk}
 use Rattle.lengths_build.specs.Build.{Leaves}
-use Rattle.answers.specs.Numbers.{needed, matched}
+use Rattle.answers.specs.Numbers.{matched}
 use Rattle.answers.specs.declared.Needed.{Needed}
 use Rattle.toggleash.specs.declared.copies.Built.{Built}
 use Rattle.calls.specs.Held.{held}

@@ -11,9 +11,8 @@ use Rattle.std.specs.Prelude.{◌≡◌, List, ℕ}
 use Rattle.std.proofs.Common.{sym, ap, ◌∙◌}
 use Rattle.routes.specs.Family.{Family, levels}
 use Rattle.routes.specs.Answers.{Reply}
-use Rattle.candidates.specs.Answers.{Record, update, lookup}
+use Rattle.candidates.specs.Answers.{Record}
 use Rattle.words.specs.Table.{seen}
-use Rattle.audit.specs.declared.Cleared.TheVariants as answer
 use Rattle.replies.specs.Said.{said_reply}
 use Rattle.feed.specs.Series as rattle
 use Rattle.calls.specs.Below.{lookup_below, update_below}

@@ -9,14 +9,11 @@ use Rattle.calls.specs.ExportedBoth.{RanBoth, Sent, SentBoth}
 use Rattle.std.specs.Prelude.{List, ℕ}
 use Rattle.routes.specs.Family.{Family, width}
 use Rattle.candidates.specs.Answers.{Update}
-use Rattle.candidates.specs.Runs.{run}
-use Rattle.feed.specs.declared.Ran.{Ran}
 use Rattle.weaves.specs.Feeds.{Weave, Meets}
-use Rattle.answers.specs.Numbers.{ran}
 use Rattle.calls.specs.Both as rattle
 use Rattle.calls.specs.Exported.{cleared}
 use Rattle.calls.proofs.Exported.{series_below}
-use Rattle.calls.specs.ExportedBoth.{holds, Run, replies, b, told-ran, under}
+use Rattle.calls.specs.ExportedBoth.{holds, Run, told-ran, under}
 
 pub demand_3_run_exported : {F : Family} {A : ℕ} {xs ys zs : List Update} (w : Weave xs ys zs) → Meets (width F) A xs ys
     → (j : Run F A zs) (f : Run F A xs) (s : Run F A ys) → RanBoth w j f s

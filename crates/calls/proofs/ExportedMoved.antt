@@ -9,7 +9,6 @@ use Rattle.std.specs.Prelude.{List, ℕ}
 use Rattle.routes.specs.Family.{Family, width}
 use Rattle.candidates.specs.Candidate.{Candidate}
 use Rattle.candidates.specs.Answers.{Update}
-use Rattle.candidates.specs.Seen.{table}
 use Rattle.swaps.specs.Moves.{Moves}
 use Rattle.calls.specs.Moved as rattle
 use Rattle.calls.proofs.Exported.{series_below}

@@ -7,9 +7,8 @@ use Rattle.std.specs.Prelude.{List, ℕ, length}
 use Rattle.std.proofs.Common.{ap, ◌∙◌, le-ltb}
 use Rattle.routes.specs.Family.{Family}
 use Rattle.candidates.specs.Candidate.{Candidate}
-use Rattle.candidates.specs.Seen.{table, bytes_for}
-use Rattle.feed.specs.Runs.{run_answer}
-use Rattle.feed.specs.declared.Ran.{Ran}
+use Rattle.candidates.specs.Seen.{bytes_for}
+use Rattle.feed.specs.Runs.{Ran, run_answer}
 use Rattle.answers.specs.Numbers.{ran}
 use Rattle.calls.specs.Held.{held}
 use Rattle.calls.specs.Round as rattle

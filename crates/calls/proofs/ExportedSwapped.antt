@@ -4,17 +4,15 @@ use Rattle.calls.proofs.SwappedRuns as runs_proved
 use Rattle.calls.proofs.Swapped as rattle_proved
 use Rattle.calls.specs.ExportedSwapped.{RunsSwapped, CallsSwapped}
 use Rattle.std.specs.Prelude.{◌≡◌, List, ℕ}
-use Rattle.std.proofs.Common.{ap}
 use Rattle.routes.specs.Family.{Family, width}
 use Rattle.candidates.specs.Candidate.{Candidate}
 use Rattle.candidates.specs.Answers.{Update, update, leaves}
 use Rattle.candidates.specs.Bytes.{Sent, means, meanings}
-use Rattle.candidates.specs.Runs.{run}
 use Rattle.swaps.specs.Moves.{Move}
 use Rattle.calls.proofs.Exported.{asked-below, series_below}
 use Rattle.calls.specs.Swapped as rattle
 use Rattle.calls.specs.SwappedFeeds.{neighbours}
-use Rattle.calls.specs.ExportedSwapped.{LaterAlike, InTurn, RunOf, b, run_under}
+use Rattle.calls.specs.ExportedSwapped.{LaterAlike, InTurn, RunOf, run_under}
 
 pub later_below : {F : Family} {ws vs : List ℕ} → rattle.LaterAlike F ws vs → LaterAlike F ws vs
 later_below l = record { calls = λ a b. l.calls (series_below a) (series_below b) }

@@ -9,7 +9,7 @@ use Rattle.std.specs.Prelude.{◌≡◌, List, ℕ}
 use Rattle.std.proofs.Common.{sym, ap, ◌∙◌}
 use Rattle.routes.specs.Family.{Family, levels, width}
 use Rattle.candidates.specs.Candidate.{Candidate}
-use Rattle.candidates.specs.Answers.{Update, answer}
+use Rattle.candidates.specs.Answers.{Update}
 use Rattle.candidates.specs.Seen.{table}
 use Rattle.laws.specs.Families.{width_low}
 use Rattle.words.specs.Table.{seen}

@@ -16,7 +16,7 @@ use Rattle.swaps.specs.Moves.{Moves, ends}
 use Rattle.swaps.proofs.Any.{moved}
 use Rattle.calls.specs.Swapped.{is_table}
 use Rattle.calls.proofs.Swapped.{later_alike}
-use Rattle.calls.specs.Moved.{told, told_is}
+use Rattle.calls.specs.Moved.{told_is}
 use Rattle.calls.specs.MovedRuns.{Logged, read, left}
 
 pub moved_run : {F : Family} {A : ℕ} {cs : List Candidate} {us vs : List Update} → Moves (width F) A cs us vs

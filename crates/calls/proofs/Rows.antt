@@ -2,9 +2,9 @@
 -- by their contracts, it is what the row says. Each update is of feed 1 with preference 0. Assumes nothing.
 --
 --     clear ──▶ the row's updates ──▶ the row's call ──▶ check
---     Done                            what it gives      the arrays
+--     Ok                              what it gives      the arrays
 use Rattle.std.specs.Prelude.{◌≡◌, List, [], ◌∷◌}
-use Rattle.candidates.specs.Small.{Case, got, gots, small, small_cases, further, further-cases}
+use Rattle.candidates.specs.Small.{Case, gots, small, small_cases, further, further-cases}
 use Rattle.calls.specs.Rows.{Played, AsSaid, as_said, Each}
 
 each : (cs : List Case) → gots cs ≡ cs → Each (λ c. (p : Played c) → AsSaid c p) cs

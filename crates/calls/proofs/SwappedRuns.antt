@@ -11,7 +11,6 @@ use Rattle.candidates.specs.Candidate.{Candidate}
 use Rattle.candidates.specs.Answers.{Update, update}
 use Rattle.candidates.specs.Answers as answers
 use Rattle.candidates.specs.Bytes.{Sent, means, meanings}
-use Rattle.candidates.specs.Runs.{run}
 use Rattle.candidates.specs.Seen.{table}
 use Rattle.words.specs.Table.{seen}
 use Rattle.swaps.specs.Moves.{Move}

@@ -9,10 +9,9 @@ use Rattle.std.specs.Prelude.{◌≡◌, List, ◌++◌, ℕ, length, drop}
 use Rattle.std.proofs.Common.{ap, ◌∙◌, le-ltb}
 use Rattle.routes.specs.Family.{Family, levels, width}
 use Rattle.candidates.specs.Answers.{Update}
-use Rattle.candidates.specs.Runs.{run}
 use Rattle.candidates.specs.Seen.{table, bytes_for}
 use Rattle.words.specs.Table.{seen}
-use Rattle.weaves.specs.Feeds.{Weave, heard, said, kept, kept_both, Meets, bytes, read_back}
+use Rattle.weaves.specs.Feeds.{Weave, said, kept_both, Meets, read_back}
 use Rattle.weaves.specs.Fed.{read_said, Together}
 use Rattle.weaves.proofs.Fed.{answered, demand_3_fed}
 use Rattle.calls.specs.Three.{Call, Left, ran_is, fed, replied}

@@ -5,36 +5,36 @@
 --     toggleash_run   its promise holds of the numbers n
 --          │
 --         run         its promise holds of an answer r, and r tells n
-use Rattle.std.specs.Prelude.{◌≡◌, refl, true, List, ◌++◌, ℕ, length, drop}
-use Rattle.std.proofs.Common.{sym, ap, ◌∙◌, arith}
+use Rattle.std.specs.Prelude.{◌≡◌, refl, true, List, ◌++◌, ℕ, zero, suc, ◌-◌, ◌*◌, length, drop, ltb, eqb, Result, Ok, Err}
+use Rattle.std.proofs.Common.{sym, ap, ◌∙◌}
+use Rattle.logic.specs.Cases.{bool}
 use Rattle.std.proofs.lemmas.Bool.{false≢true}
 use Rattle.routes.specs.Family.{Family, levels, width}
 use Rattle.routes.specs.Answers.{Reply, done, found, none, refused, is_refused}
 use Rattle.routes.specs.Seen.{Answer, gives, refuses, Counts}
 use Rattle.candidates.specs.Answers.{Update}
 use Rattle.candidates.specs.Runs.{Ran as Outcome}
+use Rattle.candidates.specs.Seen.{Seen, misfit, foreign, table, misfits, bytes_for}
 use Rattle.candidates.specs.Seen.{answer_on, lookup_on, clear_on, check_on, count_on, front_on, run_on}
 use Rattle.words.specs.Table.{seen}
 use Rattle.audit.specs.Answer as audit
-use Rattle.audit.specs.declared.Cleared.{Cleared}
-use Rattle.audit.specs.declared.Cleared.TheVariants as cleared
-use Rattle.audit.specs.declared.Checked.{Checked}
-use Rattle.audit.specs.declared.Checked.TheVariants as checked
+use Rattle.audit.specs.declared.Counts.{Counts as Counted_so}
+use Rattle.refusals.specs.declared.Refusal.{Refusal}
+use Rattle.refusals.specs.Number.{number, refusal_of, said}
 use Rattle.replies.specs.Said.{said_reply, reply_of, said_back}
 use Rattle.lookup.specs.Walk.{walk}
-use Rattle.inside.specs.Seen.{within_on}
+use Rattle.inside.specs.Inside.{prefixes_inside}
+use Rattle.inside.specs.Seen.{asked, within_on}
+use Rattle.routes.specs.Route.{too_long, stray}
+use Rattle.routes.specs.Room.{level}
+use Rattle.numbers.specs.Front.{byte_of}
+use Rattle.sizes.specs.Sizes.{last_slot}
+use Rattle.words.specs.Words.{arrays_of, array_count, totals_of}
 use Rattle.within.specs.Walk as total
 use Rattle.within.specs.Answer.{within_answer}
-use Rattle.within.specs.declared.Inside.{Inside}
-use Rattle.within.specs.declared.Inside.TheVariants as inside
 use Rattle.update.specs.Update as update
 use Rattle.writing.specs.Answer.{count_answer, HasFilled, front_length, front_none}
-use Rattle.writing.specs.declared.Counted.{Counted as Size}
-use Rattle.writing.specs.declared.Counted.TheVariants as size
 use Rattle.feed.specs.Runs as feed
-use Rattle.feed.specs.declared.Report.{Report}
-use Rattle.feed.specs.declared.Ran.{Ran}
-use Rattle.feed.specs.declared.Ran.TheVariants as stop
 use Rattle.answers.specs.Numbers.{refusal, counted, looked, totalled, updated, wrote, ran}
 use Rattle.toggleash.specs.Face.{HasCleared, HasUpdated, HasWritten, HasRun}
 use Rattle.answers.specs.declared.Counted.{Counted}
@@ -50,38 +50,50 @@ pub record Below {T N : Type 0} (numbers : T → N) (P : T → Type 0) (n : N) :
   pub told : n ≡ numbers answer
   pub promise : P answer
 
+-- ---- answers as results
+
+-- a refusal by its name
+abbrev as_result : {T : Type 0} → Answer T → Result T Refusal
+as_result (gives x) = Ok x
+as_result (refuses n) = Err (refusal_of n)
+
+-- the number of a refusal has a name
+abbrev Named : {T : Type 0} → Answer T → Type 0
+Named (gives x) = Unit {0}
+Named (refuses n) = number (refusal_of n) ≡ n
+
+result_back : {T : Type 0} (a : Answer T) → Named a → said (as_result a) ≡ a
+result_back (gives x) n = refl
+result_back (refuses m) n = ap refuses n
+
 -- ---- toggleash_clear, toggleash_check
 
-abbrev as_cleared : Answer (Unit {0}) → Cleared
-as_cleared (gives u) = cleared.Done
-as_cleared (refuses n) = cleared.Refused n
-
-clear_back : (a : Answer (Unit {0})) → audit.clear_answer (as_cleared a) ≡ a
-clear_back (gives u) = refl
-clear_back (refuses n) = refl
+clear_back : (n : ℕ) → audit.clear_answer (as_result (clear_on n)) ≡ clear_on n
+clear_back n = result_back (clear_on n) (bool (misfits n) (λ e. rw e refl) (λ e. rw e tt))
 
 pub clear_below : (F : Family) (ws vs : List ℕ) (n : ℕ) → HasCleared F ws vs n
     → Below (λ r. refusal (audit.clear_answer r)) (audit.HasCleared (levels F) ws vs) n
 clear_below F ws vs n p =
-    let e = clear_back (clear_on (length ws)) in
+    let e = clear_back (length ws) in
     record {
-      answer = as_cleared (clear_on (length ws));
+      answer = as_result (clear_on (length ws));
       told = p.answer ∙ ap refusal (sym e);
       promise = record { answer = e; left = p.left; kept = λ m q. p.kept m (sym e ∙ q) };
     }
 
-abbrev as_checked : Answer Counts → Checked
-as_checked (gives c) = checked.Counts c.routes c.arrays
-as_checked (refuses n) = checked.Refused n
+abbrev as_checked : Answer Counts → Result Counted_so Refusal
+as_checked (gives c) = Ok (record { routes = c.routes; arrays = c.arrays })
+as_checked (refuses n) = Err (refusal_of n)
 
-check_back : (a : Answer Counts) → audit.check_answer (as_checked a) ≡ a
-check_back (gives c) = refl
-check_back (refuses n) = refl
+check_back : (W : ℕ) (s : Seen) → audit.check_answer (as_checked (check_on W s)) ≡ check_on W s
+check_back W misfit = refl
+check_back W foreign = refl
+check_back W (table A cs) = refl
 
 pub check_below : (F : Family) (ws : List ℕ) (r : Counted) → r ≡ counted (check_on (width F) (seen (levels F) ws))
     → Below (λ c. counted (audit.check_answer c)) (λ c. audit.check_answer c ≡ check_on (width F) (seen (levels F) ws)) r
 check_below F ws r p =
-    let e = check_back (check_on (width F) (seen (levels F) ws)) in
+    let e = check_back (width F) (seen (levels F) ws) in
     record { answer = as_checked (check_on (width F) (seen (levels F) ws)); told = p ∙ ap counted (sym e); promise = e }
 
 -- ---- toggleash_lookup
@@ -95,13 +107,23 @@ lookup_below F ws a r p =
 
 -- ---- toggleash_within
 
-abbrev as_inside : Answer ℕ → Inside
-as_inside (gives n) = inside.Prefixes n
-as_inside (refuses n) = inside.Refused n
+walk_named : (L : ℕ) (ws : List ℕ) (x s k n a : ℕ) → Named (total.walk_from L ws x s k n a)
+unfolding total.walk_from
+walk_named L ws x s k zero a = bool (ltb (last_slot * array_count ws) (totals_of ws a s)) (λ e. rw e refl) (λ e. rw e tt)
+walk_named L ws x s k (suc n) a =
+    let c = (arrays_of ws).link a (byte_of L x (k - suc n)) in
+    bool (eqb c 0)
+    (λ e. rw e tt)
+    (λ e. bool (ltb (array_count ws) c) (λ d. rw (e, d) refl) (λ d. rw (e, d) (walk_named L ws x s k n c)))
 
-inside_back : (a : Answer ℕ) → within_answer (as_inside a) ≡ a
-inside_back (gives n) = refl
-inside_back (refuses n) = refl
+asked_named : (W a l : ℕ) (y : Answer ℕ) → Named y → Named (asked W a l y)
+asked_named W a l y n =
+    bool (too_long W l) (λ e. rw e refl) (λ e. bool (stray W a l) (λ d. rw (e, d) refl) (λ d. rw (e, d) n))
+
+within_named : (W : ℕ) (s : Seen) (y : Answer ℕ) (a l : ℕ) → Named y → Named (within_on W s y a l)
+within_named W misfit y a l n = refl
+within_named W foreign y a l n = asked_named W a l y n
+within_named W (table A cs) y a l n = asked_named W a l (gives (prefixes_inside W cs a l)) tt
 
 pub within_below : (F : Family) (ws : List ℕ) (a l : ℕ) (r : Total)
     → r ≡ totalled (within_on (width F) (seen (levels F) ws) (total.walk (levels F) ws a l) a l)
@@ -109,8 +131,10 @@ pub within_below : (F : Family) (ws : List ℕ) (a l : ℕ) (r : Total)
     (λ m. within_answer m ≡ within_on (width F) (seen (levels F) ws) (total.walk (levels F) ws a l) a l) r
 within_below F ws a l r p =
     let y : Answer ℕ = within_on (width F) (seen (levels F) ws) (total.walk (levels F) ws a l) a l in
-    let e = inside_back y in
-    record { answer = as_inside y; told = p ∙ ap totalled (sym e); promise = e }
+    let n = within_named (width F) (seen (levels F) ws) (total.walk (levels F) ws a l) a l
+    (walk_named (levels F) ws a _ (level l) (level l) 1) in
+    let e = result_back y n in
+    record { answer = as_result y; told = p ∙ ap totalled (sym e); promise = e }
 
 -- ---- toggleash_announce, toggleash_withdraw
 
@@ -140,22 +164,19 @@ update_below F ws vs u r p =
 
 -- ---- toggleash_write_out
 
-abbrev as_size : Answer ℕ → Size
-as_size (gives n) = size.Bytes n
-as_size (refuses n) = size.Refused n
-
-size_back : (a : Answer ℕ) → count_answer (as_size a) ≡ a
-size_back (gives n) = refl
-size_back (refuses n) = refl
+size_back : (F : Family) (s : Seen) (room : ℕ) → count_answer (as_result (count_on F s room)) ≡ count_on F s room
+size_back F misfit room = refl
+size_back F foreign room = refl
+size_back F (table A cs) room = bool (ltb room (bytes_for F (length cs))) (λ e. rw e refl) (λ e. rw e refl)
 
 -- two calls stand below it: the count, and the fill
 pub write_below : (F : Family) (ws b c : List ℕ) (r : Written) → HasWritten F ws b c r
     → Below (λ t. wrote (count_answer t))
     (λ t. (count_answer t ≡ count_on F (seen (levels F) ws) (length b)) × HasFilled F (seen (levels F) ws) b r.bytes c) r
 write_below F ws b c r p =
-    let e = size_back (count_on F (seen (levels F) ws) (length b)) in
+    let e = size_back F (seen (levels F) ws) (length b) in
     record {
-      answer = as_size (count_on F (seen (levels F) ws) (length b));
+      answer = as_result (count_on F (seen (levels F) ws) (length b));
       told = p.answer ∙ ap wrote (sym e);
       promise = (
         e,
@@ -175,31 +196,30 @@ write_below F ws b c r p =
 
 -- ---- toggleash_run
 
-abbrev as_ran : Answer Report → Ran
-as_ran (gives p) = stop.Stopped p
-as_ran (refuses n) = stop.Refused n
-
-ran_back : (a : Answer Report) → feed.run_answer (as_ran a) ≡ a
-ran_back (gives p) = refl
-ran_back (refuses n) = refl
+ran_back : (F : Family) (s : Seen) (bytes b : List ℕ)
+    → feed.run_answer (as_result (feed.reported (run_on F s bytes b))) ≡ feed.reported (run_on F s bytes b)
+ran_back F misfit bytes b = refl
+ran_back F foreign bytes b = refl
+ran_back F (table A cs) bytes b = refl
 
 pub run-below : (F : Family) (ws bytes b vs c : List ℕ) (r : Fields) → HasRun F ws bytes b vs c r
     → Below (λ t. ran (feed.run_answer t)) (feed.HasRun F ws bytes b vs c) r
 run-below F ws bytes b vs c r p =
-    let e = ran_back (feed.reported (run_on F (seen (levels F) ws) bytes b)) in
+    let e = ran_back F (seen (levels F) ws) bytes b in
     record {
-      answer = as_ran (feed.reported (run_on F (seen (levels F) ws) bytes b));
+      answer = as_result (feed.reported (run_on F (seen (levels F) ws) bytes b));
       told = p.answer ∙ ap ran (sym e);
       promise = record {
         answer = e;
         list = p.list;
         replies = p.replies;
-        kept = λ n q. p.kept n (unfit (run_on F (seen (levels F) ws) bytes b) n q);
+        kept = λ f q. kept (run_on F (seen (levels F) ws) bytes b) f refl q;
         series = p.series;
         words = p.words;
       };
     }
   where
-    unfit : (a : Answer Outcome) (n : ℕ) → as_ran (feed.reported a) ≡ stop.Refused n → a ≡ refuses n
-    unfit (gives o) n e = absurd (let z : ◌≡◌ {A = ℕ} 0 1 = cc in omega arith)
-    unfit (refuses m) n e = ap refuses (cc)
+    kept : (a : Answer Outcome) (f : Refusal) → run_on F (seen (levels F) ws) bytes b ≡ a → as_result (feed.reported a) ≡ Err f
+        → vs ≡ ws
+    kept (gives o) f e q = absurd (cc)
+    kept (refuses m) f e q = p.kept m e

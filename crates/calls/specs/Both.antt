@@ -4,7 +4,7 @@
 --     cleared words ── run, or calls, of both ────▶ words that stand for the two lists joined
 --     cleared words ── run, or calls, of the first ▶ .. for its list alone
 --     cleared words ── .. of the second ───────────▶ .. for its list alone
-use Rattle.std.specs.Prelude.{◌≡◌, ◌≢◌, List, [], ℕ, ◌+◌, ◌≤◌, length}
+use Rattle.std.specs.Prelude.{◌≡◌, ◌≢◌, List, [], ℕ, ◌≤◌, length, Result, Ok}
 use Rattle.std.proofs.Common.{ap, ◌∙◌, le-ltb}
 use Rattle.routes.specs.Family.{Family, levels, width}
 use Rattle.routes.specs.Room.{need}
@@ -19,7 +19,8 @@ use Rattle.candidates.specs.Seen.{table, lookup_on, check_on, bytes_for, front_o
 use Rattle.laws.specs.Given.{given_one}
 use Rattle.words.specs.Table.{seen}
 use Rattle.audit.specs.Answer.{check_answer}
-use Rattle.audit.specs.declared.Checked.{Checked}
+use Rattle.audit.specs.declared.Counts.{Counts}
+use Rattle.refusals.specs.declared.Refusal.{Refusal}
 use Rattle.replies.specs.Said.{said_reply}
 use Rattle.replies.specs.declared.Reply as code
 use Rattle.lookup.specs.Walk.{walk}
@@ -27,15 +28,11 @@ use Rattle.inside.specs.Inside.{prefixes_inside}
 use Rattle.inside.specs.Seen.{asked, within_on}
 use Rattle.within.specs.Walk as total
 use Rattle.within.specs.Answer.{within_answer}
-use Rattle.within.specs.declared.Inside.{Inside}
 use Rattle.feed.specs.Runs.{HasRun, report_of}
 use Rattle.feed.specs.declared.Report.{Report}
-use Rattle.feed.specs.declared.Ran.{Ran}
-use Rattle.feed.specs.declared.Ran.TheVariants.{Stopped}
 use Rattle.weaves.specs.Feeds.{Weave, flip, heard, kept, kept_both, Union, Meets, Closes, bytes, read_back}
-use Rattle.weaves.proofs.Enough.{enough}
 use Rattle.weaves.proofs.Joined.{demand_3_family}
-use Rattle.calls.specs.Three.{Call, promise, Called}
+use Rattle.calls.specs.Three.{Call, promise}
 use Rattle.feed.specs.Series.{Series, all_answered}
 
 -- ---- words that stand for a list
@@ -45,10 +42,10 @@ pub record Holds (F : Family) (A : ℕ) (cs : List Candidate) (ws : List ℕ) : 
   pub list : seen (levels F) ws ≡ table A cs
   pub lookups : (a : ℕ) (r : code.Reply) → said_reply r ≡ lookup_on (width F) (seen (levels F) ws) (walk (levels F) ws a) a
       → said_reply r ≡ looked_up (width F) cs a
-  pub insides : (a l : ℕ) (r : Inside)
+  pub insides : (a l : ℕ) (r : Result ℕ Refusal)
       → within_answer r ≡ within_on (width F) (seen (levels F) ws) (total.walk (levels F) ws a l) a l
       → within_answer r ≡ asked (width F) a l (gives (prefixes_inside (width F) cs a l))
-  pub checks : (r : Checked) → check_answer r ≡ check_on (width F) (seen (levels F) ws)
+  pub checks : (r : Result Counts Refusal) → check_answer r ≡ check_on (width F) (seen (levels F) ws)
       → check_answer r ≡ gives (record { routes = length cs; arrays = need (width F) (winners cs) })
   pub fronts : (b front : List ℕ) → bytes_for F (length cs) ≤ length b → front ≡ front_on F (seen (levels F) ws) (length b)
       → front ≡ written F cs
@@ -78,7 +75,7 @@ pub record Run (F : Family) (A : ℕ) (us : List Update) : Type 0 where
   pub words' : List ℕ
   pub reply' : List ℕ
   pub report : Report
-  pub runs : HasRun F words (bytes F sent rest) reply words' reply' (Stopped report)
+  pub runs : HasRun F words (bytes F sent rest) reply words' reply' (Ok report)
   pub enough : report.stop ≢ 4
 
 module _ {F : Family} {A : ℕ} {us : List Update} (c : Run F A us) where

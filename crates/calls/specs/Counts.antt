@@ -3,7 +3,7 @@
 --
 --     within(0.0.0.0/0)  ──▶  as many as the list has prefixes, each once, however many candidates it has
 --     within(10.1.0.0/16) ──▶  of the root, the array of 10 and their totals alone
-use Rattle.std.specs.Prelude.{◌≡◌, List, ℕ, ◌^◌, ◌<◌, length}
+use Rattle.std.specs.Prelude.{◌≡◌, List, ℕ, ◌^◌, ◌<◌, length, Result}
 use Rattle.std.proofs.Common.{sym, ap, ◌∙◌, arith, le-ltb}
 use Rattle.routes.specs.Family.{Family, levels, width}
 use Rattle.routes.specs.Room.{level}
@@ -27,12 +27,12 @@ use Rattle.within.specs.Walk.{walk}
 use Rattle.within.specs.Answer.{within_answer, within_one}
 use Rattle.within.specs.Counted.{within_seen_lem}
 use Rattle.within.specs.Local.{AlikeOn, within_local}
-use Rattle.within.specs.declared.Inside.{Inside}
+use Rattle.refusals.specs.declared.Refusal.{Refusal}
 use Rattle.answers.specs.Numbers.{totalled}
 use Rattle.answers.specs.declared.Total.{Total}
 
 -- what a call of within promises on words ws
-abbrev pub Asked : Family → List ℕ → ℕ → ℕ → Inside → Type 0
+abbrev pub Asked : Family → List ℕ → ℕ → ℕ → Result ℕ Refusal → Type 0
 Asked F ws a l r = within_answer r ≡ within_on (width F) (seen (levels F) ws) (walk (levels F) ws a l) a l
 
 -- toggleash_within
@@ -50,7 +50,7 @@ module _ (F : Family) (ws us : List ℕ) (a l : ℕ) (fits : a < 2 ^ width F) (s
       ∙ within_local (levels F) ws us a l (levels_some F) size f
       ∙ within_seen_lem (levels F) ws a l (levels_some F) (omega (arith, levels_few F)) fits
 
-  pub path_alone : (r s : Inside) → Asked F ws a l r → Asked F us a l s → r ≡ s
+  pub path_alone : (r s : Result ℕ Refusal) → Asked F ws a l r → Asked F us a l s → r ≡ s
   path_alone r s p q = within_one r s (p ∙ sym same_on ∙ sym q)
 
   pub path_alone_c : (r s : Total) → AskedC F ws a l r → AskedC F us a l s → r ≡ s
@@ -71,7 +71,7 @@ module _ (F : Family) (ws : List ℕ) (A : ℕ) (cs : List Candidate) (e : seen 
       ap winners t.list ∙ table_winners (levels F) ws t.table in
       rw w (inside_whole (width F) (routes (width F) (held (arrays_of ws))) (routes_wfs (width F) (held (arrays_of ws))))
 
-  pub whole_counts : (r : Inside) → Asked F ws 0 0 r → within_answer r ≡ gives (length (winners cs))
+  pub whole_counts : (r : Result ℕ Refusal) → Asked F ws 0 0 r → within_answer r ≡ gives (length (winners cs))
   whole_counts r p = p ∙ rw (e, whole_asked (width F) (gives (prefixes_inside (width F) cs 0 0))) (ap gives all_inside)
 
   pub whole_counts_c : (r : Total) → AskedC F ws 0 0 r → r ≡ record { refusal = 0; prefixes = length (winners cs) }

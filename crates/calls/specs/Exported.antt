@@ -4,7 +4,7 @@
 --
 --     toggleash_clear ──▶ words ── toggleash_announce ──▶ . ── toggleash_lookup ──▶ . ── toggleash_withdraw ──▶ words'
 --           0                      refusal, hop, cells         refusal, found, ..
-use Rattle.std.specs.Prelude.{◌≡◌, refl, cond, List, [], ◌∷◌, ℕ, ◌+◌, ◌*◌, eqb, length}
+use Rattle.std.specs.Prelude.{◌≡◌, refl, cond, List, [], ◌∷◌, ℕ, ◌+◌, ◌*◌, eqb, length, Result, Ok, Err}
 use Rattle.std.proofs.Common.{sym, arith, ne_eqb}
 use Rattle.logic.specs.Cases.{bool}
 use Rattle.sizes.specs.Sizes.{array_words}
@@ -15,8 +15,8 @@ use Rattle.candidates.specs.Seen.{table, misfits, lookup_on}
 use Rattle.laws.specs.Given.{refused_one, given_refused}
 use Rattle.words.specs.Table.{seen}
 use Rattle.audit.specs.Answer as audit
-use Rattle.audit.specs.declared.Cleared.{Cleared as Answer}
-use Rattle.audit.specs.declared.Cleared.TheVariants as answer
+use Rattle.refusals.specs.declared.Refusal.{Refusal}
+use Rattle.refusals.specs.Number.{number}
 use Rattle.lookup.specs.Walk.{walk}
 use Rattle.answers.specs.Numbers.{refusal}
 use Rattle.toggleash.specs.Face.{HasCleared, HasUpdated}
@@ -77,17 +77,17 @@ pub data Series (F : Family) : List ℕ → List Record → List Reply → List 
 
 -- clear, not refused
 pub clear_done : {F : Family} {A : ℕ} {words : List ℕ} (c : Cleared F A words)
-    → audit.HasCleared (levels F) c.lent words answer.Done
+    → audit.HasCleared (levels F) c.lent words (Ok tt)
 clear_done {F} {A} {words} c = let b = clear_below F c.lent words 0 c.clears in of b.answer b.told b.promise
   where
-    Took : Answer → Type 0
+    Took : Result (Unit {0}) Refusal → Type 0
     Took r = audit.HasCleared (levels F) c.lent words r
 
-    of : (r : Answer) → 0 ≡ refusal (audit.clear_answer r) → Took r → Took answer.Done
-    of answer.Done e p = p
-    of (answer.Refused n) e p =
+    of : (r : Result (Unit {0}) Refusal) → 0 ≡ refusal (audit.clear_answer r) → Took r → Took (Ok tt)
+    of (Ok u) e p = p
+    of (Err f) e p =
         bool (misfits (length c.lent))
-        (λ d. absurd (let z : n ≡ 1 = refused_one (rw d at p.answer) in omega arith))
+        (λ d. absurd (let z : number f ≡ 1 = refused_one (rw d at p.answer) in omega arith))
         (λ d. absurd (given_refused (sym (rw d at p.answer))))
 
 -- words that were cleared are a table that holds nothing

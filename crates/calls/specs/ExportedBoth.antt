@@ -4,7 +4,7 @@
 --     toggleash_clear ── toggleash_run, or calls, of both ────▶ words that stand for the two lists joined
 --     toggleash_clear ── toggleash_run, or calls, of the first ▶ .. for its list alone
 --     toggleash_clear ── .. of the second ─────────────────────▶ .. for its list alone
-use Rattle.std.specs.Prelude.{◌≡◌, ◌≢◌, List, [], ℕ, ◌+◌, ◌≤◌, length, take}
+use Rattle.std.specs.Prelude.{◌≡◌, ◌≢◌, List, [], ℕ, ◌+◌, ◌≤◌, length, take, Ok}
 use Rattle.std.proofs.Common.{ap, ◌∙◌, le-ltb}
 use Rattle.routes.specs.Family.{Family, levels, width}
 use Rattle.routes.specs.Room.{need}
@@ -21,10 +21,8 @@ use Rattle.routes.specs.Seen.{gives}
 use Rattle.inside.specs.Inside.{prefixes_inside}
 use Rattle.inside.specs.Seen.{asked, within_on}
 use Rattle.within.specs.Walk as total
-use Rattle.feed.specs.Runs.{HasRun as Made, run_answer, report_of}
+use Rattle.feed.specs.Runs.{Ran, HasRun as Made, run_answer, report_of}
 use Rattle.feed.specs.declared.Report.{Report}
-use Rattle.feed.specs.declared.Ran.{Ran}
-use Rattle.feed.specs.declared.Ran.TheVariants.{Stopped}
 use Rattle.weaves.specs.Feeds.{Weave, flip, heard, kept, kept_both, Union, Closes, bytes, read_back}
 use Rattle.answers.specs.Numbers.{counted, looked, totalled, ran}
 use Rattle.toggleash.specs.Face.{HasWritten, HasRun}
@@ -99,10 +97,10 @@ module _ {F : Family} {A : ℕ} {us : List Update} (c : Run F A us) where
       (Made F c.words (bytes F c.sent c.rest) c.reply c.words' c.reply') c.ran
   b = run-below F c.words (bytes F c.sent c.rest) c.reply c.words' c.reply' c.ran c.runs
 
-  pub is_stopped : b.answer ≡ Stopped report
+  pub is_stopped : b.answer ≡ Ok report
   is_stopped = stopped b.answer report (rw (cleared c.cleared) at b.promise.answer)
 
-  pub told-ran : c.ran ≡ ran (run_answer (Stopped report))
+  pub told-ran : c.ran ≡ ran (run_answer (Ok report))
   told-ran = b.told ∙ ap (λ (x : Ran). ran (run_answer x)) is_stopped
 
   pub taken : c.ran.refusal ≡ 0

@@ -1,15 +1,13 @@
 -- No toggleash_run writes the reply "refused 2": the bytes written, as many as its numbers say, are not those of replies with
 -- such a one among them. Assumes nothing.
-use Rattle.std.specs.Prelude.{◌≡◌, refl, ◌≢◌, List, ◌∷◌, ◌++◌, ℕ, take}
+use Rattle.std.specs.Prelude.{◌≡◌, refl, ◌≢◌, List, ◌∷◌, ◌++◌, ℕ, take, Ok, Err}
 use Rattle.std.proofs.Common.{ap, ◌∙◌}
 use Rattle.routes.specs.Family.{Family}
 use Rattle.routes.specs.Answers.{Reply, refused}
 use Rattle.routes.specs.Bytes.{replies_bytes}
-use Rattle.feed.specs.Runs.{run_answer}
+use Rattle.feed.specs.Runs.{Ran, run_answer}
 use Rattle.feed.specs.Sharp.{written_by}
 use Rattle.feed.specs.Never.{never}
-use Rattle.feed.specs.declared.Ran.{Ran}
-use Rattle.feed.specs.declared.Ran.TheVariants.{Stopped, Refused}
 use Rattle.answers.specs.Numbers.{ran}
 use Rattle.toggleash.specs.Face.{HasRun}
 use Rattle.answers.specs.declared.Ran.{Ran as Fields}
@@ -17,8 +15,8 @@ use Rattle.calls.specs.Below.{run-below}
 
 -- the numbers count what the run below wrote
 counts : (t : Ran) → (ran (run_answer t)).written ≡ written_by t
-counts (Stopped p) = refl
-counts (Refused n) = refl
+counts (Ok p) = refl
+counts (Err f) = refl
 
 pub never_exported : (F : Family) (ws feed b vs c : List ℕ) (r : Fields) → HasRun F ws feed b vs c r
     → (xs ys : List Reply) → take r.written c ≢ replies_bytes (xs ++ (refused 2 ∷ ys))

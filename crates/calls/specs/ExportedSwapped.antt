@@ -1,6 +1,6 @@
 -- Item 8 over the C face: neighbouring updates swapped, sent by four calls of toggleash_announce and toggleash_withdraw, and by
 -- two calls of toggleash_run whose feeds differ by the swap, on words that stand for one list. Assumes nothing.
-use Rattle.std.specs.Prelude.{◌≡◌, ◌≢◌, List, ℕ, length}
+use Rattle.std.specs.Prelude.{◌≡◌, ◌≢◌, List, ℕ, length, Ok}
 use Rattle.std.proofs.Common.{ap, ◌∙◌}
 use Rattle.routes.specs.Family.{Family, levels}
 use Rattle.routes.specs.Answers.{Reply}
@@ -10,10 +10,8 @@ use Rattle.candidates.specs.Bytes.{Sent, AllFit}
 use Rattle.candidates.specs.Runs.{run}
 use Rattle.candidates.specs.Seen.{table}
 use Rattle.words.specs.Table.{seen}
-use Rattle.feed.specs.Runs.{HasRun as Made, run_answer, report_of}
+use Rattle.feed.specs.Runs.{Ran, HasRun as Made, run_answer, report_of}
 use Rattle.feed.specs.declared.Report.{Report}
-use Rattle.feed.specs.declared.Ran.{Ran}
-use Rattle.feed.specs.declared.Ran.TheVariants.{Stopped}
 use Rattle.weaves.specs.Feeds.{Closes, bytes}
 use Rattle.answers.specs.Numbers.{ran}
 use Rattle.toggleash.specs.Face.{HasRun}
@@ -65,13 +63,13 @@ module _ {F : Family} {A : ℕ} {cs : List Candidate} {ss : List Sent} (c : RunO
       (Made F c.words (bytes F ss c.rest) c.reply c.words' c.reply') c.ran
   b = run-below F c.words (bytes F ss c.rest) c.reply c.words' c.reply' c.ran c.runs
 
-  is_stopped : b.answer ≡ Stopped report
+  is_stopped : b.answer ≡ Ok report
   is_stopped = stopped b.answer report (rw c.is at b.promise.answer)
 
-  pub made : Made F c.words (bytes F ss c.rest) c.reply c.words' c.reply' (Stopped report)
+  pub made : Made F c.words (bytes F ss c.rest) c.reply c.words' c.reply' (Ok report)
   made = rw is_stopped at b.promise
 
-  pub told-ran : c.ran ≡ ran (run_answer (Stopped report))
+  pub told-ran : c.ran ≡ ran (run_answer (Ok report))
   told-ran = b.told ∙ ap (λ (x : Ran). ran (run_answer x)) is_stopped
 
   -- the run below

@@ -1,7 +1,7 @@
 -- Words seen as a table, and what is known of its list and of its room; words that were cleared; a run that was not refused.
 -- All is said of a family's calls, so of IPv4's and of IPv6's, and so it is in the files that build on this one; one that is
 -- of IPv4 alone says so. Assumes nothing.
-use Rattle.std.specs.Prelude.{◌≡◌, false, List, [], ℕ, ◌+◌, ◌*◌, ◌≤◌, length}
+use Rattle.std.specs.Prelude.{◌≡◌, false, List, [], ℕ, ◌+◌, ◌*◌, ◌≤◌, length, Result, Ok, Err}
 use Rattle.std.proofs.Common.{sym, ap, ◌∙◌, arith}
 use Rattle.logic.specs.Cases.{bool}
 use Rattle.sizes.specs.Sizes.{array_words}
@@ -20,12 +20,9 @@ use Rattle.words.specs.Stock.{table_need}
 use Rattle.tree.specs.Free.{used-full}
 use Rattle.words.specs.View.{table_of, table_fits, fits_no_misfit}
 use Rattle.audit.specs.Answer.{HasCleared}
-use Rattle.audit.specs.declared.Cleared.{Cleared}
-use Rattle.audit.specs.declared.Cleared.TheVariants.{Done}
-use Rattle.feed.specs.Runs.{run_answer}
+use Rattle.refusals.specs.declared.Refusal.{Refusal}
+use Rattle.feed.specs.Runs.{Ran, run_answer}
 use Rattle.feed.specs.declared.Report.{Report}
-use Rattle.feed.specs.declared.Ran.{Ran}
-use Rattle.feed.specs.declared.Ran.TheVariants.{Stopped, Refused}
 
 -- ---- a table
 
@@ -50,7 +47,7 @@ held F A cs ws e =
 -- ---- cleared words
 
 -- words that clear took are a table that holds nothing, with as many arrays as their number says
-pub cleared_done : (F : Family) (A : ℕ) (ws vs : List ℕ) → length ws ≡ array_words * (A + 1) → HasCleared (levels F) ws vs Done
+pub cleared_done : (F : Family) (A : ℕ) (ws vs : List ℕ) → length ws ≡ array_words * (A + 1) → HasCleared (levels F) ws vs (Ok tt)
     → seen (levels F) vs ≡ table A []
 cleared_done F A ws vs n c =
     bool (misfits (length ws))
@@ -61,7 +58,7 @@ cleared_done F A ws vs n c =
     count n = omega arith
 
 -- as many words as a table has are taken, and are then a table of the same room
-pub cleared-alike : (F : Family) (A : ℕ) (cs : List Candidate) (ws lent vs : List ℕ) (r : Cleared)
+pub cleared-alike : (F : Family) (A : ℕ) (cs : List Candidate) (ws lent vs : List ℕ) (r : Result (Unit {0}) Refusal)
     → seen (levels F) ws ≡ table A cs → length lent ≡ length ws → HasCleared (levels F) lent vs r
     → seen (levels F) vs ≡ table A []
 cleared-alike F A cs ws lent vs r e n c =
@@ -71,6 +68,6 @@ cleared-alike F A cs ws lent vs r e n c =
 -- ---- a run
 
 -- what is told of one that was not refused is its report
-pub stopped : (r : Ran) (p : Report) → run_answer r ≡ gives p → r ≡ Stopped p
-stopped (Stopped q) p e = ap Stopped (given_one e)
-stopped (Refused n) p e = absurd (given_refused (sym e))
+pub stopped : (r : Ran) (p : Report) → run_answer r ≡ gives p → r ≡ Ok p
+stopped (Ok q) p e = ap Ok (given_one e)
+stopped (Err f) p e = absurd (given_refused (sym e))

@@ -3,7 +3,7 @@
 --
 --     words, a table ── write_out ──▶ front ── run ──▶ words', seen as the words are
 --     as many words ─── clear ──────▶ cleared ──┘
-use Rattle.std.specs.Prelude.{◌≡◌, List, [], ℕ, ◌+◌, ◌*◌, ◌≤◌, length, take}
+use Rattle.std.specs.Prelude.{◌≡◌, List, [], ℕ, ◌+◌, ◌*◌, ◌≤◌, length, take, Result, Ok}
 use Rattle.std.proofs.Common.{sym, ◌∙◌, le-ltb}
 use Rattle.std.proofs.Math.Seq.{take-append_seam}
 use Rattle.routes.specs.Family.{Family, levels, width}
@@ -15,11 +15,9 @@ use Rattle.candidates.specs.Seen.{Seen, table, bytes_for, front_on}
 use Rattle.encoded.proofs.Round.{round_trip}
 use Rattle.words.specs.Table.{seen}
 use Rattle.audit.specs.Answer.{HasCleared}
-use Rattle.audit.specs.declared.Cleared.{Cleared}
+use Rattle.refusals.specs.declared.Refusal.{Refusal}
 use Rattle.writing.specs.Answer.{HasFilled}
-use Rattle.feed.specs.Runs.{HasRun}
-use Rattle.feed.specs.declared.Ran.{Ran}
-use Rattle.feed.specs.declared.Ran.TheVariants.{Stopped}
+use Rattle.feed.specs.Runs.{Ran, HasRun}
 use Rattle.calls.specs.Held.{held, cleared-alike, stopped}
 
 -- the calls, each as its contract allows
@@ -35,7 +33,7 @@ pub record Trip (F : Family) (A : ℕ) (cs : List Candidate) : Type 0 where
   pub lent : List ℕ
   pub same : length lent ≡ length words
   pub cleared : List ℕ
-  pub answer : Cleared
+  pub answer : Result (Unit {0}) Refusal
   pub clears : HasCleared (levels F) lent cleared answer
   -- the front run on them, with reply room enough
   pub reply : List ℕ
@@ -48,7 +46,7 @@ pub record Trip (F : Family) (A : ℕ) (cs : List Candidate) : Type 0 where
 -- the same list, each of its records accepted, at an end
 pub record Again {F : Family} {A : ℕ} {cs : List Candidate} (t : Trip F A cs) : Type 0 where
   pub list : seen (levels F) t.words' ≡ seen (levels F) t.words
-  pub answer : t.ran ≡ Stopped (record {
+  pub answer : t.ran ≡ Ok (record {
     stop = 0;
     consumed = bytes_for F (length cs);
     written = length (replies_bytes (replies (width F) A [] (meanings (announced cs))));

@@ -2,8 +2,8 @@
 -- by their contracts, it is what the row says. Each update is of feed 1 with preference 0. Assumes nothing.
 --
 --     clear ──▶ the row's updates ──▶ the row's call ──▶ check
---     Done                            what it gives      the arrays
-use Rattle.std.specs.Prelude.{◌≡◌, List, [], ◌∷◌, ℕ, ◌+◌, ◌*◌, length}
+--     Ok                              what it gives      the arrays
+use Rattle.std.specs.Prelude.{◌≡◌, List, [], ◌∷◌, ℕ, ◌+◌, ◌*◌, length, Result, Ok}
 use Rattle.std.proofs.Common.{ap, ◌∙◌}
 use Rattle.sizes.specs.Sizes.{array_words}
 use Rattle.routes.specs.Family.{v4}
@@ -14,8 +14,8 @@ use Rattle.candidates.specs.Seen.{check_on}
 use Rattle.candidates.specs.Small.{Case, list_before, list_after, got}
 use Rattle.words.specs.Table.{seen}
 use Rattle.audit.specs.Answer.{HasCleared, check_answer}
-use Rattle.audit.specs.declared.Cleared.TheVariants.{Done}
-use Rattle.audit.specs.declared.Checked.{Checked}
+use Rattle.audit.specs.declared.Counts.{Counts}
+use Rattle.refusals.specs.declared.Refusal.{Refusal}
 use Rattle.calls.specs.Held.{cleared_done}
 use Rattle.feed.specs.Series.{Asked, Series, answered, all_answered}
 
@@ -26,14 +26,14 @@ pub record Played (c : Case) : Type 0 where
   pub lent : List ℕ
   pub size : length lent ≡ array_words * (c.room + 1)
   pub cleared : List ℕ
-  pub clears : HasCleared 4 lent cleared Done
+  pub clears : HasCleared 4 lent cleared (Ok tt)
   pub ready : List ℕ
   pub earlier : List Reply
   pub took : Series 4 cleared (records c.before) earlier ready
   pub left : List ℕ
   pub told : Reply
   pub asked : Asked 4 ready c.call told left
-  pub counts : Checked
+  pub counts : Result Counts Refusal
   pub checks : check_answer counts ≡ check_on 32 (seen 4 left)
 
 -- it goes as the row says

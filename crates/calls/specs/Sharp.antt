@@ -4,7 +4,7 @@
 --     what no contract fixes: the layout of words that stand for one list, so words are compared by what they are seen to be,
 --     and no later call tells two layouts apart (layout_unseen); and, at write_out, the buffer past the part that it returns
 --     (fill fixes it)
-use Rattle.std.specs.Prelude.{◌≡◌, List, ℕ, length}
+use Rattle.std.specs.Prelude.{◌≡◌, List, ℕ, length, Result}
 use Rattle.std.proofs.Common.{sym, ◌∙◌}
 use Rattle.routes.specs.Family.{Family, levels, width}
 use Rattle.routes.specs.Answers.{Reply}
@@ -14,32 +14,30 @@ use Rattle.candidates.specs.Seen.{table, lookup_on, check_on, count_on, front_on
 use Rattle.words.specs.Table.{seen}
 use Rattle.audit.specs.Answer.{check_answer, HasCleared}
 use Rattle.audit.specs.Sharp as audit
-use Rattle.audit.specs.declared.Cleared.{Cleared}
-use Rattle.audit.specs.declared.Checked.{Checked}
+use Rattle.audit.specs.declared.Counts.{Counts}
+use Rattle.refusals.specs.declared.Refusal.{Refusal}
 use Rattle.replies.specs.Said.{said_reply, reply_one}
 use Rattle.replies.specs.declared.Reply as code
 use Rattle.lookup.specs.Walk.{walk}
 use Rattle.inside.specs.Seen.{within_on}
 use Rattle.within.specs.Walk as total
 use Rattle.within.specs.Answer.{within_answer, within_one}
-use Rattle.within.specs.declared.Inside.{Inside}
 use Rattle.update.specs.Update.{HasUpdated}
 use Rattle.update.specs.Sharp as update
 use Rattle.writing.specs.Answer as writing
-use Rattle.writing.specs.declared.Counted.{Counted}
-use Rattle.feed.specs.Runs.{HasRun}
+use Rattle.feed.specs.Runs.{Ran, HasRun}
 use Rattle.feed.specs.Sharp as feed
-use Rattle.feed.specs.declared.Ran.{Ran}
 use Rattle.feed.specs.Series.{Series, all_answered}
 
 -- ---- clear, check
 
-pub clear_agrees : (F : Family) (ws vs vs' : List ℕ) (r r' : Cleared) → HasCleared (levels F) ws vs r
+pub clear_agrees : (F : Family) (ws vs vs' : List ℕ) (r r' : Result (Unit {0}) Refusal) → HasCleared (levels F) ws vs r
     → HasCleared (levels F) ws vs' r'
     → audit.Agree (levels F) vs vs' r r'
 clear_agrees F ws vs vs' r r' p q = audit.clear_sharp (levels F) ws vs vs' r r' p q
 
-pub check_agrees : (F : Family) (ws : List ℕ) (r r' : Checked) → check_answer r ≡ check_on (width F) (seen (levels F) ws)
+pub check_agrees : (F : Family) (ws : List ℕ) (r r' : Result Counts Refusal)
+    → check_answer r ≡ check_on (width F) (seen (levels F) ws)
     → check_answer r' ≡ check_on (width F) (seen (levels F) ws) → r ≡ r'
 check_agrees F ws r r' p q = audit.check_sharp (check_on (width F) (seen (levels F) ws)) r r' p q
 
@@ -52,7 +50,7 @@ lookup_agrees F ws a r r' p q = reply_one r r' (p ∙ sym q)
 
 -- ---- within: on a table by its list, on other words by the layout's walk over them
 
-pub within_agrees : (F : Family) (ws : List ℕ) (a l : ℕ) (r r' : Inside)
+pub within_agrees : (F : Family) (ws : List ℕ) (a l : ℕ) (r r' : Result ℕ Refusal)
     → within_answer r ≡ within_on (width F) (seen (levels F) ws) (total.walk (levels F) ws a l) a l
     → within_answer r' ≡ within_on (width F) (seen (levels F) ws) (total.walk (levels F) ws a l) a l → r ≡ r'
 within_agrees F ws a l r r' p q = within_one r r' (p ∙ sym q)
@@ -67,7 +65,7 @@ update_agrees F ws u vs vs' r r' p q = update.sharp (levels F) ws vs vs' u r r' 
 
 -- ---- count, fill, write_out
 
-pub count_agrees : (F : Family) (ws : List ℕ) (room : ℕ) (r r' : Counted)
+pub count_agrees : (F : Family) (ws : List ℕ) (room : ℕ) (r r' : Result ℕ Refusal)
     → writing.count_answer r ≡ count_on F (seen (levels F) ws) room
     → writing.count_answer r' ≡ count_on F (seen (levels F) ws) room → r ≡ r'
 count_agrees F ws room r r' p q = writing.count_sharp F (seen (levels F) ws) room r r' p q

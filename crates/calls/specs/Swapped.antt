@@ -4,7 +4,6 @@
 --     words  ── u ──▶ . ── v ──▶ words'        words stand for one list on both lines, and so do words': the answers agree, cells
 --     words  ── v ──▶ . ── u ──▶ words'        excepted, and all later ones, cells included
 use Rattle.std.specs.Prelude.{◌≡◌, List, ℕ}
-use Rattle.std.proofs.Common.{ap}
 use Rattle.routes.specs.Family.{Family, levels, width}
 use Rattle.routes.specs.Answers.{Reply}
 use Rattle.candidates.specs.Candidate.{Candidate}

@@ -3,7 +3,7 @@
 --
 --     words ── run: before, x, y, after ──▶ words', reply'      the words stand for one list again, and the reply bytes to before
 --     words ── run: before, y, x, after ──▶ words', reply'      and to after are the same
-use Rattle.std.specs.Prelude.{◌≡◌, ◌≢◌, List, ◌++◌, ℕ, length, drop}
+use Rattle.std.specs.Prelude.{◌≡◌, ◌≢◌, List, ◌++◌, ℕ, length, drop, Ok}
 use Rattle.std.proofs.Common.{ap, ◌∙◌}
 use Rattle.routes.specs.Family.{Family, levels}
 use Rattle.candidates.specs.Candidate.{Candidate}
@@ -14,7 +14,6 @@ use Rattle.laws.specs.Given.{given_one}
 use Rattle.words.specs.Table.{seen}
 use Rattle.feed.specs.Runs.{HasRun, report_of}
 use Rattle.feed.specs.declared.Report.{Report}
-use Rattle.feed.specs.declared.Ran.TheVariants.{Stopped}
 use Rattle.weaves.specs.Feeds.{Closes, bytes}
 use Rattle.calls.specs.Swapped.{LaterAlike}
 use Rattle.calls.specs.SwappedFeeds.{FeedRun, outcome, FeedsSwapped}
@@ -30,7 +29,7 @@ pub record RunOf (F : Family) (A : ℕ) (cs : List Candidate) (ss : List Sent) :
   pub words' : List ℕ
   pub reply' : List ℕ
   pub report : Report
-  pub runs : HasRun F words (bytes F ss rest) reply words' reply' (Stopped report)
+  pub runs : HasRun F words (bytes F ss rest) reply words' reply' (Ok report)
   pub enough : report.stop ≢ 4
 
 module _ {F : Family} {A : ℕ} {cs : List Candidate} {ss : List Sent} (c : RunOf F A cs ss) where

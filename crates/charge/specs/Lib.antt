@@ -2,3 +2,4 @@ pub mod Calls
 pub mod Room
 pub mod Search
 pub mod Steps
+pub mod Code

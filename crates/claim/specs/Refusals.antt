@@ -33,8 +33,7 @@ use Rattle.replies.specs.Said.{said_reply}
 use Rattle.update.specs.Anywhere.{local_fault, local_answer, done_answer}
 use Rattle.feed.specs.Series.{Series}
 use Rattle.feed.specs.Series as rattle
-use Rattle.feed.specs.Runs.{reported, run_answer}
-use Rattle.feed.specs.declared.Ran.{Ran as Outcome}
+use Rattle.feed.specs.Runs.{Ran as Outcome, reported, run_answer}
 use Rattle.feed.specs.Kept.{asked-kept}
 use Rattle.writing.specs.Answer.{front_none}
 use Rattle.answers.specs.Numbers.{refusal, counted, looked, totalled, updated, wrote, ran}

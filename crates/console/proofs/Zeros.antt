@@ -79,21 +79,6 @@ pub record Search (g : ℕ → ℕ) (n s a b : ℕ) : Type 0 where
   pub running : Current g n s
   pub longest : FirstLongest g n a b
 
-pub none_yet : (g : ℕ → ℕ) → Search g 0 0 0 0
-none_yet g =
-    record {
-      within = omega arith;
-      running = record { below = omega arith; zeros = λ k a b. absurd (omega arith); whole = λ f a z. omega arith };
-      longest =
-          record {
-            ordered = omega arith;
-            inside = omega arith;
-            zeros = λ k a b. absurd (omega arith);
-            longest = λ f t a b z. omega arith;
-            first = λ f t a b z e. omega arith;
-          };
-    }
-
 pub turn : (g : ℕ → ℕ) (x i s a b s' a' b' : ℕ) → i < 8 → Search g i s a b → x ≡ g i → Goes x s i s'
     → Longer a b s' (i + 1) a' b' → Search g (i + 1) s' a' b'
 turn g x i s a b s' a' b' h p e r l =

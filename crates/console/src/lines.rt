@@ -1,113 +1,97 @@
 // A line for each record replied to, from the bytes of the record and of its reply.
-ghost use Rattle.std.specs.Prelude.{◌≤◌, ◌<◌, length};
+ghost use Rattle.std.specs.Prelude.{length};
+ghost use Rattle.std.specs.Iterator.{at_most};
 
-use crate::addresses::address;
+use crate::addresses::Address;
 use crate::reads::{byte_at, two_at};
-use crate::text;
 use families::{Family, Role};
+use std::fmt;
 
-// Before a record of the feed, before its reply, and before its line.
+// What a record asked for, with its prefix or address as sent, and what it was answered: its bytes and its reply's come first.
 #[derive(Drop)]
-pub(crate) struct Place {
-    pub(crate) at: usize,
-    pub(crate) from: usize,
-    pub(crate) to: usize,
+pub(crate) struct Line<'a> {
+    pub(crate) family: Family,
+    pub(crate) record: &'a [u8],
+    pub(crate) reply: &'a [u8],
 }
 
-// The lines of all records replied to, at the front of `out`. Hands back their length.
-pub(crate) fn lines(family: Family, feed: &[u8], replies: &[u8], out: &mut [u8]) -> usize
-    ensures { result ≤ length out.new }
-{
-    let mut p = Place {
-        at: 0,
-        from: 0,
-        to: 0,
-    };
-    while p.at < feed.len() && p.from < replies.len() {
-        p = p.line(family, feed, replies, out);
-    }
-    p.to
-}
-
-impl Place {
-    // The line of the record that is next.
-    pub(crate) fn line(self, family: Family, feed: &[u8], replies: &[u8], out: &mut [u8]) -> Place
-        requires { (self.at < length feed.now) × (self.from < length replies.now) × (self.to ≤ length out.old) }
-        ensures { (self.at < result.at) × (result.at ≤ length feed.now) × (result.from ≤ length replies.now)
-            × (result.to ≤ length out.new) }
-    {
-        let at = self.at;
-        let from = self.from;
-        let role = families::role_of(family, feed[at]);
-        let p = subject(family, role, &feed[at..], out, self.to);
-        let q = answer(&replies[from..], out, p);
-        let to = text::byte(out, q, b'\n');
-        Place {
-            at: past(at, feed::size(family, role), feed.len()),
-            from: past(from, reply_size(replies[from]), replies.len()),
-            to: to,
+impl fmt::Display for Line<'_> {
+    fn fmt<W: fmt::Write>(&self, f: &mut fmt::Formatter<W>) -> fmt::Result {
+        let Line {
+            family,
+            record,
+            reply,
+        } = *self;
+        let role = families::role_of(family, byte_at(record, 0));
+        let asked = verb(role);
+        let address = Address {
+            family,
+            bytes: record,
+        };
+        write!(f, "{asked} {address}")?;
+        if role != Some(Role::Looking) {
+            let length = byte_at(record, 1 + families::levels(family));
+            write!(f, "/{length}")?;
         }
+        answer(reply, f)
     }
 }
 
-// n bytes on, and no further than the end.
-fn past(at: usize, n: usize, end: usize) -> usize
-    requires { (at < end) × (0 < n) }
-    ensures { (at < result) × (result ≤ end) }
-{
-    if end - at < n { end } else { at + n }
+fn verb(role: Option<Role>) -> &'static str {
+    match role {
+        Some(Role::Looking) => "lookup",
+        Some(Role::Announcing | Role::AnnouncingFor) => "announce",
+        _ => "withdraw",
+    }
+}
+
+fn answer<W: fmt::Write>(reply: &[u8], f: &mut fmt::Formatter<W>) -> fmt::Result {
+    let [second, fourth, last] = [1, 3, 4].map(|i| byte_at(reply, i));
+    let hop = two_at(reply, 1);
+    let cells = two_at(reply, 3);
+    match byte_at(reply, 0) {
+        19 => write!(f, " refused {second}"),
+        18 => write!(f, " none block {second}"),
+        17 => write!(f, " via {hop} length {fourth} block {last}"),
+        _ => write!(f, " via {hop} cells {cells}"),
+    }
+}
+
+// The lines of the records that are left, as far as there are replies.
+#[derive(Drop)]
+pub(crate) struct Lines<'a> {
+    pub(crate) family: Family,
+    pub(crate) feed: &'a [u8],
+    pub(crate) replies: &'a [u8],
+}
+
+impl<'a> Iterator for Lines<'a> {
+    type Item = Line<'a>;
+
+    ghost remaining = { λ s. at_most (length s.feed.now) };
+
+    fn next(&mut self) -> Option<Line<'a>> {
+        let line = Line {
+            family: self.family,
+            record: self.feed,
+            reply: self.replies,
+        };
+        let kind = *self.feed.first()?;
+        let answer = *self.replies.first()?;
+        let n = families::role_of(self.family, kind).map_or(
+            1,
+            |role| feed::size(self.family, role),
+        );
+        self.feed = &self.feed[n.min(self.feed.len())..];
+        self.replies = &self.replies[reply_size(answer).min(self.replies.len())..];
+        Some(line)
+    }
 }
 
 // The bytes of a reply of a kind, the kind's own included.
-fn reply_size(kind: u8) -> usize
-    ensures { 0 < result }
-{
+fn reply_size(kind: u8) -> usize {
     match kind {
         16 | 17 => 5,
         _ => 2,
     }
-}
-
-// What the record asks for, with its prefix or address as sent.
-fn subject(family: Family, role: Role, record: &[u8], out: &mut [u8], at: usize) -> usize
-    requires { at ≤ length out.old }
-    ensures { result ≤ length out.new }
-{
-    let p = verb(role, out, at);
-    let q = address(family, record, out, p);
-    match role {
-        Role::Looking => q,
-        _ => text::field(out, q, b"/", byte_at(record, 1 + families::levels(family))),
-    }
-}
-
-fn verb(role: Role, out: &mut [u8], at: usize) -> usize
-    requires { at ≤ length out.old }
-    ensures { result ≤ length out.new }
-{
-    match role {
-        Role::Looking => text::word(out, at, b"lookup "),
-        Role::Announcing | Role::AnnouncingFor => text::word(out, at, b"announce "),
-        _ => text::word(out, at, b"withdraw "),
-    }
-}
-
-fn answer(reply: &[u8], out: &mut [u8], at: usize) -> usize
-    requires { at ≤ length out.old }
-    ensures { result ≤ length out.new }
-{
-    let kind = byte_at(reply, 0);
-    if kind == 19 {
-        return text::field(out, at, b" refused ", byte_at(reply, 1));
-    }
-    if kind == 18 {
-        let p = text::word(out, at, b" none");
-        return text::field(out, p, b" block ", byte_at(reply, 1));
-    }
-    let p = text::field(out, at, b" via ", two_at(reply, 1));
-    if kind == 17 {
-        let q = text::field(out, p, b" length ", byte_at(reply, 3));
-        return text::field(out, q, b" block ", byte_at(reply, 4));
-    }
-    text::field(out, p, b" cells ", two_at(reply, 3))
 }

@@ -5,6 +5,22 @@ ghost use Rattle.std.specs.Io.KnownBytes.{Consumes, IsAtEnd};
 use std::io;
 use std::io::Read;
 
+// Hands a file's bytes on. A file of more than 4,096 bytes prints `too long` alone.
+pub(crate) fn with_feed<R: Print, I: Read + Drop, F: FnOnce(&[u8]) -> io::Result<()> + Drop>(
+    rt: &R,
+    mut file: I,
+    run: F,
+) -> io::Result<()>
+    requires { F.IsAlwaysCallable run }
+{
+    let mut input = [0u8; 4097];
+    let n = fill(&mut file, &mut input)?;
+    if n > 4096 {
+        return println!(rt; "too long");
+    }
+    run(&input[..n])
+}
+
 // Fills the bytes from the front, as far as the file goes, and hands back how many it gave.
 pub(crate) fn fill<I: Read>(file: &mut I, input: &mut [u8]) -> io::Result<usize>
     ensures within { IfOk result (λ n. n ≤ length input.new) }
@@ -22,22 +38,16 @@ pub(crate) fn fill<I: Read>(file: &mut I, input: &mut [u8]) -> io::Result<usize>
     Ok(n)
 }
 
-pub(crate) fn byte_at(bytes: &[u8], i: usize) -> u64
-    ensures { (result ≡ get_or bytes.now i 0) × (result < 256) }
+pub(crate) fn byte_at(bytes: &[u8], i: usize) -> u8
+    ensures { result ≡ get_or bytes.now i 0 }
 {
-    if i < bytes.len() { wide(bytes[i]) } else { 0 }
-}
-
-fn wide(b: u8) -> u64
-    ensures { (result ≡ b) × (result < 256) }
-{
-    b as u64
+    bytes.get(i).copied().unwrap_or(0)
 }
 
 // Two bytes, the high one first.
-pub(crate) fn two_at(bytes: &[u8], i: usize) -> u64
+pub(crate) fn two_at(bytes: &[u8], i: usize) -> u16
     requires { i < 32 }
     ensures { result ≡ get_or bytes.now i 0 * 256 + get_or bytes.now (i + 1) 0 }
 {
-    byte_at(bytes, i) * 256 + byte_at(bytes, i + 1)
+    u16::from_be_bytes([byte_at(bytes, i), byte_at(bytes, i + 1)])
 }

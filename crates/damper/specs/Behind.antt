@@ -9,7 +9,7 @@ use Rattle.candidates.specs.Candidate.{Candidate}
 use Rattle.candidates.specs.Seen.{table, ran_on}
 use Rattle.words.specs.Table.{seen}
 use Rattle.feed.specs.Runs as plain
-use Rattle.feed.specs.declared.Ran.{Ran}
+use Rattle.feed.specs.Runs.{Ran}
 use Rattle.rows.specs.Row.{IsWords}
 use Rattle.damping_run.specs.Behind.{records_behind, fed_behind, behind_without}
 use Rattle.damper.specs.Face.{HasRun}

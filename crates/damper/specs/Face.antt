@@ -11,17 +11,15 @@ use Rattle.replies.specs.Said.{said_reply}
 use Rattle.replies.specs.declared.Reply as code
 use Rattle.update.specs.Anywhere.{local_words}
 use Rattle.update.specs.Update.{Touches}
-use Rattle.feed.specs.Runs.{run_answer}
-use Rattle.feed.specs.declared.Ran.{Ran as Outcome}
+use Rattle.feed.specs.Runs.{Ran as Outcome, run_answer}
 use Rattle.front.specs.Seen.{Held, damped_on, behind_on, places_on, tick_on, behind_tick, places_tick}
 use Rattle.front.specs.Seen.{run_on, ran_behind, ran_places, replied_on, events_on, answers_on}
 use Rattle.rows.specs.Row.{IsWords}
 use Rattle.damping.specs.View.{seen_front}
 use Rattle.damping.specs.Locally.{HasDampedLocally}
 use Rattle.damping.specs.Behind.{news_on, Installs}
-use Rattle.damping.specs.Held.{check_answer}
+use Rattle.damping.specs.Held.{Checked, check_answer}
 use Rattle.damping.specs.Ticks as front
-use Rattle.damping.specs.declared.held.Checked.{Checked}
 use Rattle.damping_run.specs.Series.{Series}
 use Rattle.damping_run.specs.Runs.{standing, reported}
 use Rattle.damping_run.specs.Locally as fed

@@ -10,34 +10,35 @@ ghost use Rattle.damping.specs.Held.{check_answer, HasCleared};
 ghost use Rattle.damper.specs.Face.{held, HasUpdated, HasTicked, HasRun};
 ghost use Rattle.damper.specs.Face.{HasUpdatedLocally, HasTickedLocally, HasRunLocally};
 
-use answers::{Ran, Updated, change, report};
-use damping::held::Checked;
+use answers::{Ran, Updated};
+use damping::held::Held;
+use refusals::Refusal;
 
 // The numbers of places and of candidates held back.
 #[repr(C)]
-#[derive(Drop)]
+#[derive(Clone, Copy, Debug, Default, PartialEq, Eq)]
 pub struct Front {
     pub refusal: u32,
     pub places: u32,
     pub held_back: u32,
 }
 
-// ---- answers in plain numbers
+// In plain numbers: the refusal's number, or 0 and the values.
+impl From<Result<Held, Refusal>> for Front {
+    ghost from_gives = { λ answer r. r ≡ held (check_answer answer) };
 
-fn counts(answer: Checked) -> Front
-    ensures { result ≡ held (check_answer answer) }
-{
-    match answer {
-        Checked::Held(places, back) => Front {
-            refusal: 0,
-            places: places,
-            held_back: back,
-        },
-        Checked::Refused(n) => Front {
-            refusal: n,
-            places: 0,
-            held_back: 0,
-        },
+    fn from(answer: Result<Held, Refusal>) -> Front {
+        match answer {
+            Ok(Held { places, back }) => Front {
+                refusal: 0,
+                places,
+                held_back: back,
+            },
+            Err(why) => Front {
+                refusal: why.number(),
+                ..Front::default()
+            },
+        }
     }
 }
 
@@ -53,13 +54,13 @@ pub fn toggleash_damp_version_6() -> u32
 pub fn toggleash_damp_clear(front: &mut [u32]) -> u32
     ensures { HasCleared front.old front.new result }
 {
-    damping::held::clear(front)
+    answers::number(damping::held::clear(front))
 }
 
 pub fn toggleash_damp_check(front: &[u32]) -> Front
     ensures { result ≡ held (check_front (seen_front front.now)) }
 {
-    counts(damping::held::check(front))
+    Front::from(damping::held::check(front))
 }
 
 pub fn toggleash_damp_announce(
@@ -74,7 +75,7 @@ pub fn toggleash_damp_announce(
     ensures { HasUpdated front.old words.old front.new words.new
         (announced address length hop feed preference) result }
 {
-    change(damping::announce(front, words, address, length, hop, feed, preference))
+    Updated::from(damping::announce(front, words, address, length, hop, feed, preference))
 }
 
 pub fn toggleash_damp_withdraw(
@@ -87,13 +88,13 @@ pub fn toggleash_damp_withdraw(
     ensures { HasUpdated front.old words.old front.new words.new
         (withdrawn address length feed) result }
 {
-    change(damping::withdraw(front, words, address, length, feed))
+    Updated::from(damping::withdraw(front, words, address, length, feed))
 }
 
 pub fn toggleash_damp_tick(front: &mut [u32], words: &mut [u32]) -> Front
     ensures { HasTicked front.old words.old front.new words.new result }
 {
-    counts(damping::tick::tick(front, words))
+    Front::from(damping::tick::tick(front, words))
 }
 
 pub fn toggleash_damp_run(
@@ -105,10 +106,11 @@ pub fn toggleash_damp_run(
     ensures { HasRun front.old words.old feed.now reply.old
         front.new words.new reply.new result }
 {
-    report(damping_run::run(front, words, feed, reply))
+    Ran::from(damping_run::run(front, words, feed, reply))
 }
 
 // ---- the same, testing the front and of the table what they touch
+// kept: C names them beside the checked calls, and they promise another thing of words that are no table.
 
 pub fn toggleash_damp_announce_local(
     front: &mut [u32],
@@ -122,7 +124,7 @@ pub fn toggleash_damp_announce_local(
     ensures { HasUpdatedLocally front.old words.old front.new words.new
         (announced address length hop feed preference) result }
 {
-    change(damping::announce_local(front, words, address, length, hop, feed, preference))
+    Updated::from(damping::announce_local(front, words, address, length, hop, feed, preference))
 }
 
 pub fn toggleash_damp_withdraw_local(
@@ -135,13 +137,13 @@ pub fn toggleash_damp_withdraw_local(
     ensures { HasUpdatedLocally front.old words.old front.new words.new
         (withdrawn address length feed) result }
 {
-    change(damping::withdraw_local(front, words, address, length, feed))
+    Updated::from(damping::withdraw_local(front, words, address, length, feed))
 }
 
 pub fn toggleash_damp_tick_local(front: &mut [u32], words: &mut [u32]) -> Front
     ensures { HasTickedLocally front.old words.old front.new words.new result }
 {
-    counts(damping::tick::tick_local(front, words))
+    Front::from(damping::tick::tick_local(front, words))
 }
 
 pub fn toggleash_damp_run_local(
@@ -153,5 +155,5 @@ pub fn toggleash_damp_run_local(
     ensures { HasRunLocally front.old words.old feed.now reply.old
         front.new words.new reply.new result }
 {
-    report(damping_run::run_local(front, words, feed, reply))
+    Ran::from(damping_run::run_local(front, words, feed, reply))
 }

@@ -18,8 +18,7 @@ use Rattle.restraint.specs.Still.{past_still}
 use Rattle.rows.specs.Row.{places_of, IsWords}
 use Rattle.damping.specs.View.{seen_front_lem}
 use Rattle.damping.specs.Behind.{news, Installed, Installs, next, installs_none}
-use Rattle.damping.specs.Held.{HasTicked}
-use Rattle.damping.specs.declared.held.Checked.{Checked}
+use Rattle.damping.specs.Held.{Checked, HasTicked}
 
 record Split (ws : List ℕ) (u : Update) (xs : List Update) (vs : List ℕ) : Type 0 where
   mid : List ℕ

@@ -21,7 +21,8 @@ use Rattle.damping.specs.Locally.{refusal_before, HasDampedLocally}
 use Rattle.damping.specs.Tick.{TriedOn, calm, announced, TriesOn, nothing, more, TickedLocally}
 use Rattle.damping.specs.Ticks.{HasTickedLocally}
 use Rattle.damping.specs.Sharp.{check_one}
-use Rattle.damping.specs.declared.held.Checked.{Checked}
+use Rattle.refusals.specs.Number.{refusal_of}
+use Rattle.damping.specs.Held.{Checked}
 
 -- words of a front that stand for the same places are the same
 became_one : (gs hs : List ℕ) (ps qs : List Place) → ps ≡ qs → Became gs ps → Became hs qs → gs ≡ hs
@@ -86,6 +87,6 @@ module _ (fs ws gs vs hs us : List ℕ) where
       (λ z _. (let a = ticked_agrees (p.work z) (q.work z) in
       let e = p.answer z ∙ ap (λ (x : List ℕ). gives (held_in (places_of x))) a.0 ∙ sym (q.answer z) in
       (check_one r s e, a.0, a.1)))
-      (λ n _. (let x = p.kept (refusal_before fs ws 0) (p.first n) in
-      let y = q.kept (refusal_before fs ws 0) (q.first n) in
+      (λ n _. (let x = p.kept (refusal_of (refusal_before fs ws 0)) (p.first n) in
+      let y = q.kept (refusal_of (refusal_before fs ws 0)) (q.first n) in
       (p.first n ∙ sym (q.first n), x.0 ∙ sym y.0, x.1 ∙ sym y.1)))

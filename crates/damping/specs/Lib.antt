@@ -1,3 +1,4 @@
+pub mod Code
 pub mod View
 pub mod Work
 pub mod Update

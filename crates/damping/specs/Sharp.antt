@@ -1,7 +1,7 @@
 -- What the calls through a front promise leaves no choice: two outcomes that they allow agree in the answer, in what is seen of
 -- the front, where the words were a front in every word of it, in every word of the table, and, refused, in all words. Assumes
 -- nothing.
-use Rattle.std.specs.Prelude.{◌≡◌, ◌⊎◌, true, List, [], ℕ}
+use Rattle.std.specs.Prelude.{◌≡◌, ◌⊎◌, true, List, [], ℕ, Ok, Err}
 use Rattle.std.proofs.Common.{sym, ap, ◌∙◌, ⊎_elim, arith}
 use Rattle.logic.specs.Cases.{same}
 use Rattle.routes.specs.Answers.{is_refused}
@@ -22,10 +22,10 @@ use Rattle.damping.specs.Update.{HasDamped}
 use Rattle.damping.specs.Frame.{still, words}
 use Rattle.damping.specs.Locally.{HasDampedLocally}
 use Rattle.damping.specs.Behind.{news_on, Installs, installs_words, installs_none}
-use Rattle.damping.specs.Held.{check_answer, HasCleared, HasTicked}
+use Rattle.refusals.specs.Number.{number, number_one}
+use Rattle.refusals.specs.declared.Refusal.{Refusal}
+use Rattle.damping.specs.Held.{Checked, check_answer, HasCleared, HasTicked}
 use Rattle.damping.specs.Ticks.{HasTickedLocally}
-use Rattle.damping.specs.declared.held.Checked as code
-use Rattle.damping.specs.declared.held.Checked.TheVariants as checked
 
 -- two pairs of words, of a front and of a table, are alike
 pub record Alike (gs vs hs us : List ℕ) : Type 0 where
@@ -88,25 +88,25 @@ local_sharp fs ws gs vs hs us u r s t p = sharp fs ws gs vs hs us u r s (p.table
 
 -- ---- ticks
 
-pub record TicksAgree (fs gs vs hs us : List ℕ) (r s : code.Checked) : Type 0 where
+pub record TicksAgree (fs gs vs hs us : List ℕ) (r s : Checked) : Type 0 where
   pub answer : r ≡ s
   pub alike : Alike gs vs hs us
   pub behind : vs ≡ us
   pub front : IsWords fs → gs ≡ hs
-  pub words : (n : ℕ) → r ≡ checked.Refused n → (gs ≡ hs) × (vs ≡ us)
+  pub words : (e : Refusal) → r ≡ Err e → (gs ≡ hs) × (vs ≡ us)
 
 abbrev held_of : Answer Held → Held
 held_of (gives h) = h
 held_of (refuses n) = held_in []
 
-pub check_one : (r s : code.Checked) → check_answer r ≡ check_answer s → r ≡ s
-check_one (checked.Held m b) (checked.Held n d) e =
-    let p : m ≡ n = ap (λ x. (held_of x).places) e in
-    let q : b ≡ d = ap (λ x. (held_of x).back) e in
-    λ i. checked.Held (p i) (q i)
-check_one (checked.Held m b) (checked.Refused n) e = let z : ◌≡◌ {A = ℕ} 0 1 = cc in absurd (omega arith)
-check_one (checked.Refused m) (checked.Held n d) e = let z : ◌≡◌ {A = ℕ} 0 1 = cc in absurd (omega arith)
-check_one (checked.Refused m) (checked.Refused n) e = cc
+pub check_one : (r s : Checked) → check_answer r ≡ check_answer s → r ≡ s
+check_one (Ok h) (Ok k) e =
+    let p : h.places ≡ k.places = ap (λ x. (held_of x).places) e in
+    let q : h.back ≡ k.back = ap (λ x. (held_of x).back) e in
+    λ i. Ok (record { places = p i; back = q i })
+check_one (Ok h) (Err f) e = cc
+check_one (Err f) (Ok h) e = cc
+check_one (Err f) (Err g) e = let q : number f ≡ number g = cc in ap Err (number_one f g q)
 
 -- the installations of a tick leave the same words
 pub installs_one : (fs ws vs us : List ℕ) → Installs ws (news_on (seen_front fs) (seen 4 ws)) vs
@@ -117,7 +117,7 @@ installs_one fs ws vs us p q =
     (λ _ _ s. installs_none (rw s at p) ∙ sym (installs_none (rw s at q)))
     (λ _ _ t _. installs_words t p ∙ sym (installs_words t q))
 
-pub tick_sharp : (fs ws gs vs hs us : List ℕ) (r s : code.Checked) → HasTicked fs ws gs vs r → HasTicked fs ws hs us s
+pub tick_sharp : (fs ws gs vs hs us : List ℕ) (r s : Checked) → HasTicked fs ws gs vs r → HasTicked fs ws hs us s
     → TicksAgree fs gs vs hs us r s
 tick_sharp fs ws gs vs hs us r s p q =
     let e : r ≡ s = check_one r s (p.answer ∙ sym q.answer) in
@@ -131,6 +131,6 @@ tick_sharp fs ws gs vs hs us r s p q =
           ((p.kept n z).0 ∙ sym (q.kept n (sym e ∙ z)).0, (p.kept n z).1 ∙ sym (q.kept n (sym e ∙ z)).1);
     }
 
-pub tick_local_sharp : (fs ws gs vs hs us : List ℕ) (r s : code.Checked) → Table 4 ws → HasTickedLocally fs ws gs vs r
+pub tick_local_sharp : (fs ws gs vs hs us : List ℕ) (r s : Checked) → Table 4 ws → HasTickedLocally fs ws gs vs r
     → HasTicked fs ws hs us s → TicksAgree fs gs vs hs us r s
 tick_local_sharp fs ws gs vs hs us r s t p = tick_sharp fs ws gs vs hs us r s (p.table t)

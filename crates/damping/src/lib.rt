@@ -6,69 +6,125 @@
 pub mod held; // a front checked and cleared
 pub mod tick; // a tick of both
 
-ghost use Rattle.std.specs.Prelude.{◌≡◌};
+ghost use Rattle.std.specs.Prelude.{◌≡◌, true};
 ghost use Rattle.candidates.specs.Answers.{announce as announced, withdraw as withdrawn};
+ghost use Rattle.words.specs.TableBut.{Table};
+ghost use Rattle.refusals.specs.Number.{fault};
+ghost use Rattle.update.specs.Fault.{fault_of};
+ghost use Rattle.update.specs.Locally.{HasUpdatedLocally};
+ghost use Rattle.damping.specs.Code.{update_of};
 ghost use Rattle.damping.specs.Work.{Damped, Damps};
 ghost use Rattle.damping.specs.Update.{HasDamped};
 ghost use Rattle.damping.specs.Refuse.{front_number, refusal_through};
 ghost use Rattle.damping.specs.Locally.{Ready, refusal_before, HasDampedLocally};
 
+use address::Address;
+use charge::Candidate;
+use refusals::Refusal;
 use replies::{Reply, is_done};
+
+// What is asked for of a candidate.
+#[derive(Clone, Copy, Debug, PartialEq, Eq)]
+pub(crate) enum Update {
+    Announce { hop: u32, preference: u8 },
+    Withdraw,
+}
+
+// ---- the table's own calls, by the bytes of an address
+
+fn own_fault(candidate: Candidate, update: Update) -> Result<(), Refusal>
+    ensures { fault result ≡ fault_of 32 (update_of candidate update) }
+{
+    let bytes = candidate.address.bytes();
+    match update {
+        Update::Announce { hop, .. } => {
+            update::announce_fault(&bytes, candidate.length, hop, candidate.feed)
+        }
+        Update::Withdraw => update::withdraw_fault(&bytes, candidate.length, candidate.feed),
+    }
+}
+
+pub(crate) fn pass_on(words: &mut [u32], candidate: Candidate, update: Update, known: bool) -> Reply
+    requires { (known ≡ true) → Table 4 words.old }
+    ensures { HasUpdatedLocally 4 words.old words.new (update_of candidate update) result }
+{
+    let Candidate {
+        address,
+        length,
+        feed,
+    } = candidate;
+    let bytes = address.bytes();
+    match update {
+        Update::Announce { hop, preference } => {
+            update::announce_with(words, &bytes, length, hop, feed, preference, known)
+        }
+        Update::Withdraw => update::withdraw_with(words, &bytes, length, feed, known),
+    }
+}
 
 // ---- the work, on a front and any words of a right size; a caller who knows these to be a table spares their tests
 
-fn announce_in(
+fn update_in(
     front: &mut [u32],
     words: &mut [u32],
-    address: u32,
-    length: u32,
-    hop: u32,
-    feed: u32,
-    preference: u8,
+    candidate: Candidate,
+    update: Update,
     known: bool,
 ) -> Reply
-    requires { Damps front.old words.old (announced address length hop feed preference) known }
-    ensures { Damped front.old words.old front.new words.new
-        (announced address length hop feed preference) result }
+    requires { Damps front.old words.old (update_of candidate update) known }
+    ensures { Damped front.old words.old front.new words.new (update_of candidate update) result }
 {
-    let spot = charge::find(front, address, length, feed);
-    if spot.mark % 2 == 1 {
-        charge::keep(front, spot, address, length, hop, feed, preference as u32);
-        return Reply::Done(hop, 0);
-    }
-    let bytes = address::four_of(address);
-    update::announce_with(words, &bytes, length, hop, feed, preference, known)
-}
-
-fn withdraw_in(
-    front: &mut [u32],
-    words: &mut [u32],
-    address: u32,
-    length: u32,
-    feed: u32,
-    known: bool,
-) -> Reply
-    requires { Damps front.old words.old (withdrawn address length feed) known }
-    ensures { Damped front.old words.old front.new words.new
-        (withdrawn address length feed) result }
-{
-    let spot = charge::find(front, address, length, feed);
-    if spot.mark % 2 == 1 {
-        if spot.kept == 0 {
-            return Reply::Refused(7);
+    let spot = charge::find(front, candidate);
+    match (spot.held_back(), update) {
+        (Some(_), Update::Announce { hop, preference }) => {
+            charge::keep(front, spot, candidate, hop, preference as u32);
+            Reply::Done(hop, 0)
         }
-        charge::charge(front, spot, address, length, feed);
-        return Reply::Done(spot.kept % 65536, 0);
+        (Some(0), Update::Withdraw) => Reply::Refused(Refusal::Absent.number()),
+        (Some(kept), Update::Withdraw) => {
+            charge::charge(front, spot, candidate);
+            Reply::Done(kept % 65536, 0)
+        }
+        (None, Update::Announce { .. }) => pass_on(words, candidate, update, known),
+        (None, Update::Withdraw) => {
+            let r = pass_on(words, candidate, update, known);
+            if is_done(r) {
+                charge::charge(front, spot, candidate);
+            }
+            r
+        }
     }
-    let bytes = address::four_of(address);
-    let r = update::withdraw_with(words, &bytes, length, feed, known);
-    if is_done(r) {
-        charge::charge(front, spot, address, length, feed);
-    }
-    r
 }
 
+// The fault of words that are no front.
+fn front_fault(front: &[u32]) -> Result<(), Refusal>
+    ensures { fault result ≡ front_number front.now }
+{
+    if rows::is_front(front) {
+        return Ok(());
+    }
+    Err(Refusal::Foreign)
+}
+
+// kept: one work after three tests, in three calls, since each has a promise of its own: `HasDamped`, `HasDampedLocally`, `Ready`
 // ---- updates by callers who know the front to be one, and the size of the table's words to be right: a run has tested both
+
+fn update_with(
+    front: &mut [u32],
+    words: &mut [u32],
+    candidate: Candidate,
+    update: Update,
+    known: bool,
+) -> Reply
+    requires { Ready front.old words.old known }
+    ensures { HasDampedLocally front.old words.old front.new words.new
+        (update_of candidate update) result }
+{
+    match own_fault(candidate, update) {
+        Ok(()) => update_in(front, words, candidate, update, known),
+        Err(e) => Reply::Refused(e.number()),
+    }
+}
 
 pub fn announce_with(
     front: &mut [u32],
@@ -84,12 +140,13 @@ pub fn announce_with(
     ensures { HasDampedLocally front.old words.old front.new words.new
         (announced address length hop feed preference) result }
 {
-    let bytes = address::four_of(address);
-    let f = update::announce_fault(&bytes, length, hop, feed);
-    if f != 0 {
-        return Reply::Refused(f);
-    }
-    announce_in(front, words, address, length, hop, feed, preference, known)
+    let candidate = Candidate {
+        address,
+        length,
+        feed,
+    };
+    let update = Update::Announce { hop, preference };
+    update_with(front, words, candidate, update, known)
 }
 
 pub fn withdraw_with(
@@ -104,36 +161,32 @@ pub fn withdraw_with(
     ensures { HasDampedLocally front.old words.old front.new words.new
         (withdrawn address length feed) result }
 {
-    let bytes = address::four_of(address);
-    let f = update::withdraw_fault(&bytes, length, feed);
-    if f != 0 {
-        return Reply::Refused(f);
-    }
-    withdraw_in(front, words, address, length, feed, known)
-}
-
-// 2 for words that are no front, or 0.
-fn front_fault(front: &[u32]) -> u32
-    ensures { result ≡ front_number front.now }
-{
-    if !rows::is_front(front) {
-        return 2;
-    }
-    0
+    let candidate = Candidate {
+        address,
+        length,
+        feed,
+    };
+    update_with(front, words, candidate, Update::Withdraw, known)
 }
 
 // ---- updates of any words that test both memories whole
 
-// The first of 1, an update's own fault (0 for none) and 2 that applies, or 0: then there is no fault, and the words are a front
-// and a table.
-pub fn refusal(front: &[u32], words: &[u32], fault: u32) -> u32
-    ensures { result ≡ refusal_through front.now words.now fault }
+// The first of 1, an update's own fault and 2 that applies: with none, the words are a front and a table.
+pub fn refusal(front: &[u32], words: &[u32], own: Result<(), Refusal>) -> Result<(), Refusal>
+    ensures { fault result ≡ refusal_through front.now words.now (fault own) }
 {
-    let n = update::refusal(words, 4, fault);
-    if n != 0 {
-        return n;
-    }
+    update::refusal(words, 4, own)?;
     front_fault(front)
+}
+
+fn update_whole(front: &mut [u32], words: &mut [u32], candidate: Candidate, update: Update) -> Reply
+    ensures { HasDamped front.old words.old front.new words.new (update_of candidate update) result }
+{
+    let own = own_fault(candidate, update);
+    match refusal(front, words, own) {
+        Ok(()) => update_in(front, words, candidate, update, true),
+        Err(e) => Reply::Refused(e.number()),
+    }
 }
 
 // A candidate announced: refused with the first of 1, 3, 4, 5, 10, 2 and 8 that applies, kept, or held afterwards.
@@ -149,16 +202,17 @@ pub fn announce(
     ensures { HasDamped front.old words.old front.new words.new
         (announced address length hop feed preference) result }
 {
-    let bytes = address::four_of(address);
-    let n = refusal(
+    let candidate = Candidate {
+        address,
+        length,
+        feed,
+    };
+    update_whole(
         front,
         words,
-        update::announce_fault(&bytes, length, hop, feed),
-    );
-    if n != 0 {
-        return Reply::Refused(n);
-    }
-    announce_in(front, words, address, length, hop, feed, preference, true)
+        candidate,
+        Update::Announce { hop, preference },
+    )
 }
 
 // A candidate withdrawn: refused with the first of 1, 3, 4, 10, 2 and 7 that applies, or neither held nor kept any more.
@@ -166,27 +220,36 @@ pub fn withdraw(front: &mut [u32], words: &mut [u32], address: u32, length: u32,
     ensures { HasDamped front.old words.old front.new words.new
         (withdrawn address length feed) result }
 {
-    let bytes = address::four_of(address);
-    let n = refusal(front, words, update::withdraw_fault(&bytes, length, feed));
-    if n != 0 {
-        return Reply::Refused(n);
-    }
-    withdraw_in(front, words, address, length, feed, true)
+    let candidate = Candidate {
+        address,
+        length,
+        feed,
+    };
+    update_whole(front, words, candidate, Update::Withdraw)
 }
 
 // ---- updates of any words that test the front, and of the table what they touch
 
-// The first of 1, an update's own fault (0 for none) and 2 for words that are no front that applies, or 0.
-pub fn refusal_local(front: &[u32], words: &[u32], fault: u32) -> u32
-    ensures { result ≡ refusal_before front.now words.now fault }
+// The first of 1, an update's own fault and 2 for words that are no front that applies.
+pub fn refusal_local(front: &[u32], words: &[u32], own: Result<(), Refusal>) -> Result<(), Refusal>
+    ensures { fault result ≡ refusal_before front.now words.now (fault own) }
 {
     if words::size::misfit(words.len()) {
-        return 1;
+        return Err(Refusal::Misfit);
     }
-    if fault != 0 {
-        return fault;
-    }
+    own?;
     front_fault(front)
+}
+
+fn update_local(front: &mut [u32], words: &mut [u32], candidate: Candidate, update: Update) -> Reply
+    ensures { HasDampedLocally front.old words.old front.new words.new
+        (update_of candidate update) result }
+{
+    let own = own_fault(candidate, update);
+    match refusal_local(front, words, own) {
+        Ok(()) => update_in(front, words, candidate, update, false),
+        Err(e) => Reply::Refused(e.number()),
+    }
 }
 
 // A candidate announced: refused with the first of 1, 3, 4, 5, 10, 2 (no front, or what it touches is not as in a table) and 8
@@ -203,13 +266,17 @@ pub fn announce_local(
     ensures { HasDampedLocally front.old words.old front.new words.new
         (announced address length hop feed preference) result }
 {
-    let bytes = address::four_of(address);
-    let fault = update::announce_fault(&bytes, length, hop, feed);
-    let n = refusal_local(front, words, fault);
-    if n != 0 {
-        return Reply::Refused(n);
-    }
-    announce_in(front, words, address, length, hop, feed, preference, false)
+    let candidate = Candidate {
+        address,
+        length,
+        feed,
+    };
+    update_local(
+        front,
+        words,
+        candidate,
+        Update::Announce { hop, preference },
+    )
 }
 
 // A candidate withdrawn: refused with the first of 1, 3, 4, 10, 2 and 7 that applies, or neither held nor kept any more.
@@ -223,11 +290,10 @@ pub fn withdraw_local(
     ensures { HasDampedLocally front.old words.old front.new words.new
         (withdrawn address length feed) result }
 {
-    let bytes = address::four_of(address);
-    let fault = update::withdraw_fault(&bytes, length, feed);
-    let n = refusal_local(front, words, fault);
-    if n != 0 {
-        return Reply::Refused(n);
-    }
-    withdraw_in(front, words, address, length, feed, false)
+    let candidate = Candidate {
+        address,
+        length,
+        feed,
+    };
+    update_local(front, words, candidate, Update::Withdraw)
 }

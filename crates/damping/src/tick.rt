@@ -7,31 +7,34 @@ ghost use Rattle.damping.specs.Tick.{TriedRow, Tries, Begins, Trying, TickedLoca
 ghost use Rattle.damping.specs.Held.{HasTicked};
 ghost use Rattle.damping.specs.Ticks.{HasTickedLocally};
 
-use super::held::{Checked, count, held_in};
-use super::{refusal, refusal_local};
+use super::held::{Held, count, held_in};
+use super::{Update, pass_on, refusal, refusal_local};
+use charge::Candidate;
+use refusals::Refusal;
 use replies::is_done;
-use rows::ROW_WORDS;
+use rows::{Row, row_at};
 
 // What row i keeps below 750 is announced to the table, and kept on where that refuses it.
 fn try_row(front: &mut [u32], words: &mut [u32], i: usize, known: bool)
     requires { Tries front.old words.old i known }
     ensures { TriedRow front.old words.old front.new words.new i }
 {
-    let a = front[ROW_WORDS * i];
-    let w = front[ROW_WORDS * i + 1];
-    let x = front[ROW_WORDS * i + 2];
-    let k = front[ROW_WORDS * i + 3];
-    if x / 2 >= 750 {
+    let row = row_at(front, i);
+    if row.mark / 2 >= 750 || row.kept == 0 {
         return;
     }
-    if k == 0 {
-        return;
-    }
-    let bytes = address::four_of(a);
-    let preference = (k / 65536 % 256) as u8;
-    let r = update::announce_with(words, &bytes, w / 8, k % 65536, w % 8, preference, known);
+    let candidate = Candidate {
+        address: row.address,
+        length: row.who / 8,
+        feed: row.who % 8,
+    };
+    let update = Update::Announce {
+        hop: row.kept % 65536,
+        preference: (row.kept / 65536) as u8,
+    };
+    let r = pass_on(words, candidate, update, known);
     if is_done(r) {
-        shelf::store(front, i, a, w, x, 0);
+        shelf::store(front, i, Row { kept: 0, ..row });
     }
 }
 
@@ -40,10 +43,8 @@ fn try_rows(front: &mut [u32], words: &mut [u32], n: usize, known: bool)
     requires { Begins front.old words.old n known }
     ensures { Trying front.old words.old front.new words.new n }
 {
-    let mut i = 0;
-    while i < n {
+    for i in 0..n {
         try_row(front, words, i, known);
-        i += 1;
     }
 }
 
@@ -59,25 +60,19 @@ pub fn tick_with(front: &mut [u32], words: &mut [u32], known: bool)
 }
 
 // A tick of any words: refused with the first of 1 and 2 that applies, or answered as the check is after it.
-pub fn tick(front: &mut [u32], words: &mut [u32]) -> Checked
+pub fn tick(front: &mut [u32], words: &mut [u32]) -> Result<Held, Refusal>
     ensures { HasTicked front.old words.old front.new words.new result }
 {
-    let n = refusal(front, words, 0);
-    if n != 0 {
-        return Checked::Refused(n);
-    }
+    refusal(front, words, Ok(()))?;
     tick_with(front, words, true);
-    held_in(front)
+    Ok(held_in(front))
 }
 
 // The same without a test of the whole table: each announcement tests what it touches itself.
-pub fn tick_local(front: &mut [u32], words: &mut [u32]) -> Checked
+pub fn tick_local(front: &mut [u32], words: &mut [u32]) -> Result<Held, Refusal>
     ensures { HasTickedLocally front.old words.old front.new words.new result }
 {
-    let n = refusal_local(front, words, 0);
-    if n != 0 {
-        return Checked::Refused(n);
-    }
+    refusal_local(front, words, Ok(()))?;
     tick_with(front, words, false);
-    held_in(front)
+    Ok(held_in(front))
 }

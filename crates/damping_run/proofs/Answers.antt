@@ -1,12 +1,14 @@
 -- Records and ticks answered by their calls, and what the feed's bytes say of the one that is next. Assumes nothing.
 use mathlib.Core.Path.{◌≡◌, ◌∙◌}
-use mathlib.Core.Logic.{◌≢◌}
-use mathlib.Core.Bool.{Bool, true, false, cond}
+use mathlib.Core.Bool.{Bool, false, cond}
 use mathlib.Core.List.{List}
 use Prim.Native.Nat.{ℕ, ◌+◌, ◌≤◌, ◌<◌}
 use native.Mathlib.Omega.{arith}
 use lib.ListN.{length, get_or}
-use borrow.Author.Tests.{eq-eqb}
+use Rattle.std.specs.Prelude.{Option, Some}
+use borrow.Author.Tests.{eq-eqb, ne_eqb, eqb-true, le-ltb, lt-leb}
+use Rattle.logic.specs.Nonzero.{nonzero}
+use Rattle.feed.specs.Progress.{size_known, halts_before, halts_as}
 use Rattle.logic.specs.Cases.{bool}
 use Rattle.numbers.specs.Digits.{two_at, four_at}
 use Rattle.numbers.specs.Four.{four_at_lem}
@@ -23,7 +25,7 @@ use Rattle.lookup.specs.Walk.{walk}
 use Rattle.feed.specs.Turns.{announce_at, withdraw_at, lookup_at}
 use Rattle.front.specs.Front.{asks, accepts}
 use Rattle.front.specs.Runs.{tick_kind, ticks_at, event_at, size_at, halts}
-use Rattle.restraint.specs.Turns.{Clear, halts-plain, halts-full, halts_tick}
+use Rattle.restraint.specs.Turns.{Clear, tick_there}
 use Rattle.damping.specs.Locally.{HasDampedLocally}
 use Rattle.damping.specs.Tick.{TickedLocally}
 use Rattle.damping_run.specs.Locally.{AskedLocally, updated, looked, ticked}
@@ -60,56 +62,29 @@ module _ (fs ws gs vs feed : List ℕ) (i : ℕ) where
 
 -- ---- the tests before it
 
-module _ (feed : List ℕ) (room at out n : ℕ) (e : n ≡ bytes_of (get_or feed at 0)) where
-  -- a kind that has bytes is a tick's or a record's
-  known : n ≢ 0 → ticks_at feed at ≡ false → (is_unknown (role_at v4 feed at) ≡ false) × (n ≡ size v4 (role_at v4 feed at))
-  known z t =
-      bool (is_unknown (role_at v4 feed at))
-      (λ u. absurd (z (e ∙ rw (t, u))))
-      (λ u. (u, e ∙ rw (t, u)))
-
-  byte : ticks_at feed at ≡ true → n ≡ 1
-  byte t = e ∙ rw t
-
-  pub stop_2 : at < length feed → n ≡ 0 → halts feed room at out ≡ 2
-  stop_2 l z =
+module _ (feed : List ℕ) (room at out : ℕ) where
+  -- those that any run makes, by the bytes of the kind
+  pub halts_through : (n : Option ℕ) → (at < length feed → n ≡ nonzero (bytes_of (get_or feed at 0)))
+      → halts_before feed room at out n ≡ halts feed room at out
+  unfolding halts
+  halts_through n q =
       bool (ticks_at feed at)
-      (λ t. absurd (omega (arith, byte t)))
-      (λ t. bool (is_unknown (role_at v4 feed at))
-      (λ u. halts-plain feed room at out t ∙ plain.halts_2 v4 feed room at out l u)
-      (λ u. absurd (let s : n ≡ size v4 (role_at v4 feed at) = e ∙ rw (t, u) in
-      omega (arith, s, plain.size_pos v4 (role_at v4 feed at)))))
+      (λ t. (let l = tick_there feed at t in
+      let k : get_or feed at 0 ≡ 9 = eqb-true (get_or feed at 0) tick_kind t in
+      let s : n ≡ Some 1 = q l ∙ rw t in
+      rw (t, s, lt-leb (length feed) at l, le-ltb (length feed) (at + 1) (omega arith), k)))
+      (λ t. rw t (halts_as v4 feed room at out n (λ l. q l ∙ rw t (sized (role_at v4 feed at)))))
+    where
+      sized : (r : Role) → nonzero (cond (is_unknown r) 0 (size v4 r)) ≡ size_known v4 r
+      sized r =
+          bool (is_unknown r)
+          (λ u. rw u)
+          (λ u. rw (u, ne_eqb (size v4 r) 0 (omega (arith, plain.size_pos v4 r))))
 
-  pub stop_3 : n ≢ 0 → at < length feed → length feed < at + n → halts feed room at out ≡ 3
-  stop_3 z l h =
+  pub size-told : (n : ℕ) → n ≡ bytes_of (get_or feed at 0) → Clear feed room at out → n ≡ size_at feed at
+  size-told n e c =
       bool (ticks_at feed at)
-      (λ t. absurd (omega (arith, byte t)))
-      (λ t. (let k = known z t in
-      halts-plain feed room at out t ∙ plain.halts_3 v4 feed room at out l k.0 (omega (arith, k.1))))
-
-  pub stop_0 : at < length feed → get_or feed at 0 ≡ 0 → halts feed room at out ≡ 0
-  stop_0 l h =
-      halts-plain feed room at out (rw h) ∙ plain.halts_0 v4 feed room at out l h
-
-  pub stop_4 : n ≢ 0 → at + n ≤ length feed → 1 ≤ get_or feed at 0 → room < out + 5 → halts feed room at out ≡ 4
-  stop_4 z b m h =
-      bool (ticks_at feed at)
-      (λ t. halts-full feed room at out t h)
-      (λ t. (let k = known z t in
-      halts-plain feed room at out t ∙ plain.halts_4 v4 feed room at out k.0 (omega (arith, k.1)) m h))
-
-  pub stop_none : n ≢ 0 → at + n ≤ length feed → 1 ≤ get_or feed at 0 → out + 5 ≤ room → halts feed room at out ≡ 5
-  stop_none z b m h =
-      bool (ticks_at feed at)
-      (λ t. halts_tick feed room at out t h)
-      (λ t. (let k = known z t in
-      halts-plain feed room at out t
-      ∙ plain.clear_halts v4 feed room at out (record { known = k.0; body = omega (arith, k.1); more = m; free = h })))
-
-  pub size-told : Clear feed room at out → n ≡ size_at feed at
-  size-told c =
-      bool (ticks_at feed at)
-      (λ t. rw t (byte t))
+      (λ t. rw t (e ∙ rw t))
       (λ t. rw t (e ∙ rw (t, (c.plain t).known)))
 
 -- ---- the counts

@@ -4,8 +4,7 @@
 --     feed   ██████████████░░░░░░░░        reply   ██████████░░░░░░░░░░
 --            consumed      at                      written   out, the rest as it was
 use mathlib.Core.Path.{◌≡◌, refl, sym, ap, subst, ◌∙◌}
-use mathlib.Core.Logic.{◌≢◌}
-use mathlib.Core.Bool.{Bool, true, false, cond}
+use mathlib.Core.Bool.{Bool, true, false, cond, not}
 use mathlib.Core.List.{List}
 use Prim.Native.Nat.{ℕ, ◌+◌, ◌-◌, ◌≤◌}
 use native.Mathlib.Nat.{add-zero}
@@ -21,10 +20,14 @@ use Rattle.candidates.specs.Runs.{tally}
 use Rattle.candidates.specs.Seen.{misfits}
 use Rattle.words.specs.View.{seen-cases}
 use Rattle.update.specs.Refuse.{refusal-size, refusal_foreign, refusal_none}
-use Rattle.feed.specs.Turns.{one}
+use Rattle.feed.specs.Progress.{one}
 use Rattle.feed.specs.Replies.{wrote-before, wrote_after}
 use Rattle.feed.specs.declared.Report.{Report}
-use Rattle.feed.specs.declared.Ran.TheVariants.{Stopped, Refused}
+use Rattle.std.specs.Prelude.{Ok, Err}
+use Rattle.refusals.specs.Number.{number, refusal_of, number_back}
+use Rattle.refusals.specs.declared.Refusal.{Refusal}
+use Rattle.update.specs.Fault.{number_some}
+use Rattle.feed.specs.Progress.{Counted}
 use Rattle.front.specs.Front.{accepts}
 use Rattle.front.specs.Runs.{ticks_at, event_at, size_at, halts}
 use Rattle.restraint.specs.Turns.{size_pos}
@@ -40,7 +43,7 @@ use Rattle.damping_run.specs.Locally.{HasRunLocally}
 use Rattle.damping_run.specs.Tables.{gone_words, ran_table}
 use Rattle.damping_run.specs.Turns.{first, note_of, Takes, Took}
 use Rattle.damping_run.specs.Steps.{Comes, comes_first, comes_on}
-use Rattle.damping_run.specs.declared.Progress.{Progress}
+use Rattle.feed.specs.declared.Progress.{Progress}
 use Rattle.damping_run.proofs.Answers.{accepts_at}
 
 -- ---- a turn
@@ -94,6 +97,19 @@ module _ (p : Progress) (fs ws feed b : List ℕ) (k : Bool) (t : Takes p fs ws 
       ref : p.refused + y ≡ tally (is_refused r) p.refused
       ref = ap (λ (m : ℕ). p.refused + m) ey ∙ one_tally (is_refused r) p.refused
 
+pub took_counted : (p : Progress) (fs ws feed b : List ℕ) (k : Bool) → Takes p fs ws feed b k → (gs vs : List ℕ) (r : Reply)
+    (n : ℕ) (q : Progress) (c : List ℕ) (u : Bool) → n ≡ size_at feed p.at → AskedLocally fs ws (event_at feed p.at) r gs vs
+    → u ≡ not (ticks_at feed p.at) → Counted p n r u q b c → Took p fs ws feed b q gs vs c
+took_counted p fs ws feed b k t gs vs r n q c u e a d m =
+    subst (λ (z : Progress). Took p fs ws feed b z gs vs c)
+    (sym (λ i. record { at = m.at i; out = q.out; accepted = m.accepted i; refused = m.refused i }))
+    (took p fs ws feed b k t gs vs c r n q.out (one (cond u (is_done r) false)) (one (is_refused r)) e a m.wrote
+    (ap one (update_is u (ticks_at feed p.at) (is_done r) d)) refl)
+  where
+    update_is : (u t y : Bool) → u ≡ not t → cond u y false ≡ cond t false y
+    update_is u true y d = rw d
+    update_is u false y d = rw d
+
 -- ---- the loop
 
 -- a run from fs₀, ws₀ and b₀ has come to p, with the words fs and ws and the reply bytes b, and `stop` is what the next tests
@@ -144,10 +160,10 @@ module _ (fs₀ ws₀ feed b₀ fs ws b : List ℕ) (p : Progress) (k : Bool) (s
 
 -- ---- the test at the start
 
-pub run_refused : (fs ws feed b : List ℕ) (n : ℕ) → n ≡ refusal_through fs ws 0 → n ≢ 0 → HasRun fs ws feed b fs ws b (Refused n)
-run_refused fs ws feed b n e z =
+pub run_refused : (fs ws feed b : List ℕ) (r : Refusal) → number r ≡ refusal_through fs ws 0 → HasRun fs ws feed b fs ws b (Err r)
+run_refused fs ws feed b r e =
     seen-cases 4 ws (omega arith) (omega arith)
-    (λ m s. (let q : n ≡ 1 = e ∙ sym (refusal_first fs ws 0 1 (refusal-size 4 ws 0 m) (omega arith)) in
+    (λ m s. (let q : number r ≡ 1 = e ∙ sym (refusal_first fs ws 0 1 (refusal-size 4 ws 0 m) (omega arith)) in
     record {
       answer = rw (s, q);
       list = rw s;
@@ -157,7 +173,7 @@ run_refused fs ws feed b n e z =
       front = λ w. w;
       series = rw s nothing;
     }))
-    (λ m k s. (let q : n ≡ 2 = e ∙ sym (refusal_first fs ws 0 2 (refusal_foreign 4 ws 0 m refl k) (omega arith)) in
+    (λ m k s. (let q : number r ≡ 2 = e ∙ sym (refusal_first fs ws 0 2 (refusal_foreign 4 ws 0 m refl k) (omega arith)) in
     record {
       answer = rw (s, q);
       list = rw s;
@@ -168,8 +184,8 @@ run_refused fs ws feed b n e z =
       series = rw s nothing;
     }))
     (λ m k _ s. bool (front_b fs)
-    (λ f. absurd (z (e ∙ sym (refusal_passed fs ws 0 0 (refusal_none 4 ws 0 m refl k) refl f))))
-    (λ f. (let q : n ≡ 2 = e ∙ sym (refusal_alien fs ws 0 0 (refusal_none 4 ws 0 m refl k) refl f) in
+    (λ f. absurd (number_some r (e ∙ sym (refusal_passed fs ws 0 0 (refusal_none 4 ws 0 m refl k) refl f))))
+    (λ f. (let q : number r ≡ 2 = e ∙ sym (refusal_alien fs ws 0 0 (refusal_none 4 ws 0 m refl k) refl f) in
     let a = seen_alien fs f in
     record {
       answer = rw (a, s, q);
@@ -183,22 +199,22 @@ run_refused fs ws feed b n e z =
 
 -- ---- the local run
 
-pub local_refused : (fs ws feed b : List ℕ) (n : ℕ) → n ≡ refusal_before fs ws 0 → n ≢ 0
-    → HasRunLocally fs ws feed b fs ws b (Refused n)
-local_refused fs ws feed b n e z = record {
-  first = λ _. ap Refused e;
-  work = λ y. absurd (z (e ∙ y));
+pub local_refused : (fs ws feed b : List ℕ) (r : Refusal) → number r ≡ refusal_before fs ws 0
+    → HasRunLocally fs ws feed b fs ws b (Err r)
+local_refused fs ws feed b r e = record {
+  first = λ _. ap Err (sym (number_back r) ∙ ap refusal_of e);
+  work = λ y. absurd (number_some r (e ∙ y));
   kept = λ _ _. (refl, refl, refl);
   front = λ w. w;
-  table = λ t. run_refused fs ws feed b n (e ∙ sym (before_table fs ws 0 t)) z;
+  table = λ t. run_refused fs ws feed b r (e ∙ sym (before_table fs ws 0 t));
 }
 
 pub local_ran : (fs ws feed b gs vs c : List ℕ) (r : Report) → IsWords fs → misfits (length ws) ≡ false
-    → RanLocally fs ws feed b gs vs c (Stopped r) → HasRunLocally fs ws feed b gs vs c (Stopped r)
+    → RanLocally fs ws feed b gs vs c (Ok r) → HasRunLocally fs ws feed b gs vs c (Ok r)
 local_ran fs ws feed b gs vs c r w m p = record {
   first = λ n. absurd (n (sym (before_none fs ws 0 m refl (words_from fs w))));
   work = λ _. p;
-  kept = λ n z. (let y : ◌≡◌ {A = ℕ} 0 1 = cc in absurd (omega arith));
+  kept = λ n z. cc;
   front = λ _. gone_words w p.gone;
-  table = λ t. ran_table fs ws feed b gs vs c (Stopped r) (record { front = w; table = t }) p;
+  table = λ t. ran_table fs ws feed b gs vs c (Ok r) (record { front = w; table = t }) p;
 }

@@ -1,13 +1,13 @@
 -- On any words, table or not, two local runs through a front that begin alike end alike: in the answer, in the reply bytes and in
 -- every word of both memories. Assumes nothing.
-use Rattle.std.specs.Prelude.{◌≡◌, refl, ◌≢◌, List, ◌++◌, ℕ, length, drop}
+use Rattle.std.specs.Prelude.{◌≡◌, refl, ◌≢◌, List, ◌++◌, ℕ, length, drop, Ok}
 use Rattle.std.proofs.Common.{sym, ap, ◌∙◌}
 use Rattle.logic.specs.Cases.{same}
 use Rattle.routes.specs.Answers.{Reply}
 use Rattle.replies.specs.Said.{said_reply}
 use Rattle.replies.specs.declared.Reply as code
-use Rattle.feed.specs.declared.Ran.{Ran}
-use Rattle.feed.specs.declared.Ran.TheVariants.{Stopped}
+use Rattle.feed.specs.Runs.{Ran}
+use Rattle.refusals.specs.Number.{refusal_of}
 use Rattle.front.specs.Front.{Event}
 use Rattle.front.specs.Runs.{event_at}
 use Rattle.damping.specs.Locally.{refusal_before}
@@ -60,7 +60,7 @@ module _ (fs ws feed b gs vs c hs us d : List ℕ) (r s : Ran) where
   ran_agrees p q =
       let o = left_agrees feed (length b) (gone_left feed (length b) p.gone) p.stopped (gone_left feed (length b) q.gone)
       q.stopped in (
-        p.answer ∙ ap (λ (n : Note). Stopped (report_at (halts_at feed (length b) n) n)) o.0 ∙ sym q.answer,
+        p.answer ∙ ap (λ (n : Note). Ok (report_at (halts_at feed (length b) n) n)) o.0 ∙ sym q.answer,
         o.1,
         o.2,
         p.replies ∙ ap (λ (n : Note). n.replies ++ drop (length n.replies) b) o.0 ∙ sym q.replies,
@@ -71,6 +71,6 @@ module _ (fs ws feed b gs vs c hs us d : List ℕ) (r s : Ran) where
   local_agrees p q =
       same (refusal_before fs ws 0) 0
       (λ z _. ran_agrees (p.work z) (q.work z))
-      (λ n _. (let x = p.kept (refusal_before fs ws 0) (p.first n) in
-      let y = q.kept (refusal_before fs ws 0) (q.first n) in
+      (λ n _. (let x = p.kept (refusal_of (refusal_before fs ws 0)) (p.first n) in
+      let y = q.kept (refusal_of (refusal_before fs ws 0)) (q.first n) in
       (p.first n ∙ sym (q.first n), x.0 ∙ sym y.0, x.1 ∙ sym y.1, x.2 ∙ sym y.2)))

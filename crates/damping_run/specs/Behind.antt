@@ -10,7 +10,7 @@ use Rattle.candidates.specs.Answers.{Record}
 use Rattle.candidates.specs.Seen.{table, ran_on}
 use Rattle.words.specs.Table.{seen}
 use Rattle.feed.specs.Runs as plain
-use Rattle.feed.specs.declared.Ran.{Ran}
+use Rattle.feed.specs.Runs.{Ran}
 use Rattle.front.specs.Front.{both}
 use Rattle.front.specs.Seen.{ran_behind}
 use Rattle.restraint.specs.Fed.{fed, behind}

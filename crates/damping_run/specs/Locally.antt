@@ -4,7 +4,7 @@
 --     the first of 1 and 2 (no front)    all three memories stay
 --     else                               a local call for each record and tick that no test stops the run before, and one
 --                                        reply for each
-use Rattle.std.specs.Prelude.{◌≡◌, ◌≢◌, List, [], ◌++◌, ℕ, ◌+◌, length, drop, eqb}
+use Rattle.std.specs.Prelude.{◌≡◌, ◌≢◌, List, [], ◌++◌, ℕ, ◌+◌, length, drop, eqb, Ok, Err}
 use Rattle.routes.specs.Answers.{Reply, done, is_refused}
 use Rattle.routes.specs.Bytes.{reply_bytes}
 use Rattle.candidates.specs.Answers.{Update, update, lookup}
@@ -15,10 +15,11 @@ use Rattle.words.specs.TableBut.{Table}
 use Rattle.replies.specs.Said.{said_reply}
 use Rattle.replies.specs.declared.Reply as code
 use Rattle.lookup.specs.Walk.{walk}
-use Rattle.feed.specs.Turns.{one}
+use Rattle.feed.specs.Progress.{one}
+use Rattle.feed.specs.Runs.{Ran}
 use Rattle.feed.specs.declared.Report.{Report}
-use Rattle.feed.specs.declared.Ran.{Ran}
-use Rattle.feed.specs.declared.Ran.TheVariants.{Stopped, Refused}
+use Rattle.refusals.specs.Number.{refusal_of}
+use Rattle.refusals.specs.declared.Refusal.{Refusal}
 use Rattle.front.specs.Front.{Event, asks, tick, accepts}
 use Rattle.front.specs.Runs.{event_at, size_at, halts}
 use Rattle.rows.specs.Row.{IsWords}
@@ -84,14 +85,14 @@ pub record RanLocally (fs ws feed b gs vs c : List ℕ) (r : Ran) : Type 0 where
   pub note : Note
   pub gone : Gone feed (length b) fs ws note gs vs
   pub stopped : halts_at feed (length b) note ≢ 5
-  pub answer : r ≡ Stopped (report_at (halts_at feed (length b) note) note)
+  pub answer : r ≡ Ok (report_at (halts_at feed (length b) note) note)
   pub replies : c ≡ note.replies ++ drop (length note.replies) b
 
 -- a run on any words fs and ws and the reply bytes b left gs, vs and c, and answered r
 pub record HasRunLocally (fs ws feed b gs vs c : List ℕ) (r : Ran) : Type 0 where
-  pub first : refusal_before fs ws 0 ≢ 0 → r ≡ Refused (refusal_before fs ws 0)
+  pub first : refusal_before fs ws 0 ≢ 0 → r ≡ Err (refusal_of (refusal_before fs ws 0))
   pub work : refusal_before fs ws 0 ≡ 0 → RanLocally fs ws feed b gs vs c r
-  pub kept : (n : ℕ) → r ≡ Refused n → (gs ≡ fs) × (vs ≡ ws) × (c ≡ b)
+  pub kept : (e : Refusal) → r ≡ Err e → (gs ≡ fs) × (vs ≡ ws) × (c ≡ b)
   pub front : IsWords fs → IsWords gs
   -- on a table it is the run that tests all of it
   pub table : Table 4 ws → HasRun fs ws feed b gs vs c r

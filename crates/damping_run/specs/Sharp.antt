@@ -1,13 +1,13 @@
 -- What the run's promise comes to: two outcomes that it allows agree, where the words were a front in every word of both. Assumes
 -- nothing.
-use Rattle.std.specs.Prelude.{◌≡◌, refl, List, [], ℕ}
+use Rattle.std.specs.Prelude.{◌≡◌, refl, List, [], ℕ, Err}
 use Rattle.std.proofs.Common.{sym, ◌∙◌, arith}
 use Rattle.routes.specs.Answers.{Reply}
 use Rattle.words.specs.TableBut.{Table}
 use Rattle.words.specs.View.{seen-cases}
-use Rattle.feed.specs.Runs.{run_answer}
-use Rattle.feed.specs.declared.Ran.{Ran}
-use Rattle.feed.specs.declared.Ran.TheVariants.{Stopped, Refused}
+use Rattle.refusals.specs.Number.{said_one}
+use Rattle.refusals.specs.declared.Refusal.{Refusal}
+use Rattle.feed.specs.Runs.{Ran}
 use Rattle.front.specs.Front.{Event}
 use Rattle.front.specs.Seen.{events_on, answers_on}
 use Rattle.rows.specs.Row.{IsWords}
@@ -61,18 +61,12 @@ pub record Agree (fs gs vs c hs us d : List ℕ) (r s : Ran) : Type 0 where
   pub alike : Alike gs vs hs us
   pub front : IsWords fs → gs ≡ hs
   pub behind : IsWords fs → vs ≡ us
-  pub words : (n : ℕ) → r ≡ Refused n → (gs ≡ hs) × (vs ≡ us)
-
-run_one : (r s : Ran) → run_answer r ≡ run_answer s → r ≡ s
-run_one (Stopped r) (Stopped s) e = cc
-run_one (Stopped r) (Refused n) e = let z : ◌≡◌ {A = ℕ} 0 1 = cc in absurd (omega arith)
-run_one (Refused n) (Stopped s) e = let z : ◌≡◌ {A = ℕ} 0 1 = cc in absurd (omega arith)
-run_one (Refused n) (Refused m) e = cc
+  pub words : (e : Refusal) → r ≡ Err e → (gs ≡ hs) × (vs ≡ us)
 
 pub sharp : (fs ws feed b gs vs c : List ℕ) (r : Ran) (hs us d : List ℕ) (s : Ran)
     → HasRun fs ws feed b gs vs c r → HasRun fs ws feed b hs us d s → Agree fs gs vs c hs us d r s
 sharp fs ws feed b gs vs c r hs us d s p q =
-    let e : r ≡ s = run_one r s (p.answer ∙ sym q.answer) in
+    let e : r ≡ s = said_one r s (p.answer ∙ sym q.answer) in
     record {
       answer = e;
       replies = p.replies ∙ sym q.replies;

@@ -12,7 +12,7 @@ use Rattle.damping.specs.Refuse.{refusal_through, passed_all}
 use Rattle.damping.specs.Locally.{Ready}
 use Rattle.damping_run.specs.Answered.{asked_words, asked_table, answered}
 use Rattle.damping_run.specs.Turns.{first, Placed, Takes, Took}
-use Rattle.damping_run.specs.declared.Progress.{Progress}
+use Rattle.feed.specs.declared.Progress.{Progress}
 
 -- a run on the words fs and ws, with the reply bytes b, has come to p, and `stop` is what the next tests find
 pub record Comes (p : Progress) (fs ws feed b : List ℕ) (room : ℕ) (known : Bool) (stop : ℕ) : Type 0 where

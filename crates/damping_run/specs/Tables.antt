@@ -9,8 +9,7 @@ use Rattle.words.specs.Words.{array_count}
 use Rattle.words.specs.Table.{list_of, seen}
 use Rattle.words.specs.View.{seen_table}
 use Rattle.feed.specs.declared.Report.{Report}
-use Rattle.feed.specs.declared.Ran.{Ran}
-use Rattle.feed.specs.Runs.{run_answer}
+use Rattle.feed.specs.Runs.{Ran, run_answer}
 use Rattle.front.specs.Front.{Both, taken, replies}
 use Rattle.front.specs.Runs.{State, Ran as Outcome, ahead, event_at, halts, finish, turn, runs, fresh, run, events_from}
 use Rattle.front.specs.Seen.{front}
@@ -184,7 +183,7 @@ module _ (fs₀ ws₀ feed b gs vs c : List ℕ) (r : Ran) (t : Stands fs₀ ws�
         list = rw (f, s) x.list;
         places = rw (f, s) x.places;
         replies = rw (f, s) x.replies;
-        kept = λ m z. (let y = sym p.answer ∙ z in let q : ◌≡◌ {A = ℕ} 0 1 = cc in absurd (omega arith));
+        kept = λ m z. (let y = sym p.answer ∙ z in cc);
         front = λ _. g.stands.front;
         series = rw (f, s) (g.series gs vs
             (rw (events_stop (array_count ws₀) feed (length b) last (length feed) p.stopped) nothing));

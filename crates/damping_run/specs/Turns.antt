@@ -4,13 +4,13 @@ use Rattle.std.specs.Prelude.{◌≡◌, ◌≢◌, Bool, false, cond, List, ℕ
 use Rattle.routes.specs.Family.{v4, Role, ending, role_of, is_unknown}
 use Rattle.routes.specs.Answers.{Reply}
 use Rattle.candidates.specs.Runs.{size, role_at}
-use Rattle.feed.specs.Turns.{one}
-use Rattle.feed.specs.declared.Report.{Report}
+use Rattle.feed.specs.Progress.{begun}
+pub use Rattle.feed.specs.Progress.{told_at}
+use Rattle.feed.specs.declared.Progress.{Progress}
 use Rattle.front.specs.Runs.{tick_kind, ticks_at, event_at}
 use Rattle.restraint.specs.Turns.{Clear}
 use Rattle.damping.specs.Locally.{Ready}
 use Rattle.damping_run.specs.Locally.{AskedLocally, Note, noted}
-use Rattle.damping_run.specs.declared.Progress.{Progress}
 
 -- ---- a record or a tick
 
@@ -39,7 +39,7 @@ pub record Answers (fs ws feed : List ℕ) (i : ℕ) (known : Bool) : Type 0 whe
 -- ---- how far a run has come
 
 abbrev pub first : Progress
-first = record { at = 0; out = 0; accepted = 0; refused = 0 }
+first = begun
 
 -- as its counters and the reply bytes stand for it
 abbrev pub note_of : Progress → List ℕ → Note
@@ -66,14 +66,3 @@ pub record Took (p : Progress) (fs ws feed b : List ℕ) (q : Progress) (gs vs c
   pub placed : Placed q feed c
   pub on : p.at < q.at
   pub past : p.out ≤ q.out
-
--- what is told of a run that has come to p and is stopped there: an end is consumed, another record that stops it is not
-abbrev pub told_at : Progress → ℕ → Report
-told_at p stop =
-    record {
-      stop = stop;
-      consumed = p.at + one (eqb stop 0);
-      written = p.out;
-      accepted = p.accepted;
-      refused = p.refused;
-    }

@@ -1,6 +1,7 @@
 // A record or a tick of a feed, answered by a front and the words behind it; a caller who knows these to be a table spares their
 // tests. A record that names no feed is of feed 1, with preference 0.
-ghost use Rattle.std.specs.Prelude.{◌≡◌, ◌≤◌};
+ghost use Rattle.std.specs.Prelude.{◌≡◌, ◌<◌, length, get_or};
+ghost use Rattle.logic.specs.Nonzero.{nonzero};
 ghost use Rattle.routes.specs.Family.{v4};
 ghost use Rattle.families.specs.Said.{said_role};
 ghost use Rattle.replies.specs.Said.{said_reply};
@@ -14,22 +15,21 @@ use families::{Family, Role};
 use replies::Reply;
 
 // The kind of a tick; the bytes of an address.
+// kept: a number, as the byte of a feed that the definition `tick_kind` names
 pub const TICK: u8 = 9;
 
 pub const ADDRESS_BYTES: usize = 4;
 
-// The bytes of a record or tick of a kind, the kind's own included; 0 for a kind that is none of theirs.
-pub(crate) fn size_of(kind: u8) -> usize
-    ensures { (result ≡ bytes_of kind) × (result ≤ 22) }
+// The bytes of the record or tick that begins at `at`, the kind's own included: none for a kind that is none of theirs.
+pub(crate) fn size_at(feed: &[u8], at: usize) -> Option<usize>
+    ensures { at < length feed.now → result ≡ nonzero (bytes_of (get_or feed.now at 0)) }
 {
+    let kind = *feed.get(at)?;
     if kind == TICK {
-        return 1;
+        return Some(1);
     }
-    let role = families::role_of(Family::V4, kind);
-    if families::is_unknown(role) {
-        return 0;
-    }
-    feed::size(Family::V4, role)
+    let role = families::role_of(Family::V4, kind)?;
+    Some(feed::size(Family::V4, role))
 }
 
 // Answers what begins at `at`.
@@ -49,7 +49,7 @@ pub(crate) fn answer(
         damping::tick::tick_with(front, words, known);
         return Reply::Done(0, 0);
     }
-    let role = families::role_of(Family::V4, kind);
+    let role = families::role_of(Family::V4, kind).unwrap();
     ask(front, words, role, feed, at, known)
 }
 
@@ -80,9 +80,8 @@ fn ask(
             withdraw(front, words, feed, at, from, known)
         }
         Role::Looking => lookup::lookup(words, numbers::four_at(feed, at + 1)),
-        // no record: the run stops before it
-        Role::Ending => Reply::Nothing(0),
-        Role::Unknown => Reply::Nothing(0),
+        // the run stops before it
+        Role::Ending => unreachable!(),
     }
 }
 

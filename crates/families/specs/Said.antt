@@ -1,5 +1,5 @@
 -- Which family, and which role, a value of the code is, and which family has addresses of so many bytes. Assumes nothing.
-use Rattle.std.specs.Prelude.{◌≡◌, refl, cond, ℕ, eqb}
+use Rattle.std.specs.Prelude.{◌≡◌, refl, cond, ℕ, eqb, Option, Some, None}
 use Rattle.routes.specs.Family.{Family, v4, v6, levels, Role, ending, announcing, withdrawing, looking, announcing_for}
 use Rattle.routes.specs.Family.{withdrawing_for, unknown}
 use Rattle.families.specs.declared.Family as families
@@ -18,7 +18,11 @@ said_role role.Withdrawing = withdrawing
 said_role role.Looking = looking
 said_role role.AnnouncingFor = announcing_for
 said_role role.WithdrawingFor = withdrawing_for
-said_role role.Unknown = unknown
+
+-- the role of a kind: none is said as unknown
+abbrev pub said_kind : Option roles.Role → Role
+said_kind (Some r) = said_role r
+said_kind None = unknown
 
 -- one of 4 bytes is IPv4's
 abbrev pub family_for : ℕ → Family

@@ -2,10 +2,10 @@
 #![tactic(auto)]
 
 ghost use Rattle.std.specs.Prelude.{◌≡◌, ◌≤◌};
-ghost use Rattle.routes.specs.Family.{v4, v6, levels as levelsOf, kind_of, announcing_for, role_of, is_unknown};
-ghost use Rattle.families.specs.Said.{said_family, said_role, family_for};
+ghost use Rattle.routes.specs.Family.{v4, v6, levels as levelsOf, kind_of, announcing_for, role_of};
+ghost use Rattle.families.specs.Said.{said_family, said_kind, family_for};
 
-#[derive(Clone, Copy)]
+#[derive(Clone, Copy, Debug, PartialEq, Eq)]
 pub enum Family {
     V4,
     V6,
@@ -22,7 +22,7 @@ pub fn levels(family: Family) -> usize
 }
 
 // What a record asks for: with a feed's number and a preference, or without.
-#[derive(Clone, Copy)]
+#[derive(Clone, Copy, Debug, PartialEq, Eq)]
 pub enum Role {
     Ending,
     Announcing,
@@ -30,55 +30,40 @@ pub enum Role {
     Looking,
     AnnouncingFor,
     WithdrawingFor,
-    Unknown,
 }
 
-// The role of a kind in IPv4.
-fn role_4(kind: u8) -> Role
-    ensures { said_role result ≡ role_of v4 kind }
+// The role of a kind in IPv4, if it has one.
+fn role_4(kind: u8) -> Option<Role>
+    ensures { said_kind result ≡ role_of v4 kind }
 {
-    if kind == 0 {
-        return Role::Ending;
+    match kind {
+        0 => Some(Role::Ending),
+        1 => Some(Role::Announcing),
+        2 => Some(Role::Withdrawing),
+        3 => Some(Role::Looking),
+        4 => Some(Role::AnnouncingFor),
+        5 => Some(Role::WithdrawingFor),
+        _ => None,
     }
-    if kind == 1 {
-        return Role::Announcing;
-    }
-    if kind == 2 {
-        return Role::Withdrawing;
-    }
-    if kind == 3 {
-        return Role::Looking;
-    }
-    if kind == 4 {
-        return Role::AnnouncingFor;
-    }
-    if kind == 5 {
-        return Role::WithdrawingFor;
-    }
-    Role::Unknown
 }
 
 // The same in IPv6, where each update names its feed.
-fn role_6(kind: u8) -> Role
-    ensures { said_role result ≡ role_of v6 kind }
+// kept: two tables of kinds, as the documents have them, and no one table with a family in it.
+fn role_6(kind: u8) -> Option<Role>
+    ensures { said_kind result ≡ role_of v6 kind }
 {
-    if kind == 0 {
-        return Role::Ending;
+    match kind {
+        0 => Some(Role::Ending),
+        8 => Some(Role::Looking),
+        6 => Some(Role::AnnouncingFor),
+        7 => Some(Role::WithdrawingFor),
+        _ => None,
     }
-    if kind == 8 {
-        return Role::Looking;
-    }
-    if kind == 6 {
-        return Role::AnnouncingFor;
-    }
-    if kind == 7 {
-        return Role::WithdrawingFor;
-    }
-    Role::Unknown
 }
 
-pub fn role_of(family: Family, kind: u8) -> Role
-    ensures { said_role result ≡ role_of (said_family family) kind }
+// What a kind asks for in a family: nothing where it is of the other family, or of none.
+pub fn role_of(family: Family, kind: u8) -> Option<Role>
+    ensures { said_kind result ≡ role_of (said_family family) kind }
 {
     match family {
         Family::V4 => role_4(kind),
@@ -86,26 +71,9 @@ pub fn role_of(family: Family, kind: u8) -> Role
     }
 }
 
-pub fn is_unknown(role: Role) -> bool
-    ensures { result ≡ is_unknown (said_role role) }
-{
-    match role {
-        Role::Ending => false,
-        Role::Announcing => false,
-        Role::Withdrawing => false,
-        Role::Looking => false,
-        Role::AnnouncingFor => false,
-        Role::WithdrawingFor => false,
-        Role::Unknown => true,
-    }
-}
-
 // The kind of the records that a list is written out with, by the bytes of an address.
 pub fn list_kind(levels: usize) -> u8
     ensures { result ≡ kind_of (family_for levels) announcing_for }
 {
-    if levels == 4 {
-        return 4;
-    }
-    6
+    if levels == 4 { 4 } else { 6 }
 }

@@ -41,7 +41,12 @@ use Rattle.feed.specs.Series.{Asked, Series, nothing, more, Answered, answered}
 use Rattle.feed.specs.Turns.{IsTable, room_in, list_in, one, next_at, state_of, come_to, Placed, Takes, Took, TookAny, AskedAny}
 use Rattle.feed.specs.declared.Progress.{Progress}
 use Rattle.feed.specs.declared.Report.{Report}
-use Rattle.feed.specs.declared.Ran.TheVariants.{Stopped, Refused}
+use Rattle.std.specs.Prelude.{Ok, Err}
+use Rattle.refusals.specs.Number.{number}
+use Rattle.refusals.specs.declared.Refusal.{Refusal}
+use Rattle.refusals.specs.declared.Refusal.TheVariants.{Misfit}
+use Rattle.update.specs.Fault.{number_some}
+use Rattle.feed.specs.Progress.{Counted}
 use Rattle.feed.proofs.Answers.{table_eq}
 use Rattle.feed.specs.Replies.{wrote-before, wrote_after}
 
@@ -141,6 +146,14 @@ took_any F p ws feed b t n vs r q c x y en a w ex ey =
       on = omega (arith, size_pos F (role_at F feed p.at));
       table = λ tb. took F p ws feed b t tb n vs r q c x y en (a.table tb) w ex ey;
     }
+
+pub took_counted : (F : Family) (p : Progress) (ws feed b : List ℕ) → Takes F p ws feed b → (n : ℕ) (vs : List ℕ) (r : Reply)
+    (q : Progress) (c : List ℕ) → n ≡ size F (role_at F feed p.at) → AskedAny (levels F) ws (next_at F p feed) r vs
+    → Counted p n r true q b c → TookAny F p ws feed b q vs c
+took_counted F p ws feed b t n vs r q c e a k =
+    subst (λ (z : Progress). TookAny F p ws feed b z vs c)
+    (sym (λ i. record { at = k.at i; out = q.out; accepted = k.accepted i; refused = k.refused i }))
+    (took_any F p ws feed b t n vs r q.out c (one (is_done r)) (one (is_refused r)) e a k.wrote refl refl)
 
 -- ---- the loop
 
@@ -292,7 +305,7 @@ module _ (F : Family) (ws₀ feed b₀ ws b : List ℕ) (p : Progress) (stop : �
   runs_as : (s : Seen) → seen (levels F) ws₀ ≡ s → IsTable s → (r : Report)
       → Ended F (run F (room_in s) (list_in s) feed (length b₀)) (room_in s) b₀ ws b r
       → Ahead F (room_in s) feed (length b₀) (fresh (list_in s)) ws₀ ws → ws ≡ ran_words F ws₀ feed (length b₀)
-      → HasRun F ws₀ feed b₀ ws b (Stopped r)
+      → HasRun F ws₀ feed b₀ ws b (Ok r)
   runs_as misfit e t r x a w = absurd t
   runs_as foreign e t r x a w = absurd t
   runs_as (table A cs) e t r x a w =
@@ -306,29 +319,30 @@ module _ (F : Family) (ws₀ feed b₀ ws b : List ℕ) (p : Progress) (stop : �
       }
 
   stopped : IsTable (seen (levels F) ws₀) → (n : ℕ) → stop ≢ 5 → n ≡ one (eqb stop 0) → ws ≡ ran_words F ws₀ feed (length b₀)
-      → HasRun F ws₀ feed b₀ ws b (Stopped (told p stop (p.at + n) p.out))
+      → HasRun F ws₀ feed b₀ ws b (Ok (told p stop (p.at + n) p.out))
   stopped t n h e = runs_as (seen (levels F) ws₀) refl t _ (rw (e, ended h) (report (eqb stop 0))) (all_asked h)
 
 -- ---- the test at the start
 
-module _ (F : Family) (ws : List ℕ) (n : ℕ) (first : n ≡ refusal_of (levels F) ws 0) where
+module _ (F : Family) (ws : List ℕ) where
   abbrev few : levels F < level_bound
   few = omega (arith, levels_few F)
 
-  pub run_refused : (feed b : List ℕ) → n ≢ 0 → HasRun F ws feed b ws b (Refused n)
-  run_refused feed b z =
+  pub run_refused : (n : Refusal) → number n ≡ refusal_of (levels F) ws 0 → (feed b : List ℕ) → HasRun F ws feed b ws b (Err n)
+  run_refused n first feed b =
       seen-cases (levels F) ws (levels_some F) few
-      (λ m e. (let q : n ≡ 1 = first ∙ sym (refusal-size (levels F) ws 0 m) in
+      (λ m e. (let q : number n ≡ 1 = first ∙ sym (refusal-size (levels F) ws 0 m) in
       record { answer = rw (e, q); list = rw e; replies = rw e; kept = λ _ _. refl; series = rw e nothing; words = rw e absurd }))
-      (λ m t e. (let q : n ≡ 2 = first ∙ sym (refusal_foreign (levels F) ws 0 m refl t) in
+      (λ m t e. (let q : number n ≡ 2 = first ∙ sym (refusal_foreign (levels F) ws 0 m refl t) in
       record { answer = rw (e, q); list = rw e; replies = rw e; kept = λ _ _. refl; series = rw e nothing; words = rw e absurd }))
-      (λ m t _ _. absurd (z (first ∙ sym (refusal_none (levels F) ws 0 m refl t))))
+      (λ m t _ _. absurd (number_some n (first ∙ sym (refusal_none (levels F) ws 0 m refl t))))
 
-  pub run_fits : n ≡ 0 → Fits (length ws)
-  run_fits z = table_fits (levels F) ws (passed (levels F) ws (levels_some F) few 0 (sym first ∙ z)).0
+  module _ (clear : refusal_of (levels F) ws 0 ≡ 0) where
+    pub run_fits : Fits (length ws)
+    run_fits = table_fits (levels F) ws (passed (levels F) ws (levels_some F) few 0 clear).0
 
-  pub run_started : n ≡ 0 → IsTable (seen (levels F) ws)
-  run_started z = rw (seen_table (levels F) ws (passed (levels F) ws (levels_some F) few 0 (sym first ∙ z)).0) tt
+    pub run_started : IsTable (seen (levels F) ws)
+    run_started = rw (seen_table (levels F) ws (passed (levels F) ws (levels_some F) few 0 clear).0) tt
 
 -- ---- the loop on any words of a right size
 
@@ -441,19 +455,10 @@ module _ (F : Family) (ws₀ feed b₀ ws b : List ℕ) (p : Progress) (stop : �
 -- ---- the local run
 
 module _ (F : Family) (ws feed b : List ℕ) where
-  pub local_refused : misfits (length ws) ≡ true → HasRunLocally F ws feed b ws b (Refused 1)
+  pub local_refused : misfits (length ws) ≡ true → HasRunLocally F ws feed b ws b (Err Misfit)
   local_refused m = record {
     wrong = λ _. (refl, refl, refl);
     told = record { stop = 0; consumed = 0; written = 0; accepted = 0; refused = 0 };
     right = λ n. absurd (true≢false (sym m ∙ n));
     table = λ t. absurd (rw (seen_misfit (levels F) ws m) at t);
-  }
-
-  pub local_ran : misfits (length ws) ≡ false → (vs c : List ℕ) (r : Report) → RunsTable F ws feed b vs c r
-      → HasRunLocally F ws feed b vs c (Stopped r)
-  local_ran m vs c r h = record {
-    wrong = λ n. absurd (true≢false (sym n ∙ m));
-    told = r;
-    right = λ _. (refl, h.ran);
-    table = h.table;
   }

@@ -1,6 +1,6 @@
 -- What a run leaves of the words that it is lent: a lookup and a refused record leave every word, and so does a run that accepts
 -- nothing. Assumes nothing.
-use Rattle.std.specs.Prelude.{◌≡◌, refl, false, List, [], ◌∷◌, ℕ, ◌+◌, ◌*◌, length}
+use Rattle.std.specs.Prelude.{◌≡◌, refl, false, List, [], ◌∷◌, ℕ, ◌+◌, ◌*◌, length, Ok, Err}
 use Rattle.std.proofs.Common.{sym, ap, ◌∙◌, arith}
 use Rattle.routes.specs.Family.{Family, levels}
 use Rattle.routes.specs.Answers.{Reply, done, found, none, refused, is_done, count}
@@ -11,9 +11,7 @@ use Rattle.encoded.specs.Taken.{run_came}
 use Rattle.words.specs.Table.{seen}
 use Rattle.update.specs.Refuse.{unaccepted}
 use Rattle.feed.specs.Series.{Asked, updated, looked, Series, nothing, more}
-use Rattle.feed.specs.Runs.{run_answer, reported, HasRun}
-use Rattle.feed.specs.declared.Ran.{Ran}
-use Rattle.feed.specs.declared.Ran.TheVariants.{Stopped, Refused}
+use Rattle.feed.specs.Runs.{Ran, run_answer, reported, HasRun}
 
 -- ---- one record
 
@@ -41,19 +39,19 @@ series_kept (more {y = y} {ys = ys} a s) e =
 
 -- the updates that it says it accepted
 abbrev pub accepted_by : Ran → ℕ
-accepted_by (Stopped r) = r.accepted
-accepted_by (Refused n) = 0
+accepted_by (Ok r) = r.accepted
+accepted_by (Err n) = 0
 
 accepted_count : (F : Family) (s : Seen) (feed b : List ℕ) (r : Ran) → run_answer r ≡ reported (run_on F s feed b)
     → accepted_by r ≡ count is_done (answers_on F s feed b)
-accepted_count F misfit feed b (Stopped r) e = let z : ◌≡◌ {A = ℕ} 0 1 = cc in absurd (omega arith)
-accepted_count F foreign feed b (Stopped r) e = let z : ◌≡◌ {A = ℕ} 0 1 = cc in absurd (omega arith)
-accepted_count F (table A cs) feed b (Stopped r) e =
+accepted_count F misfit feed b (Ok r) e = let z : ◌≡◌ {A = ℕ} 0 1 = cc in absurd (omega arith)
+accepted_count F foreign feed b (Ok r) e = let z : ◌≡◌ {A = ℕ} 0 1 = cc in absurd (omega arith)
+accepted_count F (table A cs) feed b (Ok r) e =
     let n : r.accepted ≡ (run F A cs feed (length b)).end.accepted = cc in
     omega (arith, n, (run_came F A cs feed (length b)).accepted)
-accepted_count F misfit feed b (Refused n) e = refl
-accepted_count F foreign feed b (Refused n) e = refl
-accepted_count F (table A cs) feed b (Refused n) e = let z : ◌≡◌ {A = ℕ} 0 1 = cc in absurd (omega arith)
+accepted_count F misfit feed b (Err n) e = refl
+accepted_count F foreign feed b (Err n) e = refl
+accepted_count F (table A cs) feed b (Err n) e = let z : ◌≡◌ {A = ℕ} 0 1 = cc in absurd (omega arith)
 
 -- nothing accepted, nothing changed
 pub unaccepted_kept : (F : Family) (ws feed b vs c : List ℕ) (r : Ran) → HasRun F ws feed b vs c r → accepted_by r ≡ 0 → vs ≡ ws

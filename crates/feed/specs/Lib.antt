@@ -1,6 +1,8 @@
 pub mod Series
 pub mod Local
 pub mod Runs
+pub mod Progress
+pub mod Records
 pub mod Turns
 pub mod Sharp
 pub mod Kept

@@ -3,7 +3,7 @@
 --
 --     reply   16 h h c c   19 7   17 h h l q   18 q     the kind of a reply says where the next begins
 use Rattle.std.specs.Prelude.{◌≡◌, refl, ◌≢◌, Bool, true, false, List, [], ◌∷◌, ◌++◌, ℕ, zero, suc, ◌%◌, eqb, length, get_or}
-use Rattle.std.specs.Prelude.{take, drop}
+use Rattle.std.specs.Prelude.{take, drop, Ok, Err}
 use Rattle.std.proofs.Common.{sym, ap, ◌∙◌, append-nil, arith, take_at}
 use Rattle.logic.specs.Cases.{bool}
 use Rattle.numbers.specs.Joined.{joined-append}
@@ -19,10 +19,8 @@ use Rattle.candidates.specs.Answers.{Update, announce, withdraw, Record, update,
 use Rattle.candidates.specs.Runs.{State, ahead, halts, taken, runs, fresh, run}
 use Rattle.candidates.specs.Seen.{Seen, misfit, foreign, table, run_on, replied_on}
 use Rattle.words.specs.Table.{seen}
-use Rattle.feed.specs.Runs.{run_answer, reported, HasRun}
+use Rattle.feed.specs.Runs.{Ran, run_answer, reported, HasRun}
 use Rattle.feed.specs.Sharp.{written_by}
-use Rattle.feed.specs.declared.Ran.{Ran}
-use Rattle.feed.specs.declared.Ran.TheVariants.{Stopped, Refused}
 
 -- ---- the answers
 
@@ -174,10 +172,10 @@ no_second bs p xs ys e =
 
 written : (F : Family) (s : Seen) (feed b : List ℕ) (r : Ran) → run_answer r ≡ reported (run_on F s feed b)
     → Replied (take (written_by r) (replied_on F s feed b))
-written F s feed b (Refused n) e = record { replies = []; bytes = refl; others = tt }
-written F misfit feed b (Stopped r) e = let z : ◌≡◌ {A = ℕ} 0 1 = cc in absurd (omega arith)
-written F foreign feed b (Stopped r) e = let z : ◌≡◌ {A = ℕ} 0 1 = cc in absurd (omega arith)
-written F (table A cs) feed b (Stopped r) e =
+written F s feed b (Err n) e = record { replies = []; bytes = refl; others = tt }
+written F misfit feed b (Ok r) e = let z : ◌≡◌ {A = ℕ} 0 1 = cc in absurd (omega arith)
+written F foreign feed b (Ok r) e = let z : ◌≡◌ {A = ℕ} 0 1 = cc in absurd (omega arith)
+written F (table A cs) feed b (Ok r) e =
     let xs = (run F A cs feed (length b)).end.replies in
     let n : r.written ≡ length xs = cc in
     rw (n, take_at xs (drop (length xs) b) (length xs) refl) (run-replied F A cs feed (length b))

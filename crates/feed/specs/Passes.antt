@@ -2,7 +2,7 @@
 -- the start is enough. Assumes nothing.
 --
 --     ws ── x₁ ──▶ . ── x₂ ──▶ . ── x₃ ──▶ vs        the test at ws is the run's; it would pass at each dot, and at vs
-use Rattle.std.specs.Prelude.{◌≡◌, refl, List, ℕ, ◌≤◌, ◌<◌}
+use Rattle.std.specs.Prelude.{◌≡◌, refl, List, ℕ, ◌≤◌, ◌<◌, Ok}
 use Rattle.std.proofs.Common.{arith}
 use Rattle.sizes.specs.Sizes.{level_bound}
 use Rattle.routes.specs.Family.{Family, levels}
@@ -15,7 +15,6 @@ use Rattle.update.specs.Passes.{Passes, seen-passes, update_passes}
 use Rattle.feed.specs.Series.{Asked, updated, looked, Series, nothing, more}
 use Rattle.feed.specs.Runs.{HasRun}
 use Rattle.feed.specs.declared.Report.{Report}
-use Rattle.feed.specs.declared.Ran.TheVariants.{Stopped}
 
 -- the words that each call of a series finds, and those that the last one leaves, pass
 abbrev pub AllPass : {L : ℕ} {ws vs : List ℕ} {xs : List Record} {ys : List Reply} → Series L ws xs ys vs → Type 0
@@ -32,7 +31,7 @@ module _ (L : ℕ) (some : 1 ≤ L) (levels : L < level_bound) where
   series_passes (more a s) e = (e, series_passes s (asked-passes a e))
 
 -- a run that is not refused began with a table
-pub run-passes : (F : Family) (ws feed b vs c : List ℕ) (r : Report) (p : HasRun F ws feed b vs c (Stopped r))
+pub run-passes : (F : Family) (ws feed b vs c : List ℕ) (r : Report) (p : HasRun F ws feed b vs c (Ok r))
     → AllPass p.series
 run-passes F ws feed b vs c r p = series_passes L some few p.series (go (seen L ws) refl)
   where

@@ -1,6 +1,6 @@
 -- What a run of a feed promises, for every feed, every lent reply and all words: by what the words are seen to be. Assumes
 -- nothing.
-use Rattle.std.specs.Prelude.{◌≡◌, true, false, List, ◌++◌, ℕ, length, drop}
+use Rattle.std.specs.Prelude.{◌≡◌, true, false, List, ◌++◌, ℕ, length, drop, Result, Ok, Err}
 use Rattle.routes.specs.Family.{Family, levels}
 use Rattle.routes.specs.Seen.{Answer, gives, refuses}
 use Rattle.candidates.specs.Runs.{Ran as Outcome}
@@ -11,13 +11,17 @@ use Rattle.feed.specs.Series.{Series}
 use Rattle.feed.specs.Local.{local_run, ran_words, Called}
 use Rattle.feed.specs.Local as Local
 use Rattle.feed.specs.declared.Report.{Report}
-use Rattle.feed.specs.declared.Ran.{Ran}
-use Rattle.feed.specs.declared.Ran.TheVariants.{Stopped, Refused}
+use Rattle.refusals.specs.Number.{said}
+use Rattle.refusals.specs.declared.Refusal.{Refusal}
+use Rattle.refusals.specs.declared.Refusal.TheVariants.{Misfit}
+
+-- a run stops, and is told of, or is refused
+abbrev pub Ran : Type 0
+Ran = Result Report Refusal
 
 -- what a result says
 abbrev pub run_answer : Ran → Answer Report
-run_answer (Stopped r) = gives r
-run_answer (Refused n) = refuses n
+run_answer = said
 
 -- what is to be said of a run: stop, feed bytes consumed, reply bytes written, accepted updates, refused records
 abbrev pub report_of : Outcome → Report
@@ -39,7 +43,7 @@ pub record HasRun (F : Family) (ws feed b vs c : List ℕ) (r : Ran) : Type 0 wh
   pub answer : run_answer r ≡ reported (run_on F (seen (levels F) ws) feed b)
   pub list : seen (levels F) vs ≡ ran_on F (seen (levels F) ws) feed b
   pub replies : c ≡ replied_on F (seen (levels F) ws) feed b
-  pub kept : (n : ℕ) → r ≡ Refused n → vs ≡ ws
+  pub kept : (n : Refusal) → r ≡ Err n → vs ≡ ws
   -- a call for each record taken: a lookup, and a record that is refused, leave every word
   pub series : Series (levels F) ws (records_on F (seen (levels F) ws) feed b) (answers_on F (seen (levels F) ws) feed b) vs
   -- of a table, the words are those that a run leaves which tests only what its records touch
@@ -68,11 +72,11 @@ pub record RanLocally (F : Family) (ws feed b vs c : List ℕ) (r : Report) : Ty
 -- and on a table the run
 pub record RunsTable (F : Family) (ws feed b vs c : List ℕ) (r : Report) : Type 0 where
   pub ran : RanLocally F ws feed b vs c r
-  pub table : IsTable (seen (levels F) ws) → HasRun F ws feed b vs c (Stopped r)
+  pub table : IsTable (seen (levels F) ws) → HasRun F ws feed b vs c (Ok r)
 
 -- words of a wrong size are refused, and no others; on a table it is the run
 pub record HasRunLocally (F : Family) (ws feed b vs c : List ℕ) (r : Ran) : Type 0 where
-  pub wrong : misfits (length ws) ≡ true → (r ≡ Refused 1) × (vs ≡ ws) × (c ≡ b)
+  pub wrong : misfits (length ws) ≡ true → (r ≡ Err Misfit) × (vs ≡ ws) × (c ≡ b)
   pub told : Report
-  pub right : misfits (length ws) ≡ false → (r ≡ Stopped told) × RanLocally F ws feed b vs c told
+  pub right : misfits (length ws) ≡ false → (r ≡ Ok told) × RanLocally F ws feed b vs c told
   pub table : IsTable (seen (levels F) ws) → HasRun F ws feed b vs c r

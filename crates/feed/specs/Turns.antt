@@ -1,6 +1,6 @@
 -- What the functions behind the run promise: the answer to one record, its reply, and how far the run has come then. Assumes
 -- nothing.
-use Rattle.std.specs.Prelude.{◌≡◌, ◌≢◌, Bool, false, cond, List, [], ℕ, ◌+◌, ◌≤◌, ◌<◌, length, get_or, take, drop}
+use Rattle.std.specs.Prelude.{◌≡◌, ◌≢◌, false, List, [], ℕ, ◌+◌, ◌≤◌, ◌<◌, length, get_or, take, drop}
 use Rattle.numbers.specs.Digits.{two_at}
 use Rattle.numbers.specs.Number.{number_at}
 use Rattle.routes.specs.Family.{Family, levels, width, Role, ending, is_unknown}
@@ -17,6 +17,7 @@ use Rattle.feed.specs.Series.{Asked}
 use Rattle.feed.specs.Local.{answer_at, words_after, Called}
 use Rattle.feed.specs.Local as Local
 use Rattle.feed.specs.declared.Progress.{Progress}
+pub use Rattle.feed.specs.Progress.{one}
 
 -- ---- words that are a table
 
@@ -74,11 +75,6 @@ pub record AskedAny (L : ℕ) (ws : List ℕ) (x : Record) (y : Reply) (vs : Lis
   pub called : (us : List ℕ) → Called L us ws → Called L us vs
   pub size : length vs ≡ length ws
   pub table : IsTable (seen L ws) → Asked L ws x y vs
-
--- ---- a count
-
-abbrev pub one : Bool → ℕ
-one b = cond b 1 0
 
 -- ---- how far a run has come
 

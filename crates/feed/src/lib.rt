@@ -1,32 +1,60 @@
 // The run of a feed of one family: records in order, one reply for each but end, until a test stops it.
 #![tactic(auto)]
 
-ghost use Rattle.std.specs.Prelude.{◌≡◌, true, ◌+◌, ◌<◌, ◌≤◌, length, eqb};
-ghost use Rattle.routes.specs.Family.{v4, levels};
-ghost use Rattle.candidates.specs.Runs.{size as size_of, halts};
+ghost use Rattle.std.specs.Prelude.{◌≡◌, ◌≢◌, true, ◌+◌, ◌^◌, ◌<◌, ◌≤◌, length};
+ghost use Rattle.routes.specs.Family.{v4, levels, ending};
+ghost use Rattle.numbers.specs.Number.{number};
+ghost use Rattle.feed.specs.Records.{asked_by};
+ghost use Rattle.candidates.specs.Runs.{size as size_of, role_at};
 ghost use Rattle.words.specs.Table.{seen};
 ghost use Rattle.families.specs.Said.{said_family, said_role};
 ghost use Rattle.replies.specs.Said.{said_reply};
 ghost use Rattle.feed.specs.Runs.{HasRun, RunsTable, HasRunLocally};
 ghost use Rattle.words.specs.CheckReflects.{Fits};
-ghost use Rattle.feed.specs.Turns.{one, IsTable, announce_at, withdraw_at, lookup_at, Whole, Asks};
-ghost use Rattle.feed.specs.Turns.{AskedAny, here, Takes, TookAny};
+ghost use Rattle.feed.specs.Turns.{IsTable, AskedAny, here, Takes, TookAny};
+ghost use Rattle.feed.specs.Progress.{begun, stop_number, stop_of, size_known, halts_before, Counted, told_at};
 
 use families::{Family, Role};
-use replies::{Reply, accepts, put, refuses};
+use refusals::Refusal;
+use replies::{Reply, is_done, put, refuses};
+
+// Why a run stops, as document 01 numbers it.
+#[derive(Clone, Copy, Debug, PartialEq, Eq)]
+pub enum Stop {
+    // an end, which is consumed
+    End = 0,
+    // no byte is left
+    Dry = 1,
+    // a kind that is none of the run's
+    Unknown = 2,
+    // a record of which bytes are missing
+    Cut = 3,
+    // too little room for a reply
+    Room = 4,
+}
+
+impl Stop {
+    // Its number in the documents, in reports and in C.
+    pub fn number(self) -> u32
+        ensures { result ≡ stop_number self }
+    {
+        self as u32
+    }
+}
 
 // How far a run has come: feed bytes consumed, reply bytes written, accepted updates, refused records.
-#[derive(Clone, Copy)]
-struct Progress {
-    at: usize,
-    out: usize,
-    accepted: usize,
-    refused: usize,
+#[derive(Clone, Copy, Debug, PartialEq, Eq)]
+pub struct Progress {
+    pub at: usize,
+    pub out: usize,
+    pub accepted: usize,
+    pub refused: usize,
 }
 
 // What is told of a run: its stop, feed bytes consumed, reply bytes written, accepted updates, refused records.
-#[derive(Clone, Copy)]
+#[derive(Clone, Copy, Debug, PartialEq, Eq)]
 pub struct Report {
+    // kept: its number and no `Stop`, as the definition report_of tells it
     pub stop: u32,
     pub consumed: usize,
     pub written: usize,
@@ -34,27 +62,23 @@ pub struct Report {
     pub refused: usize,
 }
 
-#[derive(Clone, Copy)]
-pub enum Ran {
-    Stopped(Report),
-    Refused(u32),
-}
-
 // Runs a family's feed on lent words and writes the replies to the front of lent bytes. Only here the words are checked: each
 // record leaves a table a table.
-pub fn run_of(words: &mut [u32], family: Family, feed: &[u8], reply: &mut [u8]) -> Ran
+pub fn run_of(
+    words: &mut [u32],
+    family: Family,
+    feed: &[u8],
+    reply: &mut [u8],
+) -> Result<Report, Refusal>
     ensures { HasRun (said_family family) words.old feed.now reply.old
         words.new reply.new result }
 {
-    let n = update::refusal(words, families::levels(family) as u32, 0);
-    if n != 0 {
-        return Ran::Refused(n);
-    }
-    Ran::Stopped(run_table(words, family, feed, reply, true))
+    update::refusal(words, families::levels(family) as u32, Ok(()))?;
+    Ok(run_table(words, family, feed, reply, true))
 }
 
 // An IPv4 feed.
-pub fn run(words: &mut [u32], feed: &[u8], reply: &mut [u8]) -> Ran
+pub fn run(words: &mut [u32], feed: &[u8], reply: &mut [u8]) -> Result<Report, Refusal>
     ensures { HasRun v4 words.old feed.now reply.old
         words.new reply.new result }
 {
@@ -62,14 +86,19 @@ pub fn run(words: &mut [u32], feed: &[u8], reply: &mut [u8]) -> Ran
 }
 
 // The same without a test of the whole table: each record tests what it touches itself.
-pub fn run_local_of(words: &mut [u32], family: Family, feed: &[u8], reply: &mut [u8]) -> Ran
+pub fn run_local_of(
+    words: &mut [u32],
+    family: Family,
+    feed: &[u8],
+    reply: &mut [u8],
+) -> Result<Report, Refusal>
     ensures { HasRunLocally (said_family family) words.old feed.now reply.old
         words.new reply.new result }
 {
     if words::size::misfit(words.len()) {
-        return Ran::Refused(1);
+        return Err(Refusal::Misfit);
     }
-    Ran::Stopped(run_table(words, family, feed, reply, false))
+    Ok(run_table(words, family, feed, reply, false))
 }
 
 // The run on words of a right size. A caller who knows them to be a table spares the tests of what a record touches.
@@ -85,60 +114,80 @@ fn run_table(
         words.new reply.new result }
 {
     let room = reply.len();
-    let mut p = Progress {
-        at: 0,
-        out: 0,
-        accepted: 0,
-        refused: 0,
-    };
-    let mut stop = p.halt(family, feed, room);
-    while stop == 5 {
-        p = p.answer_next(words, family, feed, reply, known);
-        stop = p.halt(family, feed, room);
-    }
-    Report {
-        stop: stop,
-        consumed: p.at + last(stop),
-        written: p.out,
-        accepted: p.accepted,
-        refused: p.refused,
+    let mut p = Progress::start();
+    loop {
+        let size = size_at(family, feed, p.at);
+        match p.halt(feed, room, size) {
+            Some(stop) => return p.report(stop),
+            None => p = p.answer_next(words, family, feed, reply, known),
+        }
     }
 }
 
-// The bytes that a stop consumes: an end is consumed, another record that stops the run is not.
-pub fn last(stop: u32) -> usize
-    ensures { (result ≡ one (eqb stop 0)) × (result ≤ 1) }
-{
-    if stop == 0 { 1 } else { 0 }
-}
-
+// The steps of a run, whatever its records ask for.
 impl Progress {
-    // The stop that the tests before a record find, or 5.
-    fn halt(self, family: Family, feed: &[u8], room: usize) -> u32
-        requires { (self.at ≤ length feed.now) × (self.out ≤ room) }
-        ensures { result ≡ halts (said_family family) feed.now room self.at self.out }
+    // Before the first record.
+    pub fn start() -> Progress
+        ensures { result ≡ begun }
     {
-        let at = self.at;
-        let out = self.out;
-        if feed.len() <= at {
-            return 1;
+        Progress {
+            at: 0,
+            out: 0,
+            accepted: 0,
+            refused: 0,
         }
-        let kind = feed[at];
-        let role = families::role_of(family, kind);
-        if families::is_unknown(role) {
-            return 2;
+    }
+
+    // The stop that the tests before a record find, by its bytes: a record of a kind that is none of the run's has no size.
+    pub fn halt(self, feed: &[u8], room: usize, size: Option<usize>) -> Option<Stop>
+        requires { (self.at ≤ length feed.now) × (self.out ≤ room) }
+        ensures { stop_of result ≡ halts_before feed.now room self.at self.out size }
+    {
+        if feed.len() <= self.at {
+            return Some(Stop::Dry);
         }
-        let n = size(family, role);
-        if feed.len() - at < n {
-            return 3;
+        let Some(n) = size else {
+            return Some(Stop::Unknown);
+        };
+        if feed.len() - self.at < n {
+            return Some(Stop::Cut);
         }
-        if kind == 0 {
-            return 0;
+        if feed[self.at] == 0 {
+            return Some(Stop::End);
         }
-        if room - out < 5 {
-            return 4;
+        if room - self.out < 5 {
+            return Some(Stop::Room);
         }
-        5
+        None
+    }
+
+    // How far the run has come after a record of so many bytes, whose answer is written here. What is done counts as an
+    // accepted update where the record is one.
+    pub fn after(self, size: usize, reply: &mut [u8], answer: Reply, update: bool) -> Progress
+        requires { (self.at + size < 2 ^ 64) × (self.out + 5 ≤ length reply.old)
+            × (self.accepted < 2 ^ 63) × (self.refused < 2 ^ 63) }
+        ensures { Counted self size (said_reply answer) update result reply.old reply.new }
+    {
+        Progress {
+            at: self.at + size,
+            out: put(reply, self.out, answer),
+            accepted: self.accepted + usize::from(update && is_done(answer)),
+            refused: self.refused + refuses(answer),
+        }
+    }
+
+    // What is told of a run that stops there: an end is consumed, another record that stops it is not.
+    pub fn report(self, stop: Stop) -> Report
+        requires { self.at < 2 ^ 63 }
+        ensures { result ≡ told_at self (stop_number stop) }
+    {
+        Report {
+            stop: stop.number(),
+            consumed: self.at + usize::from(matches!(stop, Stop::End)),
+            written: self.out,
+            accepted: self.accepted,
+            refused: self.refused,
+        }
     }
 
     // Answers the record that is next, and hands back how far the run has come then.
@@ -155,21 +204,18 @@ impl Progress {
         ensures { TookAny (said_family family) self words.old feed.now reply.old
             result words.new reply.new }
     {
-        let at = self.at;
-        let out = self.out;
-        let role = families::role_of(family, feed[at]);
-        let n = size(family, role);
-        let answer = ask(words, family, role, feed, at, known);
-        let next = put(reply, out, answer);
-        let accepted = self.accepted + accepts(answer);
-        let refused = self.refused + refuses(answer);
-        Progress {
-            at: at + n,
-            out: next,
-            accepted: accepted,
-            refused: refused,
-        }
+        let role = families::role_of(family, feed[self.at]).unwrap();
+        let answer = Record::read(family, role, feed, self.at).answer(words, known);
+        self.after(size(family, role), reply, answer, true)
     }
+}
+
+// The bytes of the record that begins at `at`, where its kind is one of the family's.
+fn size_at(family: Family, feed: &[u8], at: usize) -> Option<usize>
+    ensures { at < length feed.now → result ≡ size_known (said_family family) (role_at (said_family family) feed.now at) }
+{
+    let role = families::role_of(family, *feed.get(at)?)?;
+    Some(size(family, role))
 }
 
 // The bytes of a record of a role, the kind's own included.
@@ -184,89 +230,90 @@ pub fn size(family: Family, role: Role) -> usize
         Role::Looking => levels + 1,
         Role::AnnouncingFor => levels + 6,
         Role::WithdrawingFor => levels + 3,
-        Role::Unknown => 1,
     }
 }
 
-// Answers the record at `at`. One that names no feed is of feed 1, with preference 0.
-fn ask(words: &mut [u32], family: Family, role: Role, feed: &[u8], at: usize, known: bool) -> Reply
-    requires { Asks (said_family family) (said_role role) words.old feed.now at
-        × ((known ≡ true) → IsTable (seen (levels (said_family family)) words.old)) }
-    ensures { AskedAny (levels (said_family family)) words.old
-        (here (said_family family) feed.now at (said_role role)) (said_reply result) words.new }
-{
-    let levels = families::levels(family);
-    let end = at + 1 + levels;
-    match role {
-        Role::Announcing => announce(words, levels, feed, at, 1, 0, known),
-        Role::Withdrawing => withdraw(words, levels, feed, at, 1, known),
-        Role::AnnouncingFor => {
-            let from = feed[end + 3];
-            let preference = feed[end + 4];
-            announce(words, levels, feed, at, from, preference, known)
-        }
-        Role::WithdrawingFor => {
-            let from = feed[end + 1];
-            withdraw(words, levels, feed, at, from, known)
-        }
-        Role::Looking => lookup(words, levels, feed, at),
-        // no record: the run stops before it
-        Role::Ending => Reply::Nothing(0),
-        Role::Unknown => Reply::Nothing(0),
+// What a record asks for. An update that names no feed is of feed 1, with preference 0.
+#[derive(Clone, Copy, Debug, PartialEq, Eq)]
+pub enum Ask {
+    Announce {
+        length: u32,
+        hop: u32,
+        feed: u32,
+        preference: u8,
+    },
+    Withdraw {
+        length: u32,
+        feed: u32,
+    },
+    Look,
+}
+
+// A record of a feed: the bytes of its address, lent where they stand, and what it asks for.
+#[derive(Clone, Copy)]
+pub struct Record<'a> {
+    pub address: &'a [u8],
+    pub asks: Ask,
+    ghost some: { 1 ≤ length address.now },
+    ghost few: { length address.now ≤ 16 },
+}
+
+impl<'a> Record<'a> {
+    // Reads the record of a role that begins at `at`.
+    pub fn read(family: Family, role: Role, feed: &'a [u8], at: usize) -> Record<'a>
+        requires { (said_role role ≢ ending) × (at + size_of (said_family family) (said_role role) ≤ length feed.now) }
+        ensures { (length result.address.now ≡ levels (said_family family))
+            × (asked_by result.asks (number result.address.now) ≡ here (said_family family) feed.now at (said_role role)) }
+    {
+        let end = at + 1 + families::levels(family);
+        let address = &feed[at + 1..end];
+        let asks = match role {
+            Role::Announcing => Ask::Announce {
+                length: feed[end] as u32,
+                hop: numbers::two_at(feed, end + 1),
+                feed: 1,
+                preference: 0,
+            },
+            Role::AnnouncingFor => Ask::Announce {
+                length: feed[end] as u32,
+                hop: numbers::two_at(feed, end + 1),
+                feed: feed[end + 3] as u32,
+                preference: feed[end + 4],
+            },
+            Role::Withdrawing => Ask::Withdraw {
+                length: feed[end] as u32,
+                feed: 1,
+            },
+            Role::WithdrawingFor => Ask::Withdraw {
+                length: feed[end] as u32,
+                feed: feed[end + 1] as u32,
+            },
+            Role::Looking => Ask::Look,
+            // the run stops before it
+            Role::Ending => unreachable!(),
+        };
+        Record { address, asks }
     }
-}
 
-// Answers the announcement at `at`, from a feed and with a preference.
-fn announce(
-    words: &mut [u32],
-    levels: usize,
-    feed: &[u8],
-    at: usize,
-    from: u8,
-    preference: u8,
-    known: bool,
-) -> Reply
-    requires { Whole levels words.old feed.now at 4 × ((known ≡ true) → IsTable (seen levels words.old)) }
-    ensures { AskedAny levels words.old (announce_at levels feed.now at from preference)
-        (said_reply result) words.new }
-{
-    let end = at + 1 + levels;
-    let length = feed[end] as u32;
-    let hop = numbers::two_at(feed, end + 1);
-    update::announce_with(
-        words,
-        &feed[at + 1..end],
-        length,
-        hop,
-        from as u32,
-        preference,
-        known,
-    )
-}
-
-// Answers the withdrawal at `at`, from a feed.
-fn withdraw(
-    words: &mut [u32],
-    levels: usize,
-    feed: &[u8],
-    at: usize,
-    from: u8,
-    known: bool,
-) -> Reply
-    requires { Whole levels words.old feed.now at 2 × ((known ≡ true) → IsTable (seen levels words.old)) }
-    ensures { AskedAny levels words.old (withdraw_at levels feed.now at from)
-        (said_reply result) words.new }
-{
-    let end = at + 1 + levels;
-    let length = feed[end] as u32;
-    update::withdraw_with(words, &feed[at + 1..end], length, from as u32, known)
-}
-
-// Answers the lookup at `at`.
-fn lookup(words: &[u32], levels: usize, feed: &[u8], at: usize) -> Reply
-    requires { Whole levels words.now feed.now at 1 }
-    ensures { AskedAny levels words.now (lookup_at levels feed.now at)
-        (said_reply result) words.now }
-{
-    lookup::lookup_on(words, &feed[at + 1..at + 1 + levels])
+    // Its answer. A caller who knows the words to be a table spares the tests of what it touches.
+    fn answer(self, words: &mut [u32], known: bool) -> Reply
+        requires { Fits (length words.old)
+            × ((known ≡ true) → IsTable (seen (length self.address.now) words.old)) }
+        ensures { AskedAny (length self.entry.address.now) words.old
+            (asked_by self.entry.asks (number self.entry.address.now)) (said_reply result) words.new }
+    {
+        let address = self.address;
+        match self.asks {
+            Ask::Announce {
+                length,
+                hop,
+                feed,
+                preference,
+            } => update::announce_with(words, address, length, hop, feed, preference, known),
+            Ask::Withdraw { length, feed } => update::withdraw_with(
+                words, address, length, feed, known,
+            ),
+            Ask::Look => lookup::lookup_on(words, address),
+        }
+    }
 }

@@ -9,7 +9,7 @@ fn main(rt: HostRuntime) -> io::Result<()> {
     let mut front = [0u32; FRONT_WORDS];
     let mut words = [0u32; 12288];
     let mut reply = [0u8; 4096];
-    damping::held::clear(&mut front);
-    audit::clear(&mut words);
+    let _ = damping::held::clear(&mut front);
+    let _ = audit::clear(&mut words);
     console::through::show(&rt, rt.reader(), &mut front, &mut words, &mut reply)
 }

@@ -1,18 +1,15 @@
 -- How many entries a length has: its routes, and the markers that are no routes. So the entries of all lengths, with the default
 -- route, number the routes and the markers. Assumes nothing.
-use Rattle.std.specs.Prelude.{◌≡◌, refl, Bool, true, false, cond, not, ◌&&◌, ◌||◌, List, [], ◌∷◌, ◌++◌, ℕ, zero, suc, ◌+◌, ◌-◌}
-use Rattle.std.specs.Prelude.{◌*◌, ◌/◌, ◌^◌, ◌≤◌, ◌<◌, length, eqb}
-use Rattle.std.proofs.Common.{sym, ap, ◌∙◌, true≢false, mul-div_cancel, arith, pow_pos, eq-eqb, ne_eqb}
-use Rattle.routes.specs.Route.{Route, key, From, Wf}
+use Rattle.std.specs.Prelude.{◌≡◌, refl, Bool, true, false, not, ◌&&◌, ◌||◌, List, ◌++◌, ℕ, zero, suc, ◌+◌}
+use Rattle.std.specs.Prelude.{◌≤◌, length, eqb}
+use Rattle.std.proofs.Common.{sym, ◌∙◌, true≢false, arith}
+use Rattle.routes.specs.Route.{Route, From}
 use Rattle.routes.specs.Room.{mem, distinct}
-use Rattle.logic.specs.Cases.{bool, same}
-use Rattle.laws.specs.Sorted.{hop_head, hop_skip, hop_below}
-use Rattle.laws.specs.Longest.{Wfs, whole}
-use Rattle.logic.specs.Bools.{or_left, or_right, or_assoc, or_swap}
+use Rattle.laws.specs.Longest.{Wfs}
 use Rattle.laws.specs.Room.{distinct-mem}
 use Rattle.lengths.specs.Way.{turns_at}
 use Rattle.listing.specs.Heads.{picks}
-use Rattle.lengths.specs.Marks.{held_at, unheld, marks, markers_to, markers, entries}
+use Rattle.lengths.specs.Marks.{held_at, marks, markers_to, markers, entries}
 use Rattle.lengths.specs.Entries.{mem-append, distinct_append, mem-unheld, mem_either, own, tally, own_held, own-distinct}
 use Rattle.lengths.specs.Entries.{entries_to, tally_to, tally-length}
 

@@ -1,16 +1,9 @@
 -- The theorem that carries the search by lengths: where each held length has its entry, and its way turns longer at entries only,
 -- the search finds the longest match. Assumes nothing.
-use Rattle.std.specs.Prelude.{◌≡◌, refl, ◌≢◌, Bool, true, false, cond, eqb}
-use Rattle.std.proofs.Common.{sym, ◌∙◌, true≢false, arith, lt-ltb, le-ltb, eq-eqb}
-use Prim.Native.Nat.{ℕ, zero, suc, ◌+◌, ◌-◌, ◌^◌, ◌≤◌, ◌<◌}
-use Rattle.std.proofs.Math.Nat.{pow-succ'}
-use Rattle.std.proofs.Math.Pow.{pow_pos}
-use Rattle.routes.specs.Room.{mem}
-use Rattle.logic.specs.Cases.{bool, same, less}
-use Rattle.logic.specs.Bools.{or_left, or_right}
-use Rattle.routes.specs.Match.{last}
-use Rattle.laws.specs.Longest.{last_past}
-use Rattle.lengths.specs.Way.{Look, miss, hit, after, search, turns, turns_at, best}
+use Rattle.std.specs.Prelude.{◌≡◌, refl, Bool}
+use Rattle.std.proofs.Common.{arith}
+use Prim.Native.Nat.{ℕ}
+use Rattle.lengths.specs.Way.{Look, hit, search, best}
 use Rattle.lengths.specs.Finds.{Looks, Marked, finds}
 
 -- the search from length 16, with the default route's match, finds the longest match

@@ -1,21 +1,13 @@
 -- The theorem for a list: looks that tell the list's entries, each with its best match, find the longest match. Assumes nothing.
-use Rattle.std.specs.Prelude.{◌≡◌, refl, ◌≢◌, Bool, true, false, cond, ◌||◌, List, [], ◌∷◌, ℕ, zero, suc, ◌+◌, ◌-◌, ◌/◌, ◌^◌, ◌≤◌}
-use Rattle.std.specs.Prelude.{◌<◌, eqb}
-use Rattle.std.proofs.Common.{sym, ap, ◌∙◌, arith, shr-shr, eq-eqb}
-use Rattle.std.proofs.lemmas.Bool.{false≢true}
-use Rattle.routes.specs.Route.{Route, key}
+use Rattle.std.specs.Prelude.{◌≡◌, Bool, cond, List, ℕ, ◌-◌, ◌/◌, ◌^◌, ◌≤◌}
+use Rattle.std.proofs.Common.{◌∙◌, arith}
+use Rattle.routes.specs.Route.{Route}
 use Rattle.routes.specs.Match.{longest}
 use Rattle.routes.specs.Room.{mem}
-use Rattle.logic.specs.Cases.{same, less}
-use Rattle.laws.specs.Sorted.{hop_skip}
-use Rattle.laws.specs.Longest.{Wfs, key_at, along, longest_last, last_same}
-use Rattle.logic.specs.Bools.{or_left, or_right}
-use Rattle.lengths.specs.Way.{Look, miss, hit, search, turns, turns_at, code, best}
-use Rattle.lengths.specs.Finds.{Marked}
+use Rattle.laws.specs.Longest.{Wfs, along, longest_last}
+use Rattle.lengths.specs.Way.{Look, miss, hit, search, code}
 use Rattle.lengths.proofs.Finds.{way_finds}
-use Rattle.listing.specs.Heads.{picks, picks_more}
-use Rattle.lengths.specs.Marks.{held_at, is_entry, entries, best_at}
-use Rattle.lengths.specs.Entries.{key_other}
+use Rattle.lengths.specs.Marks.{entries, best_at}
 use Rattle.lengths.specs.Held.{best_along, marked}
 
 module _ (rs : List Route) (w : Wfs 32 rs) (a : ℕ) where

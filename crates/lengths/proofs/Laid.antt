@@ -1,20 +1,15 @@
 -- When words are a list laid out by lengths, and that the walk on them then gives the longest match. Assumes nothing.
-use Rattle.std.specs.Prelude.{◌≡◌, refl, cond, List, [], ◌∷◌, ℕ, zero, suc, ◌+◌, ◌-◌, ◌*◌, ◌/◌, ◌%◌, ◌^◌, ◌≤◌, ◌<◌, length}
-use Rattle.std.specs.Prelude.{get_or}
-use Rattle.std.proofs.Common.{ap, ◌∙◌, le-ltb, le-leb, ne_eqb}
+use Rattle.std.specs.Prelude.{◌≡◌, List, ℕ, ◌-◌, ◌/◌, ◌^◌, ◌<◌, length}
+use Rattle.std.proofs.Common.{ap, ◌∙◌, le-ltb}
 use native.Mathlib.Omega.{arith}
-use Rattle.std.proofs.lemmas.Bool.{lt-leb}
-use Rattle.routes.specs.Route.{Route, key, All, hop_at, IsRoute, IsList}
-use Rattle.routes.specs.Match.{Match, none, found, longest, or_shorter, last}
-use Rattle.routes.specs.Room.{mem}
+use Rattle.routes.specs.Route.{Route, IsList}
+use Rattle.routes.specs.Match.{longest}
 use Rattle.routes.specs.Seen.{gives}
-use Rattle.logic.specs.Cases.{same}
-use Rattle.laws.specs.Longest.{along, longest_last, wfs}
-use Rattle.lengths.specs.Way.{miss, hit, search, code}
-use Rattle.lengths.specs.Marks.{entries, best_at, words_for}
+use Rattle.laws.specs.Longest.{wfs}
+use Rattle.lengths.specs.Way.{hit, search, code}
+use Rattle.lengths.specs.Marks.{best_at}
 use Rattle.lengths.proofs.Held.{list_way}
-use Rattle.lengths.specs.Hash.{start_lt, place_lt}
-use Rattle.lengths.specs.Layout.{header_words, begin_of, size_of, Places, places_of, start, probe, find_in, look, walk}
+use Rattle.lengths.specs.Layout.{header_words, look, walk}
 use Rattle.lengths.specs.Layout.{answered}
 use Rattle.lengths.specs.Laid.{Laid, code_back, laid_look, longest-low}
 

@@ -1,29 +1,21 @@
 -- What each test of a look says of the definition: of a start, of a place, of a probe, and of a table among the words.
 -- Assumes nothing.
-use mathlib.Core.Path.{◌≡◌, refl, sym, ◌∙◌}
+use mathlib.Core.Path.{◌≡◌, sym, ◌∙◌}
 use mathlib.Core.Logic.{◌≢◌}
 use mathlib.Core.Bool.{Bool, true, false, not}
 use mathlib.Core.List.{List}
 use Prim.Native.Nat.{ℕ, suc, ◌+◌, ◌-◌, ◌*◌, ◌/◌, ◌≤◌, ◌<◌}
-use native.Mathlib.Nat.{mod-lt, mul-lt-mul_of_pos_right, mul_left_comm}
+use native.Mathlib.Nat.{mul_left_comm}
 use native.Mathlib.Omega.{arith}
 use lib.ListN.{length}
-use lib.Dec.{eqb}
 use borrow.Author.Tests.{lt-ltb, le-ltb, le-leb, lt-leb, eq-eqb, ne_eqb}
 use Rattle.logic.specs.Bools.{not_true, not_false}
 use Rattle.lengths.specs.Way.{miss, hit, outside}
-use Rattle.lengths.specs.Layout.{begin_of, size_of, key_of, taken_by, Places, mix, start, place, look_at, probe, find}
+use Rattle.lengths.specs.Layout.{begin_of, size_of, key_of, Places, mix, start, place, look_at, probe, find}
 use Rattle.lengths.specs.Layout.{find_in, look}
 use Rattle.lengths.specs.Hash.{start_lt}
 
 -- ---- where a probe begins
-
--- the product with the entries has 64 bits
-pub product_fits : (v size : ℕ) → 1 ≤ size → size < 4294967296 → mix v * size < 18446744073709551616
-product_fits v size h k =
-    let l : mix v < 4294967296 = mod-lt (v * 2654435769) (omega arith) in
-    let q : mix v * size < 4294967296 * size = mul-lt-mul_of_pos_right l h in
-    omega (arith, q)
 
 pub start_is : (v size : ℕ) → 1 ≤ size → (mix v * size / 1073741824 ≡ start v (4 * size)) × (start v (4 * size) < 4 * size)
 unfolding start
@@ -43,20 +35,6 @@ place_round s p d h = rw (le-ltb (s + d) p h)
 
 pub place_first : (s p : ℕ) → s < p → s ≡ place s p 0
 place_first s p h = let e : s + 0 ≡ s = omega arith in sym e ∙ place_on s p 0 (omega arith)
-
-module _ (m k b : ℕ) where
-  pub free_not : k ≢ 0 → false ≡ not (taken_by m k b)
-  free_not n = rw (ne_eqb k 0 n)
-
-  pub free_short : k ≡ 0 → m < 32 → true ≡ not (taken_by m k b)
-  free_short e h = rw (e, lt-leb 32 m h)
-
-  pub free_longest : k ≡ 0 → 32 ≤ m → eqb b 0 ≡ not (taken_by m k b)
-  free_longest e h = rw (e, le-leb 32 m h) (twice (eqb b 0))
-    where
-      twice : (c : Bool) → c ≡ not (not c)
-      twice true = refl
-      twice false = refl
 
 -- a key tells the bits
 pub key-own : (k v : ℕ) → v ≤ 4294967295 → k ≡ 4294967295 - v → key_of k ≡ v

@@ -3,13 +3,12 @@ use mathlib.Core.Path.{◌≡◌, sym, ap, ◌∙◌}
 use mathlib.Core.Logic.{◌≢◌}
 use mathlib.Core.Bool.{Bool, true, false}
 use mathlib.Core.List.{List}
-use Prim.Native.Nat.{ℕ, zero, suc, ◌+◌, ◌-◌, ◌/◌, ◌%◌, ◌^◌, ◌≤◌, ◌<◌}
+use Prim.Native.Nat.{ℕ, zero, suc, ◌+◌, ◌-◌, ◌/◌, ◌^◌, ◌≤◌, ◌<◌}
 use native.Mathlib.Omega.{arith}
 use lib.ListN.{length, get_or}
-use lib.Dec.{ltb}
-use borrow.Author.Tests.{lt-ltb, le-ltb, le-leb, lt-leb, eq-eqb, ne_eqb}
+use borrow.Author.Tests.{lt-ltb, le-ltb, eq-eqb, ne_eqb}
 use Rattle.routes.specs.Route.{Route, IsList}
-use Rattle.routes.specs.Match.{Match, none, found, longest}
+use Rattle.routes.specs.Match.{Match, none, longest}
 use Rattle.routes.specs.Seen.{Answer, gives, refuses}
 use Rattle.lengths.specs.Way.{Look, miss, hit, outside, search}
 use Rattle.lengths.specs.Layout.{header_words, bad_best, look, answered, walk}
@@ -73,22 +72,10 @@ module _ (b : ℕ) where
   pub best-small : b ≢ 0 → b < 256 → true ≡ bad_best b
   best-small n h = rw (ne_eqb b 0 n, lt-ltb b 256 h)
 
-  pub best_large : b ≢ 0 → 256 ≤ b → 16777216 ≤ b → true ≡ bad_best b
-  best_large n h k = rw (ne_eqb b 0 n, le-ltb b 256 h, le-leb 16777216 b k)
-
-  pub best-length : b ≢ 0 → 256 ≤ b → b < 16777216 → ltb 32 (b % 256) ≡ bad_best b
-  best-length n h k = rw (ne_eqb b 0 n, le-ltb b 256 h, lt-leb 16777216 b k)
-
   -- r is the test whether it is out of its range
   module _ (r : Bool) (e : r ≡ bad_best b) where
-    pub told_strange : r ≡ true → refuses 2 ≡ answered (hit b)
-    told_strange q = rw (sym e ∙ q)
-
     pub told_none : r ≡ false → b ≡ 0 → gives none ≡ answered (hit b)
     told_none q z = rw z
-
-    pub told-found : r ≡ false → b ≢ 0 → gives (found (b / 256) (b % 256)) ≡ answered (hit b)
-    told-found q n = rw (sym e ∙ q, ne_eqb b 0 n)
 
 pub walk_short : (ws : List ℕ) (a : ℕ) → length ws < header_words → refuses 2 ≡ walk ws a
 unfolding walk

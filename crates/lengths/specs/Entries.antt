@@ -2,17 +2,15 @@
 -- route, number the routes and the markers. Assumes nothing.
 use Rattle.std.specs.Prelude.{◌≡◌, refl, Bool, true, false, cond, not, ◌&&◌, ◌||◌, List, [], ◌∷◌, ◌++◌, ℕ, zero, suc, ◌+◌, ◌-◌}
 use Rattle.std.specs.Prelude.{◌*◌, ◌/◌, ◌^◌, ◌≤◌, ◌<◌, length, eqb}
-use Rattle.std.proofs.Common.{sym, ap, ◌∙◌, true≢false, mul-div_cancel, arith, pow_pos, eq-eqb, ne_eqb}
+use Rattle.std.proofs.Common.{sym, ap, ◌∙◌, mul-div_cancel, arith, pow_pos, eq-eqb, ne_eqb}
 use Rattle.routes.specs.Route.{Route, key, From, Wf}
 use Rattle.routes.specs.Room.{mem, distinct}
 use Rattle.logic.specs.Cases.{bool, same}
 use Rattle.laws.specs.Sorted.{hop_head, hop_skip, hop_below}
 use Rattle.laws.specs.Longest.{Wfs, whole}
 use Rattle.logic.specs.Bools.{or_left, or_right, or_assoc, or_swap}
-use Rattle.laws.specs.Room.{distinct-mem}
-use Rattle.lengths.specs.Way.{turns_at}
 use Rattle.listing.specs.Heads.{picks}
-use Rattle.lengths.specs.Marks.{held_at, unheld, marks, markers_to, markers, entries}
+use Rattle.lengths.specs.Marks.{held_at, unheld, entries}
 
 -- ---- membership
 

@@ -1,16 +1,15 @@
 -- The theorem for a list: looks that tell the list's entries, each with its best match, find the longest match. Assumes nothing.
-use Rattle.std.specs.Prelude.{◌≡◌, refl, ◌≢◌, Bool, true, false, cond, ◌||◌, List, [], ◌∷◌, ℕ, zero, suc, ◌+◌, ◌-◌, ◌/◌, ◌^◌, ◌≤◌}
+use Rattle.std.specs.Prelude.{◌≡◌, refl, ◌≢◌, Bool, true, false, ◌||◌, List, [], ◌∷◌, ℕ, zero, suc, ◌+◌, ◌-◌, ◌/◌, ◌^◌, ◌≤◌}
 use Rattle.std.specs.Prelude.{◌<◌, eqb}
 use Rattle.std.proofs.Common.{sym, ap, ◌∙◌, arith, shr-shr, eq-eqb}
 use Rattle.std.proofs.lemmas.Bool.{false≢true}
 use Rattle.routes.specs.Route.{Route, key}
-use Rattle.routes.specs.Match.{longest}
 use Rattle.routes.specs.Room.{mem}
 use Rattle.logic.specs.Cases.{same, less}
 use Rattle.laws.specs.Sorted.{hop_skip}
-use Rattle.laws.specs.Longest.{Wfs, key_at, along, longest_last, last_same}
+use Rattle.laws.specs.Longest.{Wfs, key_at, along, last_same}
 use Rattle.logic.specs.Bools.{or_left, or_right}
-use Rattle.lengths.specs.Way.{Look, miss, hit, search, turns, turns_at, code, best}
+use Rattle.lengths.specs.Way.{turns, turns_at, code, best}
 use Rattle.lengths.specs.Finds.{Marked}
 use Rattle.listing.specs.Heads.{picks, picks_more}
 use Rattle.lengths.specs.Marks.{held_at, is_entry, entries, best_at}

@@ -1,5 +1,5 @@
 -- When words are a list laid out by lengths, and that the walk on them then gives the longest match. Assumes nothing.
-use Rattle.std.specs.Prelude.{◌≡◌, refl, cond, List, [], ◌∷◌, ℕ, zero, suc, ◌+◌, ◌-◌, ◌*◌, ◌/◌, ◌%◌, ◌^◌, ◌≤◌, ◌<◌, length}
+use Rattle.std.specs.Prelude.{◌≡◌, refl, cond, List, [], ◌∷◌, ℕ, zero, suc, ◌+◌, ◌*◌, ◌/◌, ◌%◌, ◌≤◌, ◌<◌, length}
 use Rattle.std.specs.Prelude.{get_or}
 use Rattle.std.proofs.Common.{ap, ◌∙◌, le-ltb, le-leb, ne_eqb}
 use native.Mathlib.Omega.{arith}
@@ -10,10 +10,10 @@ use Rattle.routes.specs.Room.{mem}
 use Rattle.routes.specs.Seen.{gives}
 use Rattle.logic.specs.Cases.{same}
 use Rattle.laws.specs.Longest.{along, longest_last, wfs}
-use Rattle.lengths.specs.Way.{miss, hit, search, code}
+use Rattle.lengths.specs.Way.{miss, hit, code}
 use Rattle.lengths.specs.Marks.{entries, best_at, words_for}
 use Rattle.lengths.specs.Hash.{start_lt, place_lt}
-use Rattle.lengths.specs.Layout.{header_words, begin_of, size_of, Places, places_of, start, probe, find_in, look, walk}
+use Rattle.lengths.specs.Layout.{header_words, begin_of, size_of, Places, places_of, start, probe, find_in, look}
 use Rattle.lengths.specs.Layout.{answered}
 
 -- the table of length m ends by `to`, and tells the list's entries of that length, each with its best match

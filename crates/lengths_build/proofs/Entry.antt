@@ -1,27 +1,28 @@
 -- One entry of a table: the first free place on its way, the words put there, and its best match. Assumes nothing.
-use mathlib.Core.Path.{◌≡◌, sym, ap, ◌∙◌}
+use mathlib.Core.Path.{◌≡◌, refl, sym, ap, ◌∙◌}
 use mathlib.Core.Logic.{◌≢◌}
-use mathlib.Core.Bool.{Bool, true, false, not, true≢false}
+use mathlib.Core.Bool.{Bool, true, false, true≢false}
 use mathlib.Core.List.{List}
 use Prim.Native.Nat.{ℕ, zero, suc, ◌+◌, ◌-◌, ◌*◌, ◌/◌, ◌^◌, ◌≤◌, ◌<◌}
 use native.Mathlib.Omega.{arith}
 use lib.ListN.{length, get_or, set, length-set}
 use lib.Seq.{get_or-set_same, get_or-set_other}
 use borrow.Author.Tests.{le-leb, lt-leb}
-use Rattle.logic.specs.Cases.{same}
-use Rattle.logic.specs.Bools.{not_true, not_false}
 use Rattle.lengths.specs.Way.{miss, hit, outside}
 use Rattle.lengths.specs.Way as way
 use Rattle.lengths.specs.declared.Look.{Look}
-use Rattle.lengths.specs.declared.Look.TheVariants.{Hit}
+use Rattle.lengths.specs.declared.Look.TheVariants.{Miss, Hit, Outside}
 use Rattle.lengths.specs.Answer.{look_of, Looked}
 use Rattle.lengths.specs.Marks.{best_at}
 use Rattle.rivals.specs.Won.{winners_list}
 use Rattle.listing.specs.Listed.{candidate_at, candidates_in, list_of}
 use Rattle.listing.specs.Winning.{winning_at}
+use Rattle.listing.specs.Record.{said}
+use Rattle.listing.specs.declared.Record.{Record}
+use Rattle.candidates.specs.Candidate.{Candidate}
 use Rattle.laws.specs.Longest.{wfs}
-use Rattle.lengths.specs.Layout.{begin_of, size_of, key_of, taken_by, Places, places_of, start, place, look, find_in}
-use Rattle.lengths.specs.Hash.{start_lt, place_lt, place-met, Room, Free}
+use Rattle.lengths.specs.Layout.{begin_of, size_of, key_of, taken_by, Places, start, place, look, find_in}
+use Rattle.lengths.specs.Hash.{start_lt, place-met, Room}
 use Rattle.lengths_build.specs.Filling.{chosen, Filling, Filled, Space, put_at, Put, is_miss, or_below, below}
 use Rattle.lengths_build.specs.Fill.{kept_none, standing_on, filling_again, filling_room, filling_new, filling_taken}
 use Rattle.lengths_build.specs.Fill.{filling_put}
@@ -35,31 +36,11 @@ module _ (T : Places) (p v : ℕ) where
   abbrev pub Passed : ℕ → Type 0
   Passed d = (e : ℕ) → e < d → T.taken (place (start v p) p e) ≡ true
 
-  pub passed_none : Passed 0
-  passed_none e h = absurd (omega arith)
-
-  pub passed_more : (d j : ℕ) → Passed d → j ≡ place (start v p) p d → T.taken j ≡ true → Passed (d + 1)
-  passed_more d j f q n e h =
-      same e d (λ z _. rw (z, ← q) n) (λ z _. f e (omega arith))
-
-  pub free_here : (d j : ℕ) → 1 ≤ p → d < p → Passed d → j ≡ place (start v p) p d → T.taken j ≡ false
-      → Free T p v j × (j < p)
-  free_here d j one h f q z =
-      (record { steps = d; few = h; there = sym q; free = z; before = f }, rw q (place_lt (start v p) p d (start_lt v p one) h))
-
   pub free_none : {P : Type 0} (d : ℕ) → p ≤ d → Passed d → Room T p → P
   free_none d h f r =
       let one : 1 ≤ p = omega (arith, r.within) in
       let m = place-met (start v p) p r.at (start_lt v p one) r.within in
       absurd (true≢false (sym (f m.steps (omega (arith, m.few))) ∙ ap T.taken m.there ∙ r.free))
-
--- what the test tells of a place
-module _ (T : Places) (j : ℕ) (b : Bool) (e : b ≡ not (T.taken j)) where
-  pub told_free : b ≡ true → T.taken j ≡ false
-  told_free t = not_true (T.taken j) (sym e ∙ t)
-
-  pub told-taken : b ≡ false → T.taken j ≡ true
-  told-taken t = not_false (T.taken j) (sym e ∙ t)
 
 -- ---- an entry put
 
@@ -72,16 +53,6 @@ module _ (ws : List ℕ) (o m n v b j : ℕ) (fits : o + 8 * n ≤ length ws) (h
   put_other i x y = get_or-set_other (set ws (o + j) (key_of v)) (o + j + 4 * n) i b 0 y
       ∙ get_or-set_other ws (o + j) i (key_of v) 0 x
 
-  put-length : length us ≡ length ws
-  unfolding put_at
-  put-length = simp length-set
-
-  put-key : get_or us (o + j) 0 ≡ key_of v
-  unfolding put_at
-  put-key =
-      get_or-set_other (set ws (o + j) (key_of v)) (o + j + 4 * n) (o + j) b 0 (λ e. omega arith)
-      ∙ get_or-set_same ws (o + j) (key_of v) 0 (omega arith)
-
   put-best : get_or us (o + j + 4 * n) 0 ≡ b
   unfolding put_at
   put-best = get_or-set_same (set ws (o + j) (key_of v)) (o + j + 4 * n) b 0 (simp length-set (omega arith))
@@ -89,44 +60,12 @@ module _ (ws : List ℕ) (o m n v b j : ℕ) (fits : o + 8 * n ≤ length ws) (h
   key_other : (i : ℕ) → i < 4 * n → i ≢ j → get_or us (o + i) 0 ≡ get_or ws (o + i) 0
   key_other i l d = put_other (o + i) (λ e. omega arith) (λ e. omega arith)
 
-  best_other : (i : ℕ) → i < 4 * n → i ≢ j → get_or us (o + i + 4 * n) 0 ≡ get_or ws (o + i + 4 * n) 0
-  best_other i l d = put_other (o + i + 4 * n) (λ e. omega arith) (λ e. omega arith)
-
-  pub put_law : v ≤ 4294967295 → taken_by m (key_of v) b ≡ true → Free (places_of ws m o (4 * n)) (4 * n) v j
-      → Put ws (put_at ws o (4 * n) j v b) o m n v b
-  put_law low t f = record {
-    at = j;
-    free = f;
-    puts = record {
-      within = h;
-      free = f.free;
-      taken = rw (put-key, put-best) t;
-      value = rw put-key (omega arith);
-      best = put-best;
-      takens = λ i l d. rw (key_other i l d, best_other i l d);
-      values = λ i l d. rw (key_other i l d);
-      bests = best_other;
-    };
-    kept = record {
-      long = put-length;
-      below = λ i l. put_other i (λ e. omega arith) (λ e. omega arith);
-      above = λ i l. put_other i (λ e. omega arith) (λ e. omega arith);
-    };
-  }
-
 -- ---- the shorter tables
 
 -- what the code's look was, its case known
 module _ (ws : List ℕ) (r : Look) (x : way.Look) (l : Looked ws r x) where
   pub saw : (y : Look) → r ≡ y → x ≡ look_of ws y
   saw y e = sym l.told ∙ ap (look_of ws) e
-
-  -- the word that it tells is there
-  pub saw_inside : (b : ℕ) → r ≡ Hit b → b < length ws
-  saw_inside b e = rw e at l.inside
-
-  pub saw_miss : (y : Look) → r ≡ y → is_miss (look_of ws y) ≡ is_miss x
-  saw_miss y e = sym (ap is_miss (saw y e))
 
 module _ (ws : List ℕ) (m v : ℕ) where
   pub look_out : length ws < begin_of ws m + 8 * size_of ws m → outside ≡ look ws m v
@@ -145,11 +84,11 @@ module _ (ws : List ℕ) (m v : ℕ) where
   pub below_hit : (l b : ℕ) → 1 ≤ l → look ws l (v / 2 ^ (m - l)) ≡ hit b → b ≡ below ws m v l
   below_hit l b h e = sym (below_step l h ∙ rw e)
 
-  pub below_miss : (l : ℕ) → 1 ≤ l → look ws l (v / 2 ^ (m - l)) ≡ miss → below ws m v (l - 1) ≡ below ws m v l
-  below_miss l h e = sym (below_step l h ∙ rw e)
-
-  pub below-outside : (l : ℕ) → 1 ≤ l → look ws l (v / 2 ^ (m - l)) ≡ outside → below ws m v (l - 1) ≡ below ws m v l
-  below-outside l h e = sym (below_step l h ∙ rw e)
+  pub below_other : (l : ℕ) (r : Look) → 1 ≤ l → Looked ws r (look ws l (v / 2 ^ (m - l))) → ((b : ℕ) → r ≡ Hit b → ⊥)
+      → below ws m v (l - 1) ≡ below ws m v l
+  below_other l Miss h k n = sym (below_step l h ∙ rw (← k.told))
+  below_other l (Hit b) h k n = absurd (n b refl)
+  below_other l Outside h k n = sym (below_step l h ∙ rw (← k.told))
 
   pub below_end : (l : ℕ) → l ≤ 0 → get_or ws 0 0 ≡ below ws m v l
   unfolding below
@@ -169,14 +108,18 @@ module _ (bs ws : List ℕ) (i m v : ℕ) (b : Bests bs ws i m v) where
 
 -- ---- a record entered
 
+pub at_record : (r : Record) (bs : List ℕ) (i m v : ℕ) → said r ≡ candidate_at bs i → v ≡ (said r).addr / 2 ^ (32 - m)
+    → v ≡ (candidate_at bs i).addr / 2 ^ (32 - m)
+at_record r bs i m v e q = q ∙ ap (λ (x : Candidate). x.addr / 2 ^ (32 - m)) e
+
 module _ (k : Bool) (bs ws : List ℕ) (i m o n : ℕ) (f : Filling k bs ws (i + 1) m o n) where
   module _ (c : chosen k m (candidate_at bs i).len ≡ true) (x : ℕ) (xe : x ≡ (candidate_at bs i).addr / 2 ^ (32 - m)) (b : Bool)
       (e : b ≡ is_miss (find_in ws m o n x)) where
-    pub enter_again : not b ≡ true → Filled k bs ws ws i m o n
+    pub enter_again : b ≡ false → Filled k bs ws ws i m o n
     enter_again z =
-        record { filling = filling_again k bs ws i m o n f c x xe b e (not_true b z); kept = kept_none ws o (o + 8 * n) }
+        record { filling = filling_again k bs ws i m o n f c x xe b e z; kept = kept_none ws o (o + 8 * n) }
 
-    pub enter_bests : not b ≡ false → Bests bs ws i m x
+    pub enter_bests : b ≡ true → Bests bs ws i m x
     enter_bests z = record {
       list = f.list;
       here = omega (arith, f.upto);
@@ -185,13 +128,13 @@ module _ (k : Bool) (bs ws : List ℕ) (i m o n : ℕ) (f : Filling k bs ws (i +
       long = omega (arith, f.fits, f.low);
       built = standing_on (list_of bs) ws o (length ws) m (omega (arith, f.fits)) f.built;
       value = xe;
-      marker = filling_new k bs ws i m o n f c x xe b e (not_false b z);
+      marker = filling_new k bs ws i m o n f c x xe b e z;
     }
 
-    pub enter_space : not b ≡ false → (y : ℕ) → y ≡ best_at (list_of bs) m x
+    pub enter_space : b ≡ true → (y : ℕ) → y ≡ best_at (list_of bs) m x
         → Space ws o m n × (taken_by m (key_of x) y ≡ true)
-    enter_space z y q = (filling_room k bs ws i m o n f c x xe b e (not_false b z), filling_taken k bs ws i m o n f c x xe y q)
+    enter_space z y q = (filling_room k bs ws i m o n f c x xe b e z, filling_taken k bs ws i m o n f c x xe y q)
 
-    pub enter_put : not b ≡ false → (us : List ℕ) (y : ℕ) → y ≡ best_at (list_of bs) m x → Put ws us o m n x y
+    pub enter_put : b ≡ true → (us : List ℕ) (y : ℕ) → y ≡ best_at (list_of bs) m x → Put ws us o m n x y
         → Filled k bs ws us i m o n
-    enter_put z us y q s = filling_put k bs ws i m o n f c x xe us b y e (not_false b z) q s
+    enter_put z us y q s = filling_put k bs ws i m o n f c x xe us b y e z q s

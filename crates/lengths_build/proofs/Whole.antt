@@ -5,32 +5,27 @@ use mathlib.Core.List.{List}
 use Prim.Native.Nat.{ℕ, zero, suc, ◌+◌, ◌-◌, ◌*◌, ◌/◌, ◌^◌, ◌≤◌, ◌<◌}
 use native.Mathlib.Omega.{arith}
 use lib.ListN.{length, get_or, set, length-set}
-use lib.Seq.{get_or-set_same, get_or-set_other}
+use lib.Seq.{get_or-set_other}
 use lib.Pow.{pow_mono}
-use borrow.Author.Tests.{lt-ltb, le-ltb}
 use Rattle.routes.specs.Route.{Route}
 use Rattle.routes.specs.Route as routes
 use Rattle.routes.specs.Room.{distinct}
-use Rattle.routes.specs.Seen.{gives, refuses}
 use Rattle.routes.specs.Match.{last}
-use Rattle.lengths.specs.Marks.{entries, best_at, words_for, markers}
+use Rattle.lengths.specs.Marks.{entries, best_at, words_for}
 use Rattle.lengths.specs.Entries.{entries_to}
 use Rattle.lengths.specs.Few.{few_upto}
 use Rattle.candidates.specs.Candidate.{IsList}
 use Rattle.rivals.specs.Won.{winners_list}
-use Rattle.listing.specs.Listed.{records_in, candidate_at, candidates_from, candidates_in, list_of, Listed, unlisted, listed}
-use Rattle.listing.specs.Listed.{listed_in}
-use Rattle.lengths_build.specs.Answer.{need_on, build_on}
-use Rattle.listing.specs.Records.{Bytes, head_fits}
+use Rattle.listing.specs.Listed.{records_in, candidate_at, candidates_from, candidates_in, list_of}
+use Rattle.listing.specs.Records.{head_fits}
 use Rattle.listing.specs.Winning.{winning_at}
-use Rattle.listing.specs.Written.{listed_list, listed_candidates}
 use Rattle.logic.specs.Cases.{same}
 use Rattle.laws.specs.Longest.{wfs}
 use Rattle.lengths_build.specs.Filling.{Standing, size_for}
 use Rattle.lengths_build.specs.Fill.{standing_on}
 use Rattle.lengths_build.specs.Best.{best-own, default_unheld}
 use Rattle.lengths.specs.Layout.{header_words}
-use Rattle.lengths_build.specs.Build.{Header, table_end, LeavesOn, Makes, Made, Starts, Ends}
+use Rattle.lengths_build.specs.Build.{Header, table_end, Leaves, Makes, Made, Starts, Ends}
 use Rattle.lengths_build.specs.Sharp.{end_step, end_fits, upto-fits, used-needed}
 
 -- ---- the loop over the lengths
@@ -165,80 +160,19 @@ module _ (bs : List ℕ) (n : ℕ) (en : n ≡ records_in bs) where
 
 -- ---- the call
 
--- the need was given: the bytes are a list
-pub record Given (bs : List ℕ) (n : ℕ) : Type 0 where
-  pub is : listed_in bs ≡ listed (list_of bs)
-  pub words : n ≡ words_for (list_of bs)
-
-apart : {n k : ℕ} {P : Type 0} → gives n ≡ refuses k → P
-apart e = let z : ◌≡◌ {A = ℕ} 0 1 = cc in absurd (omega arith)
-
-pub given : (bs : List ℕ) (n : ℕ) → gives n ≡ need_on (listed_in bs) → Given bs n
-given bs n e = go (listed_in bs) refl e
-  where
-    go : (L : Listed) → listed_in bs ≡ L → gives n ≡ need_on L → Given bs n
-    go unlisted q e = apart e
-    go (listed rs) q e =
-        let z : list_of bs ≡ rs = listed_list bs rs q in
-        let w : n ≡ words_for rs = cc in
-        record { is = rw z q; words = rw z w }
-
-not_listed : (L : Listed) (k : ℕ) → refuses k ≡ need_on L → L ≡ unlisted
-not_listed unlisted k e = refl
-not_listed (listed rs) k e = apart (sym e)
-
--- refused with 2
-pub build_unlisted : (bs ws : List ℕ) (k : ℕ) → refuses k ≡ need_on (listed_in bs)
-    → (refuses 2 ≡ build_on (listed_in bs) (length ws)) × LeavesOn (listed_in bs) ws ws
-build_unlisted bs ws k e = rw (not_listed (listed_in bs) k e) (refl, refl)
-
-module _ (bs ws : List ℕ) (n : ℕ) (g : Given bs n) where
-  -- refused with 9
-  pub build_short : length ws < n → (refuses 9 ≡ build_on (listed_in bs) (length ws)) × LeavesOn (listed_in bs) ws ws
-  build_short h =
-      rw (g.is, lt-ltb (length ws) (words_for (list_of bs)) (omega (arith, g.words))) (
-        refl,
-        record {
-          refused = λ _. refl;
-          laid = λ k. absurd (omega (arith, g.words));
-          header = λ k. absurd (omega (arith, g.words));
-          long = refl;
-          spare = λ i k. refl;
-          past = λ i k. refl;
-        },
-      )
-
-  pub build_list : Bytes bs → IsList 32 (candidates_in bs)
-  build_list b = listed_candidates bs b (list_of bs) g.is
-
-  pub build_starts : Bytes bs → (d : ℕ) → n ≤ length ws → d ≡ best_at (list_of bs) 0 0 → Starts bs (set ws 0 d)
-  build_starts b d h e = record {
-    list = build_list b;
-    room = simp length-set (omega (arith, g.words));
-    default = get_or-set_same ws 0 d 0 (omega (arith, g.words)) ∙ e;
+-- words enough for the list
+module _ (bs ws : List ℕ) (n : ℕ) (e : n ≡ words_for (list_of bs)) (h : n ≤ length ws) where
+  pub build_leaves : (d : ℕ) (us : List ℕ) → Ends bs (set ws 0 d) us → Leaves (list_of bs) ws us
+  build_leaves d us t = record {
+    refused = λ k. absurd (omega arith);
+    laid = λ k. t.laid;
+    header = λ k. record {
+      before = t.header.before;
+      sizes = t.header.sizes;
+      second = t.header.second ∙ get_or-set_other ws 0 1 d 0 (λ z. omega arith);
+      others = λ i a b. t.header.others i a b ∙ get_or-set_other ws 0 i d 0 (λ z. omega arith);
+    };
+    long = t.long ∙ length-set ws 0 d;
+    spare = λ i k. t.spare i k ∙ get_or-set_other ws 0 i d 0 (λ z. omega (arith, end_step 32 (list_of bs) (omega arith)));
+    past = λ i k. t.past i k ∙ get_or-set_other ws 0 i d 0 (λ z. omega arith);
   }
-
-  pub build_built : (d : ℕ) (us : List ℕ) (k : ℕ) → n ≤ length ws → Ends bs (set ws 0 d) us → k ≡ length (list_of bs)
-      → (gives (record { routes = k; markers = (n - header_words) / 8 - k }) ≡ build_on (listed_in bs) (length ws))
-      × LeavesOn (listed_in bs) ws us
-  build_built d us k h e r =
-      let m : (n - header_words) / 8 - k ≡ markers (list_of bs) = omega (arith, g.words) in
-      rw (g.is, le-ltb (length ws) (words_for (list_of bs)) (omega (arith, g.words)), m, r) (
-        refl,
-        record {
-          refused = λ k. absurd (omega (arith, g.words));
-          laid = λ k. e.laid;
-          header = λ k. record {
-            before = e.header.before;
-            sizes = e.header.sizes;
-            second = e.header.second ∙ get_or-set_other ws 0 1 d 0 (λ z. omega arith);
-            others = λ i a b. e.header.others i a b ∙ get_or-set_other ws 0 i d 0 (λ z. omega arith);
-          };
-          long = e.long ∙ length-set ws 0 d;
-          spare = λ i k. e.spare i k ∙ get_or-set_other ws 0 i d 0 (λ z. omega (arith, end_step 32 (list_of bs) (omega arith)));
-          past = λ i k. e.past i k ∙ get_or-set_other ws 0 i d 0 (λ z. omega arith);
-        },
-      )
-
-  pub build_sub : (header_words ≤ n) × ((k : ℕ) → k ≡ length (list_of bs) → k ≤ (n - header_words) / 8)
-  build_sub = (omega (arith, g.words), λ k e. omega (arith, g.words))

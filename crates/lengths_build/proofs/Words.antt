@@ -1,9 +1,9 @@
 -- How many words a list needs: the entries of its lengths summed up, and the answer from that. Assumes nothing.
 use mathlib.Core.Path.{◌≡◌, refl, sym, ◌∙◌}
 use mathlib.Core.Logic.{◌≢◌}
-use mathlib.Core.Bool.{Bool, true, false, cond, not}
+use mathlib.Core.Bool.{cond}
 use mathlib.Core.List.{List, [], ◌∷◌}
-use Prim.Native.Nat.{ℕ, suc, ◌+◌, ◌*◌, ◌^◌, ◌≤◌, ◌<◌}
+use Prim.Native.Nat.{ℕ, suc, ◌+◌, ◌^◌, ◌≤◌, ◌<◌}
 use native.Mathlib.Nat.{le_refl}
 use native.Mathlib.Numerals.{add-one}
 use native.Mathlib.Omega.{arith}
@@ -14,23 +14,18 @@ use borrow.Author.Tests.{ne_eqb}
 use Rattle.routes.specs.Route.{Route, key, From, hop_at}
 use Rattle.routes.specs.Route as routes
 use Rattle.routes.specs.Room.{distinct}
-use Rattle.routes.specs.Seen.{gives, refuses}
 use Rattle.logic.specs.Cases.{same}
-use Rattle.logic.specs.Bools.{not_true, not_false}
 use Rattle.laws.specs.Longest.{Wfs, wfs}
 use Rattle.laws.specs.Sorted.{hop_head, hop_below}
 use Rattle.candidates.specs.Candidate.{IsList}
 use Rattle.rivals.specs.Won.{winners_list}
-use Rattle.listing.specs.Listed.{records_in, candidate_at, candidates_from, candidates_in, list_of, listed_in}
+use Rattle.listing.specs.Listed.{records_in, candidate_at, candidates_from, candidates_in, list_of}
 use Rattle.listing.specs.Winning.{winning_at, record_won}
 use Rattle.listing.specs.Heads.{picks, between}
-use Rattle.listing.specs.Records.{Reads}
-use Rattle.lengths.specs.Layout.{header_words}
 use Rattle.lengths.specs.Marks.{markers, entries}
 use Rattle.lengths.specs.Entries.{tally, entries_to}
 use Rattle.lengths.proofs.Entries.{entries_all}
 use Rattle.lengths.specs.Few.{few_entries}
-use Rattle.lengths_build.specs.Answer.{need_on}
 use Rattle.lengths_build.specs.Build.{entries_bound}
 use Rattle.lengths_build.specs.Reach.{reach, entries-reach}
 use Rattle.lengths_build.specs.Best.{default_unheld, default_hop}
@@ -111,16 +106,3 @@ pub total_all : (rs : List Route) (m s : ℕ) → routes.IsList 32 rs → m ≤ 
 total_all rs m s l u v e =
     let q : m ≡ 32 = omega arith in
     (rw q at e) ∙ entries_all rs l.sorted (wfs 32 rs l.routes)
-
--- ---- the answer
-
-module _ (bs : List ℕ) (r : Bool) (w : Reads bs r) where
-  pub need_unlisted : not r ≡ true → refuses 2 ≡ need_on (listed_in bs)
-  need_unlisted e = rw (w.is, not_true r e)
-
-  pub need_words : (t : ℕ) → not r ≡ false → t ≡ length (list_of bs) + markers (list_of bs)
-      → gives (8 * t + header_words) ≡ need_on (listed_in bs)
-  need_words t e s = rw (w.is, not_false r e, s)
-
-  pub need_list : not r ≡ false → IsList 32 (candidates_in bs)
-  need_list e = w.list (not_false r e)

@@ -1,12 +1,11 @@
 -- What the need and the build answer, by the list that the bytes are, and what the code's answers say of that. Assumes nothing.
-use Rattle.std.specs.Prelude.{cond, ℕ, length, ltb}
+use Rattle.std.specs.Prelude.{cond, ℕ, length, ltb, Result, Ok, Err}
 use Rattle.routes.specs.Seen.{Answer, gives, refuses}
 use Rattle.listing.specs.Listed.{Listed, unlisted, listed}
 use Rattle.lengths.specs.Marks.{markers, words_for}
-use Rattle.lengths_build.specs.declared.Needs.{Needs}
-use Rattle.lengths_build.specs.declared.Needs.TheVariants.{Words, Refused as Unlisted}
-use Rattle.lengths_build.specs.declared.Built.{Built}
-use Rattle.lengths_build.specs.declared.Built.TheVariants.{Counts as Both, Refused}
+use Rattle.refusals.specs.declared.Refusal.{Refusal}
+use Rattle.refusals.specs.Number.{number, said}
+use Rattle.lengths_build.specs.declared.Counts as code
 
 -- the words that the list needs
 abbrev pub need_on : Listed → Answer ℕ
@@ -25,10 +24,9 @@ build_on (listed rs) room =
 
 -- ---- of the code
 
-abbrev pub need_answer : Needs → Answer ℕ
-need_answer (Words n) = gives n
-need_answer (Unlisted n) = refuses n
+abbrev pub need_answer : Result ℕ Refusal → Answer ℕ
+need_answer r = said r
 
-abbrev pub build_answer : Built → Answer Counts
-build_answer (Both n m) = gives (record { routes = n; markers = m })
-build_answer (Refused n) = refuses n
+abbrev pub build_answer : Result code.Counts Refusal → Answer Counts
+build_answer (Ok c) = gives (record { routes = c.routes; markers = c.markers })
+build_answer (Err e) = refuses (number e)

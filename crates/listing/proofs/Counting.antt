@@ -1,63 +1,36 @@
 -- Heads counted from the last record to the first, as the loop takes them, and the arrays from such counts. Assumes nothing.
 use mathlib.Core.Path.{◌≡◌, refl, sym, ap, ◌∙◌}
-use mathlib.Core.Logic.{◌≢◌}
-use mathlib.Core.Bool.{Bool, true, false, cond}
+use mathlib.Core.Bool.{Bool, true, false}
 use mathlib.Core.List.{List, ◌∷◌}
-use Prim.Native.Nat.{ℕ, suc, ◌+◌, ◌-◌, ◌*◌, ◌/◌, ◌^◌, ◌≤◌, ◌<◌}
+use Rattle.std.specs.Prelude.{Option, Some, None}
+use Prim.Native.Nat.{ℕ, suc, ◌+◌, ◌-◌, ◌*◌, ◌/◌, ◌^◌, ◌≤◌}
 use native.Mathlib.Numerals.{add-one}
 use native.Mathlib.Omega.{arith}
-use lib.Dec.{eqb}
-use lib.Pow.{shr_le}
-use borrow.Author.Tests.{eq-eqb, ne_eqb, eqb-true, eqb-false}
 use Rattle.routes.specs.Route.{Route}
 use Rattle.routes.specs.Route as routes
-use Rattle.routes.specs.Room.{distinct, need, need_to}
+use Rattle.routes.specs.Room.{distinct, need_to}
 use Rattle.logic.specs.Cases.{same}
 use Rattle.laws.specs.Longest.{wfs}
 use Rattle.candidates.specs.Candidate.{Candidate, IsList}
 use Rattle.candidates.specs.Winners.{winners, prefixes}
 use Rattle.rivals.specs.Won.{are_good, winners_list}
 use Rattle.listing.specs.Listed.{candidate_at, candidates_from}
-use Rattle.listing.specs.Heads.{picks, between, no_head, last_head, Counted, first_or, head_low, heads-picks, count_skip}
+use Rattle.listing.specs.Heads.{picks, between, no_head, last_head, Counted, first_or, heads-picks, count_skip}
 use Rattle.listing.specs.Heads.{count_same, count_new, count_first, distinct-length, prefixes-length, distinct-winners}
 use Rattle.listing.specs.Records.{key_bound, tail_step, tail_end, tail_list, records-length, list_short}
 
 -- what was counted so far, over the records from i on: the count, and the address met last
-pub record Counts (P : ℕ → Bool) (m : ℕ) (rs : List Route) (seen last : ℕ) : Type 0 where
+pub record Counts (P : ℕ → Bool) (m : ℕ) (rs : List Route) (seen : ℕ) (last : Option ℕ) : Type 0 where
   pub count : seen ≡ distinct (picks P m rs)
-  pub first : last_head m seen last ≡ first_or no_head (picks P m rs)
+  pub first : last_head m last ≡ first_or no_head (picks P m rs)
 
--- ---- one address more: the first, one of the head met last, one of another
+-- ---- one address more: of the head met last, or of another
 
-module _ (seen a last m : ℕ) where
-  pub counted_first : seen ≡ 0 → a < no_head → Counted seen (a / 2 ^ (32 - m)) (last_head m seen last) 1
-  counted_first z h = record {
-    same = λ e. omega (arith, shr_le a (32 - m), rw (eq-eqb seen 0 z) at e);
-    more = λ _. omega arith;
-  }
-
-  pub counted_same : eqb (a / 2 ^ (32 - m)) (last / 2 ^ (32 - m)) ≡ true
-      → seen ≢ 0 → Counted seen (a / 2 ^ (32 - m)) (last_head m seen last) seen
-  counted_same e n = record {
-    same = λ _. refl;
-    more = λ d. absurd (rw (ne_eqb seen 0 n) at d (eqb-true _ _ e));
-  }
-
-  pub counted_new : eqb (a / 2 ^ (32 - m)) (last / 2 ^ (32 - m)) ≡ false → a < no_head
-      → Counted seen (a / 2 ^ (32 - m)) (last_head m seen last) (seen + 1)
-  counted_new e h =
-      same seen 0
-      (λ z _. (let one : 1 ≡ seen + 1 = omega arith in rw (← one) (counted_first z h)))
-      (λ n _. record {
-        same = λ d. absurd (eqb-false _ _ e (rw (ne_eqb seen 0 n) at d));
-        more = λ _. refl;
-      })
-
-pub counts_none : (P : ℕ → Bool) (m n : ℕ) (bs : List ℕ) → Counts P m (prefixes (candidates_from bs (n - n) n)) 0 0
+pub counts_none : (P : ℕ → Bool) (m n : ℕ) (bs : List ℕ) → Counts P m (prefixes (candidates_from bs (n - n) n)) 0 None
 counts_none P m n bs = rw (tail_end bs n) (record { count = refl; first = refl })
 
 module _ (P : ℕ → Bool) (m n i j : ℕ) (bs : List ℕ) (e : j + 1 ≡ i) (h : i ≤ n) (l : IsList 32 (candidates_from bs n 0))
-    (seen last : ℕ) (s : Counts P m (prefixes (candidates_from bs (n - i) i)) seen last) where
+    (seen : ℕ) (last : Option ℕ) (s : Counts P m (prefixes (candidates_from bs (n - i) i)) seen last) where
   list : IsList 32 (candidate_at bs j ∷ candidates_from bs (n - i) i)
   list = rw (tail_step bs n i j e h) at (tail_list bs n j (omega arith) l)
 
@@ -72,35 +45,31 @@ module _ (P : ℕ → Bool) (m n i j : ℕ) (bs : List ℕ) (e : j + 1 ≡ i) (h
       })
 
   pub counts_more : (b : Bool) (a r : ℕ) → b ≡ P (candidate_at bs j).len → b ≡ true → a ≡ (candidate_at bs j).addr
-      → Counted seen (a / 2 ^ (32 - m)) (last_head m seen last) r
-      → Counts P m (prefixes (candidates_from bs (n - j) j)) r a
+      → Counted seen (a / 2 ^ (32 - m)) (last_head m last) r
+      → Counts P m (prefixes (candidates_from bs (n - j) j)) r (Some a)
   counts_more b a r q f ea c =
       let p : P (candidate_at bs j).len ≡ true = sym q ∙ f in
       let x = candidate_at bs j in
       let xs = candidates_from bs (n - i) i in
       let v = a / 2 ^ (32 - m) in
       let ev : v ≡ x.addr / 2 ^ (32 - m) = rw ea in
-      let low : v < no_head = rw ev (head_low P m x xs list) in
-      let old = last_head m seen last in
-      let some : r ≢ 0 = λ z. same v old
-      (λ y _. same seen 0 (λ o t. omega (arith, y ∙ ap (λ (w : Bool). cond w no_head (last / 2 ^ (32 - m))) t))
-      (λ o _. omega (arith, c.same y)))
-      (λ y _. omega (arith, c.more y)) in
+      let old = last_head m last in
       rw (tail_step bs n i j e h) (record {
         count = same v old
             (λ z _. c.same z ∙ s.count ∙ sym (count_same P m x xs list p (sym ev ∙ z ∙ s.first)))
             (λ z _. c.more z ∙ add-one seen ∙ ap suc s.count
             ∙ sym (count_new P m x xs list p (λ y. z (ev ∙ y ∙ sym s.first))));
-        first = rw (ne_eqb r 0 some) (ev ∙ sym (count_first P m x xs list p));
+        first = ev ∙ sym (count_first P m x xs list p);
       })
 
-pub counts_low : (P : ℕ → Bool) (m n i : ℕ) (bs : List ℕ) (seen last : ℕ)
+pub counts_low : (P : ℕ → Bool) (m n i : ℕ) (bs : List ℕ) (seen : ℕ) (last : Option ℕ)
     → Counts P m (prefixes (candidates_from bs (n - i) i)) seen last → seen ≤ n - i
 counts_low P m n i bs seen last s =
     let cs = candidates_from bs (n - i) i in
     omega (arith, s.count, distinct-length P m (prefixes cs), prefixes-length cs, records-length bs (n - i) i)
 
-pub counts_end : (P : ℕ → Bool) (m n i : ℕ) (bs : List ℕ) (seen last : ℕ) → i ≤ 0 → IsList 32 (candidates_from bs n 0)
+pub counts_end : (P : ℕ → Bool) (m n i : ℕ) (bs : List ℕ) (seen : ℕ) (last : Option ℕ) → i ≤ 0
+    → IsList 32 (candidates_from bs n 0)
     → Counts P m (prefixes (candidates_from bs (n - i) i)) seen last
     → seen ≡ distinct (picks P m (winners (candidates_from bs n 0)))
 counts_end P m n i bs seen last h l s =
@@ -132,6 +101,3 @@ unfolding need_to
 arrays_more rs sum k j c l e s q =
     let z : j ≡ suc k = omega arith in
     rw (z, heads-picks (8 * suc k) rs (wfs 32 rs l.routes), e) (ap (λ (n : ℕ). need_to 32 k rs + n) (rw z at q))
-
-pub arrays_all : (rs : List Route) (sum k : ℕ) → sum ≡ need_to 32 k rs → k ≤ 3 → 3 ≤ k → sum ≡ need 32 rs
-arrays_all rs sum k e h l = let z : k ≡ 3 = omega arith in rw z at e

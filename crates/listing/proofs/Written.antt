@@ -1,38 +1,24 @@
 -- The bytes that hold a list are exactly those of a list written out, whatever room it needs: routes as records of kind 1, or
 -- candidates as records of kind 4, of which they are the winners. Assumes nothing.
-use Rattle.std.specs.Prelude.{◌≡◌, refl, ◌⊎◌, Bool, cond, ◌||◌, drop, ltb, eqb}
-use Rattle.std.proofs.Common.{sym, ap₂, ◌∙◌, ⊎_elim, length-append, drop-cons}
-use Rattle.std.proofs.Math.Path.{ap, subst}
-use Rattle.std.proofs.Math.Logic.{inl, inr}
+use Rattle.std.specs.Prelude.{◌≡◌, refl}
+use Rattle.std.proofs.Common.{sym, ◌∙◌, ⊎_elim}
+use Rattle.std.proofs.Math.Path.{ap}
 use Rattle.std.proofs.Math.Bool.{true, false}
-use mathlib.Core.List.{List, [], ◌∷◌, ◌++◌, append_assoc}
-use Prim.Native.Nat.{ℕ, zero, suc, ◌+◌, ◌-◌, ◌*◌, ◌/◌, ◌%◌, ◌≤◌, ◌<◌}
-use native.Mathlib.Omega.{arith}
-use Rattle.std.proofs.Math.ListN.{length, get_or}
-use borrow.Author.Tests.{lt-ltb, le-ltb, eq-eqb, ne_eqb, eqb-true}
+use mathlib.Core.List.{List, [], ◌∷◌}
+use Prim.Native.Nat.{ℕ}
 use Rattle.routes.specs.Family.{v4}
 use Rattle.routes.specs.Route.{Route}
 use Rattle.routes.specs.Route as routes
-use Rattle.numbers.specs.Digits.{two, digits, two_at, four_at}
-use Rattle.numbers.specs.Number.{number_at}
-use Rattle.numbers.specs.Back.{four-digits}
-use Rattle.numbers.specs.Four.{four_at_lem}
-use Rattle.logic.specs.Cases.{bool}
-use Rattle.logic.specs.Bools.{and_to, or_true}
-use Rattle.logic.specs.Every.{all_b}
-use Rattle.logic.specs.Reflects.{all_to_lem, all_from}
-use Rattle.laws.specs.Encoded.{byte}
 use Rattle.candidates.specs.Keyed.{Every}
-use Rattle.candidates.specs.Candidate.{Candidate, key, IsCandidate, IsList}
+use Rattle.candidates.specs.Candidate.{Candidate, IsList}
 use Rattle.candidates.specs.Winners.{winners}
-use Rattle.candidates.specs.Bytes.{Sent, announces, announces_for, sent_bytes, all_bytes, announced, written, plainly}
+use Rattle.candidates.specs.Bytes.{written}
 use Rattle.candidates.specs.Bytes.{written_plainly}
 use Rattle.rivals.specs.Won.{winners_list}
-use Rattle.encoded.specs.Encoded.{sent_back, size_back}
-use Rattle.listing.specs.Listed.{fours, kind_of, size_of, begin, records_in, candidate_of, candidate_at, candidates_from}
-use Rattle.listing.specs.Listed.{candidates_in, list_of, candidate_b, record_b, whole_b, unlisted, listed, listed_in}
-use Rattle.listing.specs.Records.{Bytes, whole_list, two_low, record_is, record_next, records_end}
-use Rattle.listing.specs.Plain.{OfKind, routes_of, plain, plain-kind, plain-routes, plain_list, winners-plain}
+use Rattle.listing.specs.Listed.{fours}
+use Rattle.listing.specs.Listed.{candidates_in, listed, listed_in}
+use Rattle.listing.specs.Records.{Bytes, whole_list}
+use Rattle.listing.specs.Plain.{OfKind, plain, plain-kind, plain-routes, plain_list, winners-plain}
 use Rattle.listing.specs.Written.{Ranked, WrittenOut, written_as, as_fours, as_ones, listed_as, listed_list, listed_whole}
 use Rattle.listing.specs.Written.{out_bytes}
 

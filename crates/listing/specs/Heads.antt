@@ -2,7 +2,7 @@
 -- They rise with the candidates, so equal ones are neighbours, and a comparison with the one before counts the different ones.
 -- Assumes nothing.
 use Rattle.std.specs.Prelude.{◌≡◌, ◌≢◌, Bool, true, false, cond, ◌&&◌, ◌||◌, List, [], ◌∷◌, ℕ, suc, ◌+◌, ◌-◌, ◌/◌, ◌^◌, ◌≤◌, ◌<◌}
-use Rattle.std.specs.Prelude.{length, ltb, leb, eqb}
+use Rattle.std.specs.Prelude.{length, ltb, leb, eqb, Option, Some, None}
 use Rattle.std.proofs.Math.Path.{refl}
 use Rattle.std.proofs.Common.{sym, ap, ◌∙◌, le_trans, arith, le-leb, eq-eqb, ne_eqb}
 use Rattle.std.proofs.Math.Pow.{shr_mono}
@@ -34,9 +34,10 @@ between from to l = leb from l && leb l to
 abbrev pub no_head : ℕ
 no_head = 4294967296
 
--- the head of the address met last, where one was counted
-abbrev pub last_head : ℕ → ℕ → ℕ → ℕ
-last_head m seen last = cond (eqb seen 0) no_head (last / 2 ^ (32 - m))
+-- the head of the address met last, where one was met
+abbrev pub last_head : ℕ → Option ℕ → ℕ
+last_head m None = no_head
+last_head m (Some last) = last / 2 ^ (32 - m)
 
 -- one more, unless v is the one before
 pub record Counted (seen v last r : ℕ) : Type 0 where

@@ -1,4 +1,6 @@
 pub mod Listed
+pub mod Record
+pub mod One
 pub mod Heads
 pub mod Records
 pub mod Winning

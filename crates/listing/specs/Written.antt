@@ -1,7 +1,7 @@
 -- The bytes that hold a list are exactly those of a list written out, whatever room it needs: routes as records of kind 1, or
 -- candidates as records of kind 4, of which they are the winners. Assumes nothing.
 use Rattle.std.specs.Prelude.{◌≡◌, refl, ◌⊎◌, Bool, cond, ◌||◌, drop, ltb, eqb}
-use Rattle.std.proofs.Common.{sym, ap₂, ◌∙◌, ⊎_elim, length-append, drop-cons}
+use Rattle.std.proofs.Common.{sym, ap₂, ◌∙◌, length-append, drop-cons}
 use Rattle.std.proofs.Math.Path.{ap, subst}
 use Rattle.std.proofs.Math.Logic.{inl, inr}
 use Rattle.std.proofs.Math.Bool.{true, false}
@@ -27,12 +27,11 @@ use Rattle.candidates.specs.Candidate.{Candidate, key, IsCandidate, IsList}
 use Rattle.candidates.specs.Winners.{winners}
 use Rattle.candidates.specs.Bytes.{Sent, announces, announces_for, sent_bytes, all_bytes, announced, written, plainly}
 use Rattle.candidates.specs.Bytes.{written_plainly}
-use Rattle.rivals.specs.Won.{winners_list}
 use Rattle.encoded.specs.Encoded.{sent_back, size_back}
 use Rattle.listing.specs.Listed.{fours, kind_of, size_of, begin, records_in, candidate_of, candidate_at, candidates_from}
 use Rattle.listing.specs.Listed.{candidates_in, list_of, candidate_b, record_b, whole_b, unlisted, listed, listed_in}
 use Rattle.listing.specs.Records.{Bytes, whole_list, two_low, record_is, record_next, records_end}
-use Rattle.listing.specs.Plain.{OfKind, routes_of, plain, plain-kind, plain-routes, plain_list, winners-plain}
+use Rattle.listing.specs.Plain.{OfKind, routes_of, winners-plain}
 
 -- candidates written out as records of kind 4, of which these routes are the winners
 pub record Ranked (bs : List ℕ) (rs : List Route) : Type 0 where

@@ -3,3 +3,4 @@ pub mod Cases
 pub mod Bools
 pub mod Reflects
 pub mod Ors
+pub mod Nonzero

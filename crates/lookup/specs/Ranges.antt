@@ -9,7 +9,7 @@ use Rattle.routes.specs.Answers.{Reply, done, refused, matched}
 use Rattle.routes.specs.Answers as reply
 use Rattle.numbers.specs.Front.{byte_of}
 use Rattle.words.specs.Words.{arrays_of, array_count, bests_of, blocks_of}
-use Rattle.lookup.specs.Walk.{hop_of, deeper, walk_from, walk}
+use Rattle.lookup.specs.Walk.{hop_of, deeper, walk_from}
 
 -- at most W bits
 abbrev pub Within : ℕ → Reply → Type 0

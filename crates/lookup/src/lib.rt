@@ -14,8 +14,10 @@ ghost use Rattle.replies.specs.Said.{said_reply};
 ghost use Rattle.lookup.specs.Walk.{hop_of, deeper, walk, walked, looked_up};
 ghost use Rattle.lookup.specs.Ended.{ended, ends_in, Walks};
 
+use address::Address;
 use replies::Reply;
 use sizes::{BEST_BOUND, HOP_BOUND};
+use std::convert::AsSlice;
 
 // No address has more bits. A block past them stands for a refusal, with the number by which it is past them: ..
 pub const MOST_BITS: u32 = 128;
@@ -24,17 +26,17 @@ const MISFIT: u32 = 129;
 // .. and 2 for a value out of its range.
 const ASTRAY: u32 = 130;
 
-// Where a walk has ended: the last best on the way, with its whole length, and the block. Two plain numbers and not a `Reply`,
-// whose cases a caller would have to tell apart by a branch that goes either way.
-#[derive(Clone, Copy)]
+// Where a walk has ended: the last best on the way, with its whole length, and the block.
+// kept: speed. Two plain numbers and not a `Reply`, whose cases a caller tells apart by a branch that goes either way
+#[derive(Clone, Copy, Debug, PartialEq, Eq)]
 pub struct End {
     pub best: u32,
     pub block: u32,
 }
 
-// The best so far, or that of a cell that has one, in an array below `base` bits: then with its whole length. No branch, which
-// would go either way and take a lookup half as long again.
-fn newer(best: u32, own: u32, base: u32) -> u32
+// The best so far, or that of a cell that has one, in an array below `base` bits: then with its whole length.
+// kept: speed. No branch, which would go either way and take a lookup half as long again
+pub fn newer(best: u32, own: u32, base: u32) -> u32
     requires { (own < best_bound) × (base ≤ 120) }
     ensures { result ≡ cond (eqb (hop_of own) 0) best (base * hop_bound + own) }
 {
@@ -82,8 +84,7 @@ fn descend(words: &[u32], address: &[u8]) -> End
     let arrays = words::size::arrays_in(words);
     let mut a: usize = 1;
     let mut best: u32 = 0;
-    let mut k: usize = 0;
-    while k < address.len() {
+    for k in 0..address.len() {
         let i = address::byte_at(address, k);
         let word = words::part::cell(words, a, i);
         let base = 8 * k as u32;
@@ -100,35 +101,38 @@ fn descend(words: &[u32], address: &[u8]) -> End
         }
         best = newer(best, own, base);
         a = next;
-        k += 1;
     }
     astray()
 }
 
 // What the end of a walk stands for.
-fn told(end: End) -> Reply
-    ensures { said_reply result ≡ ended end }
-{
-    let block = end.block;
-    if block > MOST_BITS {
-        return Reply::Refused(block - MOST_BITS);
+impl From<End> for Reply {
+    ghost from_gives = { λ e r. said_reply r ≡ ended e };
+
+    fn from(end: End) -> Reply {
+        let block = end.block;
+        if block > MOST_BITS {
+            return Reply::Refused(block - MOST_BITS);
+        }
+        let hop = end.best % HOP_BOUND;
+        if hop == 0 {
+            return Reply::Nothing(block);
+        }
+        Reply::Found(hop, end.best / HOP_BOUND, block)
     }
-    let hop = end.best % HOP_BOUND;
-    if hop == 0 {
-        return Reply::Nothing(block);
-    }
-    Reply::Found(hop, end.best / HOP_BOUND, block)
 }
 
 // The longest match of an address in words of a right number, and its block: a run's, whose start has tested them.
+#[tactic(auto, using(crate::proofs::Laws::walk_seen))]
 pub fn lookup_on(words: &[u32], address: &[u8]) -> Reply
     requires { Fits (size words.now) × (1 ≤ size address.now) × (size address.now ≤ 16) }
     ensures { said_reply result ≡ looked_up (size address.now) words.now (number address.now) }
 {
-    told(descend(words, address))
+    descend(words, address).into()
 }
 
 // Where the walk of an address ends, in any words.
+#[tactic(auto, using(crate::proofs::Laws::walk_seen))]
 pub fn walk_along(words: &[u32], address: &[u8]) -> End
     requires { (1 ≤ size address.now) × (size address.now ≤ 16) }
     ensures result_value { ended result ≡ looked_up (size address.now) words.now (number address.now) }
@@ -144,37 +148,21 @@ pub fn walk_along(words: &[u32], address: &[u8]) -> End
     descend(words, address)
 }
 
-// The same of an IPv4 address, which lends its four bytes.
-pub fn walk_of(words: &[u32], address: u32) -> End
-    ensures result_value { ended result ≡ lookup_on 32 (seen 4 words.now) (walk 4 words.now address) address }
-    ensures any_words { ended result ≡ walked 4 words.now address }
+// The same of an address by value, which lends its bytes.
+pub fn walk_of<A: Address>(words: &[u32], address: A) -> End
+    ensures result_value { ended result ≡ lookup_on (8 * A.levels) (seen A.levels words.now)
+        (walk A.levels words.now (A.value address)) (A.value address) }
+    ensures any_words { ended result ≡ walked A.levels words.now (A.value address) }
 {
-    let bytes = address::four_of(address);
-    walk_along(words, &bytes[..])
+    let bytes = address.bytes();
+    walk_along(words, bytes.as_slice())
 }
 
-// The same of an IPv6 address, sixteen bytes by value: level k reads byte k of it.
-pub fn walk_v6(words: &[u32], address: [u8; 16]) -> End
-    ensures result_value { ended result ≡ lookup_on 128 (seen 16 words.now) (walk 16 words.now (number address))
-        (number address) }
-    ensures any_words { ended result ≡ walked 16 words.now (number address) }
+// The longest match of an address by value, and its block.
+pub fn lookup<A: Address>(words: &[u32], address: A) -> Reply
+    ensures result_value { said_reply result ≡ lookup_on (8 * A.levels) (seen A.levels words.now)
+        (walk A.levels words.now (A.value address)) (A.value address) }
+    ensures any_words { said_reply result ≡ walked A.levels words.now (A.value address) }
 {
-    walk_along(words, &address[..])
-}
-
-// The longest match of an IPv4 address, and its block.
-pub fn lookup(words: &[u32], address: u32) -> Reply
-    ensures result_value { said_reply result ≡ lookup_on 32 (seen 4 words.now) (walk 4 words.now address) address }
-    ensures any_words { said_reply result ≡ walked 4 words.now address }
-{
-    told(walk_of(words, address))
-}
-
-// Of an IPv6 address.
-pub fn lookup_v6(words: &[u32], address: [u8; 16]) -> Reply
-    ensures result_value { said_reply result ≡ lookup_on 128 (seen 16 words.now) (walk 16 words.now (number address))
-        (number address) }
-    ensures any_words { said_reply result ≡ walked 16 words.now (number address) }
-{
-    told(walk_v6(words, address))
+    walk_of(words, address).into()
 }

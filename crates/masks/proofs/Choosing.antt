@@ -2,12 +2,11 @@
 use mathlib.Core.Path.{◌≡◌, refl, ap, ◌∙◌}
 use mathlib.Core.Bool.{Bool, true, false, cond, ◌&&◌}
 use mathlib.Core.List.{List}
-use Prim.Native.Nat.{ℕ, ◌+◌, ◌*◌, ◌%◌, ◌^◌, ◌≤◌, ◌<◌}
+use Prim.Native.Nat.{ℕ, ◌+◌, ◌≤◌, ◌<◌}
 use native.Mathlib.Numerals.{add-one}
 use native.Mathlib.Omega.{arith}
 use lib.Dec.{ltb}
-use lib.Count.{ones, ones-le}
-use lib.Pow.{pow_pos}
+use lib.Count.{ones}
 use borrow.Author.Tests.{lt-ltb, le-ltb}
 use Rattle.sizes.specs.Sizes.{slot_end}
 use Rattle.masks.specs.Mask.{free_b, pick, mask_of, chosen}
@@ -15,7 +14,6 @@ use Rattle.masks.specs.On.{fits}
 use Rattle.masks.specs.Top.{top}
 use Rattle.masks.specs.Entry.{mapped, entry}
 use Rattle.masks.specs.Sieve.{held_in}
-use Rattle.masks.proofs.Prefixes.{byte_power}
 
 -- ---- the mask
 
@@ -47,16 +45,6 @@ last_pick held m b p e = p ∙ ap (pick (free_b held)) e
 
 pub picked_all : (held : ℕ → Bool) (m b : ℕ) → b ≡ pick (free_b held) m → m ≤ 255 → 255 ≤ m → (b ≡ mask_of held) × (b < 256)
 picked_all held m b p h l = let e = last_pick held m b p (omega arith) in (e, rw e (chosen held).fit)
-
--- ---- the entries
-
-pub sized : (m : ℕ) → m < 256
-    → ((1 * 2 ^ ones m) % 18446744073709551616 ≡ 2 ^ ones m)
-    × (1 ≤ (1 * 2 ^ ones m) % 18446744073709551616)
-    × ((1 * 2 ^ ones m) % 18446744073709551616 ≤ 256)
-sized m h =
-    let p = byte_power (ones m) (ones-le 8 m h) in
-    (omega arith, omega (arith, pow_pos (ones m)), omega arith)
 
 -- ---- the entry
 

@@ -2,17 +2,10 @@
 -- are prefixes of the array. Assumes nothing.
 --
 --     0110xxxx, 01111000, 11001101      free: all masks with bit 4 and one of the bits 7 and 5      chosen: 00110000
-use Rattle.std.specs.Prelude.{◌≡◌, refl, ◌⊎◌, Bool, true, false, cond, not, ◌&&◌, ◌||◌, ℕ, zero, suc, ◌≤◌, ◌<◌, ltb}
-use Rattle.std.proofs.Common.{sym, ap, ◌∙◌, inl, inr, ⊎_elim, true≢false, arith, ltb-true}
-use Rattle.std.proofs.lemmas.Bool.{false≢true}
-use Rattle.std.specs.Int.Count.{ones, ones-ones}
-use Rattle.std.proofs.lemmas.Nat.{ones-le}
-use Rattle.logic.specs.Cases.{bool, same, less}
-use Rattle.logic.specs.Every.{all_b}
-use Rattle.logic.specs.Reflects.{Reflects, all_to_lem, all_from}
+use Rattle.std.specs.Prelude.{◌≡◌, Bool, ℕ, ◌<◌}
+use Rattle.std.proofs.Common.{sym, ◌∙◌, arith}
 use Rattle.sizes.specs.Sizes.{slot_end}
-use Rattle.masks.specs.Prefix.{apart, apart-full}
-use Rattle.masks.specs.Mask.{Free, mask_of, Chosen, one, chosen, chosen_one}
+use Rattle.masks.specs.Mask.{Free, mask_of, Chosen, chosen, chosen_one}
 
 -- two arrays that hold the same have one mask
 pub mask_same : (f g : ℕ → Bool) → ((s : ℕ) → s < slot_end → f s ≡ g s) → mask_of f ≡ mask_of g

@@ -3,12 +3,8 @@ use mathlib.Core.Path.{◌≡◌}
 use Prim.Native.Nat.{ℕ, ◌-◌, ◌*◌, ◌%◌, ◌^◌, ◌≤◌, ◌<◌}
 use native.Mathlib.Omega.{arith}
 use lib.Count.{count_leading_zeros}
-use lib.Pow.{pow_pos, pow_mono}
 use Rattle.sizes.specs.Sizes.{slot_end}
-use Rattle.masks.specs.Prefix.{spare, value, reach, slot}
-
-pub byte_power : (e : ℕ) → e ≤ 8 → 2 ^ e ≤ 256
-byte_power e h = pow_mono {i = e} {j = 8} h
+use Rattle.masks.specs.Prefix.{spare, value, slot}
 
 module _ (s : ℕ) (h : 1 ≤ s) (l : s < slot_end) where
   pub spare_least : 23 ≤ count_leading_zeros 32 s
@@ -23,10 +19,3 @@ module _ (s : ℕ) (h : 1 ≤ s) (l : s < slot_end) where
 
     pub value_is : ((s * 2 ^ e) % 4294967296 - 256 ≡ value s) × ((s * 2 ^ e) % 4294967296 - 256 < 256)
     value_is = let p = slot s h l in rw q (omega (arith, p.low, p.high), omega (arith, p.low, p.high))
-
-pub reach_least : (e : ℕ) → e ≤ 8 → (1 * 2 ^ e) % 4294967296 ≤ 256
-reach_least e h = omega (arith, byte_power e h)
-
-pub reach_is : (s e : ℕ) → e ≤ 8 → e ≡ spare s
-    → (256 - (1 * 2 ^ e) % 4294967296 ≡ reach s) × (256 - (1 * 2 ^ e) % 4294967296 < 256)
-reach_is s e h q = rw (← q) (omega (arith, byte_power e h), omega (arith, byte_power e h, pow_pos e))

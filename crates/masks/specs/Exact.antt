@@ -8,13 +8,12 @@ use Rattle.std.proofs.Common.{sym, ap, ◌∙◌, mul_assoc, mul-le-mul_left, mu
 use Rattle.std.proofs.Math.Nat.{pow-succ'}
 use Rattle.std.specs.Int.Bits.{bit_and, bit_xor, differ}
 use Rattle.std.proofs.lemmas.Nat.{xor_lt, and_le_l, and_le_r}
-use Rattle.std.specs.Int.Count.{ones}
 use Rattle.logic.specs.Cases.{same, less, most}
 use Rattle.logic.specs.Bools.{and_to, and_from}
 use Rattle.sizes.specs.Sizes.{slot_end}
 use Rattle.masks.specs.Bits.{bit, bit_lt, and_bit, xor_bit, differ_to, zero_bit, no_bits, same_bits, inside_from, high_bit}
 use Rattle.masks.specs.Prefix.{spare, value, reach, parted, added, has, slot, parted_lt, added_lt}
-use Rattle.masks.specs.Mask.{Free, mask_of, chosen}
+use Rattle.masks.specs.Mask.{Free}
 use Rattle.masks.specs.Index.{index, index_from, index_to}
 use Rattle.masks.specs.On.{On, has_on}
 use Rattle.masks.specs.Top.{top_ge, top_is}

@@ -1,34 +1,30 @@
 // The prefix of an index.
-ghost use Rattle.std.specs.Prelude.{◌≡◌, ◌<◌, ◌≤◌, length};
+ghost use Rattle.std.specs.Prelude.{◌≡◌, ◌<◌};
+ghost use Rattle.logic.specs.Nonzero.{nonzero};
 ghost use Rattle.sizes.specs.Sizes.{slot_end};
 ghost use Rattle.masks.specs.On.{fits as fits_by};
 ghost use Rattle.masks.specs.Entry.{entry as entry_of};
 ghost use Rattle.masks.specs.Sieve.{held_in};
 
-use super::prefix::{reach, value};
+use super::prefix::Prefix;
 use sizes::SLOT_END;
 
-// A byte may have the prefix of slot s, as far as a mask tells.
-fn fits(m: u32, y: u32, s: usize) -> bool
-    requires { (1 ≤ s) × (s < slot_end) }
-    ensures { result ≡ fits_by m y s }
+// A byte may have a prefix, as far as a mask tells.
+fn fits(m: u32, y: u32, prefix: Prefix) -> bool
+    ensures { result ≡ fits_by m y prefix.slot }
 {
-    (value(s) ^ y) & (m & reach(s)) == 0
+    (prefix.value() ^ y) & (m & prefix.reach()) == 0
 }
 
-// The longest prefix that a byte may have, as far as a mask tells: its slot, 0 where there is none.
-pub fn entry(held: &[u32], m: u32, y: u32) -> usize
-    requires { length held.now ≡ slot_end }
-    ensures { (result ≡ entry_of (held_in held.now) m y) × (result < slot_end) }
+// The longest prefix that a byte may have, as far as a mask tells: its slot, if there is one.
+pub fn entry(held: &[u32; SLOT_END], m: u32, y: u32) -> Option<usize>
+    ensures slot { result ≡ nonzero (entry_of (held_in held.now) m y) }
+    ensures small { entry_of (held_in held.now) m y < slot_end }
 {
-    let mut s: usize = SLOT_END;
-    while s > 1 {
-        s -= 1;
-        if held[s] != 0 {
-            if fits(m, y, s) {
-                return s;
-            }
+    for slot in (1..SLOT_END).rev() {
+        if held[slot] != 0 && fits(m, y, Prefix { slot }) {
+            return Some(slot);
         }
     }
-    0
+    None
 }

@@ -40,20 +40,14 @@ pub fn index(m: u32, y: u32) -> usize
 fn low(m: u32, v: u32) -> u32
     ensures { (result ≡ low_of m v) × (result < 2) }
 {
-    if m % 2 == 0 {
-        return 0;
-    }
-    v % 2
+    if m % 2 == 0 { 0 } else { v % 2 }
 }
 
 // What is left of v.
 fn left(m: u32, v: u32) -> u32
     ensures { result ≡ left_of m v }
 {
-    if m % 2 == 0 {
-        return v;
-    }
-    v / 2
+    if m % 2 == 0 { v } else { v / 2 }
 }
 
 // The byte that has the bits of an index at the set bits of a mask, and 0 elsewhere.
@@ -63,14 +57,10 @@ pub fn spread(mask: u32, index: u32) -> u32
     let mut m = mask;
     let mut v = index;
     let mut r: u32 = 0;
-    let mut p: u32 = 1;
-    let mut k: u32 = 8;
-    while k > 0 {
-        k -= 1;
-        r += p * low(m, v);
+    for k in 0..8u32 {
+        r += low(m, v) << k;
         v = left(m, v);
-        m = m / 2;
-        p = p * 2;
+        m /= 2;
     }
     r
 }

@@ -4,44 +4,47 @@ ghost use Rattle.sizes.specs.Sizes.{slot_end, cell_count};
 ghost use Rattle.masks.specs.Prefix.{spare as spare_of, value as value_of, reach as reachOf};
 ghost use Rattle.masks.specs.Prefix.{parted as partedBy, added as addedBy};
 
-// The bits of a byte after those of the prefix.
-pub fn spare(s: usize) -> u32
-    requires { (1 ≤ s) × (s < slot_end) }
-    ensures { (result ≡ spare_of s) × (result ≤ 8) }
-{
-    u32::leading_zeros(s as u32) - 23
+#[derive(Clone, Copy)]
+pub struct Prefix {
+    pub slot: usize,
+    ghost inside: { (1 ≤ slot) × (slot < slot_end) },
 }
 
-// Its bits, with 0 after them.
-pub fn value(s: usize) -> u32
-    requires { (1 ≤ s) × (s < slot_end) }
-    ensures { (result ≡ value_of s) × (result < cell_count) }
-{
-    let e = spare(s);
-    ((s as u32) << e) - 256
-}
+impl Prefix {
+    // The bits of a byte after those of the prefix.
+    pub fn spare(self) -> u32
+        ensures { (result ≡ spare_of self.slot) × (result ≤ 8) }
+    {
+        (self.slot as u32).leading_zeros() - 23
+    }
 
-// 1 for each bit that it has.
-pub fn reach(s: usize) -> u32
-    requires { (1 ≤ s) × (s < slot_end) }
-    ensures { (result ≡ reachOf s) × (result < cell_count) }
-{
-    let e = spare(s);
-    256 - (1 << e)
-}
+    // Its bits, with 0 after them.
+    pub fn value(self) -> u32
+        ensures { (result ≡ value_of self.slot) × (result < cell_count) }
+    {
+        let e = self.spare();
+        ((self.slot as u32) << e) - 256
+    }
 
-// The bits in which two differ, of those that both have.
-pub(crate) fn parted(s: usize, t: usize) -> u32
-    requires { (1 ≤ s) × (s < slot_end) × (1 ≤ t) × (t < slot_end) }
-    ensures { (result ≡ partedBy s t) × (result < cell_count) }
-{
-    (value(s) ^ value(t)) & (reach(s) & reach(t))
-}
+    // 1 for each bit that it has.
+    pub fn reach(self) -> u32
+        ensures { (result ≡ reachOf self.slot) × (result < cell_count) }
+    {
+        let e = self.spare();
+        256 - (1 << e)
+    }
 
-// The bits that only the longer has.
-pub(crate) fn added(s: usize, t: usize) -> u32
-    requires { (1 ≤ s) × (s < slot_end) × (1 ≤ t) × (t < slot_end) }
-    ensures { (result ≡ addedBy s t) × (result < cell_count) }
-{
-    reach(s) ^ reach(t)
+    // The bits in which two differ, of those that both have.
+    pub(crate) fn parted(self, other: Prefix) -> u32
+        ensures { (result ≡ partedBy self.slot other.slot) × (result < cell_count) }
+    {
+        (self.value() ^ other.value()) & (self.reach() & other.reach())
+    }
+
+    // The bits that only the longer has.
+    pub(crate) fn added(self, other: Prefix) -> u32
+        ensures { (result ≡ addedBy self.slot other.slot) × (result < cell_count) }
+    {
+        self.reach() ^ other.reach()
+    }
 }

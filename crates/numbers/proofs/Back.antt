@@ -1,8 +1,7 @@
 -- A number written down as n bytes and read back, wherever these stand. Assumes nothing.
-use Rattle.std.specs.Prelude.{◌≡◌, refl, List, [], ◌∷◌, ◌++◌, ℕ, zero, suc, ◌+◌, ◌*◌, ◌/◌, ◌%◌, ◌^◌, ◌<◌, length}
-use Rattle.std.proofs.Common.{sym, ap, ◌∙◌, mod-eq_of_lt, arith, take_at, drop_at}
-use Rattle.std.proofs.lemmas.Nat.{mod-pow-add}
-use Rattle.numbers.specs.Digits.{four, digits}
+use Rattle.std.specs.Prelude.{◌≡◌, List, ◌++◌, ℕ, ◌*◌, ◌^◌, ◌<◌, length}
+use Rattle.std.proofs.Common.{sym, ◌∙◌, mod-eq_of_lt, take_at, drop_at}
+use Rattle.numbers.specs.Digits.{digits}
 use Rattle.numbers.specs.Number.{AreBytes, number, number_at, number_lt}
 use Rattle.numbers.proofs.Number.{number_same}
 use Rattle.numbers.specs.Back.{digits-length, digits-bytes, rest}

@@ -1,9 +1,9 @@
 -- A number written down as n bytes and read back, wherever these stand. Assumes nothing.
-use Rattle.std.specs.Prelude.{◌≡◌, refl, List, [], ◌∷◌, ◌++◌, ℕ, zero, suc, ◌+◌, ◌*◌, ◌/◌, ◌%◌, ◌^◌, ◌<◌, length}
-use Rattle.std.proofs.Common.{sym, ap, ◌∙◌, mod-eq_of_lt, arith, take_at, drop_at}
+use Rattle.std.specs.Prelude.{◌≡◌, refl, [], ◌∷◌, ℕ, zero, suc, ◌+◌, ◌*◌, ◌/◌, ◌%◌, ◌^◌, length}
+use Rattle.std.proofs.Common.{sym, ap, ◌∙◌, arith}
 use Rattle.std.proofs.lemmas.Nat.{mod-pow-add}
 use Rattle.numbers.specs.Digits.{four, digits}
-use Rattle.numbers.specs.Number.{AreBytes, number, number_at, number_lt}
+use Rattle.numbers.specs.Number.{AreBytes, number}
 
 pub digits-length : (n a : ℕ) → length (digits n a) ≡ n
 unfolding digits

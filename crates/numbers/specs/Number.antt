@@ -1,14 +1,12 @@
 -- The number that bytes write down, the high one first, for any number of bytes. Assumes nothing.
 --
 --     10.1.4.0      number = 10 * 2 ^ 24 + 1 * 2 ^ 16 + 4 * 2 ^ 8 + 0
-use Rattle.std.specs.Prelude.{◌≡◌, List, [], ◌∷◌, ◌++◌, ℕ, suc, ◌+◌, ◌-◌, ◌*◌, ◌/◌, ◌%◌, ◌^◌, ◌≤◌, ◌<◌, length, get_or, take}
+use Rattle.std.specs.Prelude.{◌≡◌, List, [], ◌∷◌, ◌++◌, ℕ, suc, ◌+◌, ◌*◌, ◌^◌, ◌≤◌, ◌<◌, length, get_or, take}
 use Rattle.std.specs.Prelude.{drop}
-use Rattle.std.proofs.Common.{sym, ap, ap₂, ◌∙◌, arith, add-mul, mul_assoc, add_assoc, zero-mul, one-mul, mul-le-mul_right}
-use Rattle.std.proofs.Common.{add-one, length-append, length-drop, take-append-drop, drop_of_length-le, take-suc, drop-cons}
-use Rattle.std.proofs.Common.{get_or-drop, ext_get_or, pow-add, pow_pos}
-use Rattle.std.proofs.Math.Pow.{high, low}
+use Rattle.std.proofs.Common.{sym, ap, ◌∙◌, arith, add-mul, mul_assoc, add_assoc, zero-mul, one-mul, mul-le-mul_right}
+use Rattle.std.proofs.Common.{add-one, length-append, drop_of_length-le, drop-cons}
+use Rattle.std.proofs.Common.{pow-add, pow_pos}
 use Rattle.std.proofs.Math.Arith.{digits_lt}
-use Rattle.numbers.specs.Front.{front, byte_of}
 
 abbrev pub AreBytes : List ℕ → Type 0
 AreBytes bs = (i : ℕ) → get_or bs i 0 < 256

@@ -11,22 +11,23 @@ pub fn two_at(bytes: &[u8], at: usize) -> u32
     requires { at + 2 ≤ length bytes.now }
     ensures { (result ≡ two_at bytes.now at) × (result < 65536) }
 {
-    bytes[at] as u32 * 256 + bytes[at + 1] as u32
+    u32::from(u16::from_be_bytes(bytes[at..at + 2].try_into().unwrap()))
 }
 
 pub fn four_at(bytes: &[u8], at: usize) -> u32
     requires { at + 4 ≤ length bytes.now }
     ensures { result ≡ four_at bytes.now at }
 {
-    two_at(bytes, at) * 65536 + two_at(bytes, at + 2)
+    u32::from_be_bytes(bytes[at..at + 4].try_into().unwrap())
 }
 
 pub fn put_two(bytes: &mut [u8], at: usize, n: u32)
     requires { at + 2 ≤ length bytes.old }
     ensures { bytes.new ≡ sets bytes.old at (two n) }
 {
-    bytes[at] = (n / 256 % 256) as u8;
-    bytes[at + 1] = (n % 256) as u8;
+    let [_, _, high, low] = n.to_be_bytes();
+    bytes[at] = high;
+    bytes[at + 1] = low;
 }
 
 // 2 to the height n.

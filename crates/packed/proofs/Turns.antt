@@ -10,19 +10,16 @@ use lib.ListN.{length, get_or}
 use borrow.Author.Tests.{lt-ltb, le-ltb, eq-eqb, ne_eqb}
 use Rattle.logic.specs.Cases.{same}
 use Rattle.sizes.specs.Sizes.{slot_end, last_slot, cell_slots, cell_count, hop_bound, best_bound}
-use Rattle.routes.specs.Match.{Match, none, found}
+use Rattle.routes.specs.Match.{Match, none}
 use Rattle.routes.specs.Seen.{Answer, gives, refuses}
 use Rattle.masks.specs.Prefix.{spare}
 use Rattle.masks.specs.Index.{index}
 use Rattle.lookup.specs.Walk.{hop_of, deeper}
 use Rattle.packed.specs.Over.{has_shift}
+use Rattle.packed.specs.Ended.{astray}
 use Rattle.packed.specs.Layout.{entry_words, full_mask, gets, outside, turn, walk_from}
-use Rattle.packed.specs.Ended.{astray, ended}
 
 -- ---- an entry's test
-
-pub gets_none : (y s : ℕ) → s ≡ 0 → false ≡ gets y s
-gets_none y s e = rw (eq-eqb s 0 e)
 
 pub gets_some : (y s e : ℕ) → y < cell_count → s < slot_end → s ≢ 0 → e ≡ spare s → eqb ((cell_slots + y) / 2 ^ e) s ≡ gets y s
 gets_some y s e h l n q = rw (q, ne_eqb s 0 n, has_shift y s h (omega arith) l)
@@ -39,6 +36,13 @@ module _ (best own base r : ℕ) (e : r ≡ cond (eqb (hop_of own) 0) best (base
       let h : (base * hop_bound + own) % hop_bound ≡ own % hop_bound = omega arith in
       let l : 0 + (base * hop_bound + own) / hop_bound ≡ base + own / hop_bound = omega arith in
       rw (s, h, l, t))
+
+  -- it is one of an address
+  pub newer_low : best < astray → own < best_bound → base ≤ 24 → r < astray
+  newer_low b o l =
+      same (hop_of own) 0
+      (λ q t. let s : r ≡ best = rw t at e in omega arith)
+      (λ q t. let s : r ≡ base * hop_bound + own = rw t at e in omega arith)
 
 -- ---- a turn
 
@@ -86,8 +90,8 @@ module _ (ws : List ℕ) (x l o m : ℕ) (f : Match) (some : 1 ≤ l) (high : l 
             (rw (le-ltb last_slot (get_or ws w 0) slot, g))
 
         module _ (g : gets y (get_or ws w 0) ≡ true) where
-          pub turn-best : best_bound ≤ get_or ws (w + 1) 0 → refuses 2 ≡ all
-          turn-best h =
+          pub turn_best : best_bound ≤ get_or ws (w + 1) 0 → refuses 2 ≡ all
+          turn_best h =
               rw (opened ws x l o m f some high, le-ltb full_mask m fit, ← at, le-ltb (length ws) (w + entry_words) room)
               (rw (le-ltb last_slot (get_or ws w 0) slot, g, lt-ltb 8 (get_or ws (w + 1) 0 / hop_bound) (omega arith)))
 
@@ -113,18 +117,5 @@ pub turn_end : (ws : List ℕ) (x l o m : ℕ) (f : Match) → l ≡ 0 → refus
 unfolding walk_from
 turn_end ws x l o m f z = rw z
 
--- ---- what an end stands for
-
-pub is_best : (e : ℕ) → e < astray → ended e ≡ gives (deeper 0 none e)
-is_best e h = rw (lt-ltb e astray h)
-
-pub told-astray : (e : ℕ) → astray ≤ e → refuses 2 ≡ ended e
-told-astray e h = rw (le-ltb e astray h)
-
-pub told_none : (e : ℕ) → e < astray → e % hop_bound ≡ 0 → gives none ≡ ended e
-told_none e h z = rw (lt-ltb e astray h, eq-eqb (e % hop_bound) 0 z)
-
-pub told_some : (e : ℕ) → e < astray → e % hop_bound ≢ 0 → gives (found (e % hop_bound) (e / hop_bound)) ≡ ended e
-told_some e h n =
-    let l : 0 + e / hop_bound ≡ e / hop_bound = omega arith in
-    rw (lt-ltb e astray h, ne_eqb (e % hop_bound) 0 n, l)
+-- what a turn of the walk asks
+pub ruleset turns = (newer_low, turn_mask, turn_room, turn_slot, turn_not, turn_best, turn_end)

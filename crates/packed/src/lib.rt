@@ -1,27 +1,29 @@
 // Looking an address up in a table compressed by masks: the layout's walk, an entry of four words a level.
 #![tactic(auto)]
 
-ghost use Rattle.std.specs.Prelude.{◌≡◌, cond, ◌+◌, ◌*◌, ◌<◌, ◌≤◌, eqb};
-ghost use Rattle.sizes.specs.Sizes.{slot_end, cell_count, hop_bound, best_bound};
+ghost use Rattle.std.specs.Prelude.{◌≡◌, ◌<◌, IfOk};
+ghost use Rattle.sizes.specs.Sizes.{slot_end, cell_count};
 ghost use Rattle.replies.specs.Said.{said_match};
-ghost use Rattle.lookup.specs.Walk.{hop_of};
+ghost use Rattle.routes.specs.Match.{none};
+ghost use Rattle.lookup.specs.Walk.{deeper};
 ghost use Rattle.packed.specs.Layout.{gets as getsOf, walk};
-ghost use Rattle.packed.specs.Ended.{astray, ended};
+ghost use Rattle.packed.specs.Ended.{astray, ended, told};
 
+use lookup::newer;
 use masks::FULL_MASK;
 use masks::index::index;
-use masks::prefix::spare;
-use replies::Match;
+use masks::prefix::Prefix;
+use refusals::Refusal;
+use replies::Best;
 use sizes::{BEST_BOUND, HOP_BOUND, LAST_SLOT};
 
 // The words before the first array.
 pub const HEADER_WORDS: usize = 1024;
 // The words of an entry.
 pub const ENTRY_WORDS: usize = 4;
-// A walk that met a number out of its range: one past the bests of an address, whose lengths are at most 32.
-const ASTRAY: u32 = 2162688;
 
 // A byte has the prefix of an entry's slot: then that slot stands over the byte's own.
+#[tactic(auto, using(crate::proofs::Turns::gets_some))]
 fn gets(y: u32, s: usize) -> bool
     requires { (y < cell_count) × (s < slot_end) }
     ensures { result ≡ getsOf y s }
@@ -29,79 +31,68 @@ fn gets(y: u32, s: usize) -> bool
     if s == 0 {
         return false;
     }
-    (256 + y) >> spare(s) == s as u32
-}
-
-// The best so far, or that of an entry that has one, in an array below `base` bits: then with its whole length.
-fn newer(best: u32, own: u32, base: u32) -> u32
-    requires { (best < astray) × (own < best_bound) × (base ≤ 24) }
-    ensures { (result ≡ cond (eqb (hop_of own) 0) best (base * hop_bound + own)) × (result < astray) }
-{
-    if own % HOP_BOUND == 0 {
-        best
-    } else {
-        base * HOP_BOUND + own
-    }
+    (256 + y) >> Prefix { slot: s }.spare() == s as u32
 }
 
 // The walk down the arrays, on any words: the last best on the way, with its whole length.
-fn descend(words: &[u32], address: u32) -> u32
-    ensures { ended result ≡ walk 4 words.now address }
+// kept: speed. The best is one number, 0 for none, so that `newer` needs no branch, which took half as long again in `lookup`
+#[tactic(auto, using(crate::proofs::Turns::turns))]
+fn descend(words: &[u32], address: u32) -> Result<u32, Refusal>
+    ensures end { ended result ≡ walk 4 words.now address }
+    ensures low { IfOk result (λ best. best < astray) }
 {
     let n = words.len();
     let mut o: usize = HEADER_WORDS;
     let mut m: u32 = FULL_MASK;
     let mut best: u32 = 0;
-    let mut left: u32 = 4;
-    while left > 0 {
-        left -= 1;
+    for left in (0..4).rev() {
         if m > FULL_MASK {
-            return ASTRAY;
+            return Err(Refusal::Foreign);
         }
         let y = (address >> (8 * left)) % 256;
         let at = o + ENTRY_WORDS * index(m, y);
         if n < at + ENTRY_WORDS {
-            return ASTRAY;
+            return Err(Refusal::Foreign);
         }
         let s = words[at] as usize;
         if s > LAST_SLOT {
-            return ASTRAY;
+            return Err(Refusal::Foreign);
         }
         if !gets(y, s) {
-            return best;
+            return Ok(best);
         }
         let own = words[at + 1];
         if own >= BEST_BOUND {
-            return ASTRAY;
+            return Err(Refusal::Foreign);
         }
         best = newer(best, own, 24 - 8 * left);
         o = words[at + 2] as usize;
         if o == 0 {
-            return best;
+            return Ok(best);
         }
         m = words[at + 3];
     }
-    ASTRAY
+    Err(Refusal::Foreign)
 }
 
-// What the end of a walk stands for.
-fn told(end: u32) -> Match
-    ensures { said_match result ≡ ended end }
+// What the last best of a walk stands for.
+fn told(best: u32) -> Option<Best>
+    ensures { told result ≡ deeper 0 none best }
 {
-    if end >= ASTRAY {
-        return Match::Refused(2);
-    }
-    let hop = end % HOP_BOUND;
+    let hop = best % HOP_BOUND;
     if hop == 0 {
-        return Match::Nothing;
+        return None;
     }
-    Match::Found(hop, end / HOP_BOUND)
+    Some(Best {
+        hop,
+        length: best / HOP_BOUND,
+    })
 }
 
 // The longest match of an address: on any words what the layout's walk gives. That on a table laid out this is the table's own is
 // a law (`walk-longest`).
-pub fn lookup(words: &[u32], address: u32) -> Match
+pub fn lookup(words: &[u32], address: u32) -> Result<Option<Best>, Refusal>
     ensures { said_match result ≡ walk 4 words.now address }
 {
-    told(descend(words, address))
+    Ok(told(descend(words, address)?))
 }

@@ -71,6 +71,13 @@ module _ (ws : List ℕ) (w s best place mask : ℕ) where
       ∙ get_or-set_other one (w + 1) i best 0 (far 1 (omega arith))
       ∙ get_or-set_other ws w i s 0 (λ e. far 0 (omega arith) (omega arith))
 
+-- ---- the entry of a slot
+
+-- the slot, its cover, and the place and the mask of the array below it
+abbrev pub put_held : List ℕ → List ℕ → List ℕ → ℕ → ℕ → List ℕ
+put_held page map ws w s =
+    put_to ws w s (own_of page s) (place_in map (below_of (links page) s)) (mask_in map (below_of (links page) s))
+
 -- ---- the entries of indices below k, from word o on
 
 module _ (page map : List ℕ) (m : ℕ) where

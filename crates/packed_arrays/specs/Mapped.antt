@@ -4,11 +4,12 @@
 --     mask      255        12         0                      255      256 * 256 + 12      260 * 256
 --     before    0          256        260
 use Rattle.std.specs.Prelude.{◌≡◌, refl, cond, List, ℕ, zero, suc, ◌+◌, ◌-◌, ◌*◌, ◌/◌, ◌%◌, ◌^◌, ◌≤◌, ◌<◌, eqb, length, get_or}
-use Rattle.std.specs.Prelude.{set}
+use Rattle.std.specs.Prelude.{set, Option, Some, None}
 use Rattle.std.proofs.Common.{sym, ap, ◌∙◌, arith, length-set, get_or-set_same, get_or-set_other, pow_mono}
 use Rattle.std.specs.Int.Count.{ones}
 use Rattle.std.proofs.lemmas.Nat.{ones-le}
 use Rattle.logic.specs.Cases.{same}
+use Rattle.logic.specs.Nonzero.{nonzero}
 use Rattle.tree.specs.Arrays.{Arrays}
 use Rattle.packed.specs.Layout.{header_words, entry_words}
 use Rattle.packed.specs.Laid.{mask_at, entries_to, entries_end, place_below, mask_below, mask_fit}
@@ -16,6 +17,14 @@ use Rattle.packed.specs.Laid.{mask_at, entries_to, entries_end, place_below, mas
 -- the words of the map: array 0 has one too
 abbrev pub map_words : ℕ
 map_words = 4097
+
+-- a number that may be none: 0 where there is none
+abbrev pub or_zero : Option ℕ → ℕ
+or_zero (Some s) = s
+or_zero None = 0
+
+pub zero_back : (o : Option ℕ) (n : ℕ) → o ≡ nonzero n → or_zero o ≡ n
+zero_back o n e = rw e (same n 0 (λ z d. rw (d, z)) (λ z d. rw d))
 
 -- what it says of array b, nothing of 0
 abbrev pub place_in : List ℕ → ℕ → ℕ

@@ -1,7 +1,7 @@
 -- What the need and the build answer, by what the words are seen to be, what a build leaves, and what the code's answers say.
 -- All is over the list that a table stands for, and by nothing of its arrays, but where the words built stand (`HasLaid`).
 -- Assumes nothing.
-use Rattle.std.specs.Prelude.{◌≡◌, cond, List, ℕ, ◌^◌, ◌≤◌, ◌<◌, ltb, length, get_or}
+use Rattle.std.specs.Prelude.{◌≡◌, cond, List, ℕ, ◌^◌, ◌≤◌, ◌<◌, ltb, length, get_or, Result, Ok, Err}
 use Rattle.routes.specs.Route.{Route}
 use Rattle.routes.specs.Match.{longest}
 use Rattle.routes.specs.Room.{need}
@@ -13,10 +13,9 @@ use Rattle.words.specs.Table.{seen}
 use Rattle.packed.specs.Layout.{header_words, walk}
 use Rattle.packed.specs.Laid.{Laid}
 use Rattle.packed_build.specs.Need.{words_for}
-use Rattle.packed_build.specs.declared.Needs.{Needs}
-use Rattle.packed_build.specs.declared.Needs.TheVariants as needs
-use Rattle.packed_build.specs.declared.Built.{Built}
-use Rattle.packed_build.specs.declared.Built.TheVariants as built
+use Rattle.refusals.specs.declared.Refusal.{Refusal}
+use Rattle.refusals.specs.Number.{number, said}
+use Rattle.packed_build.specs.declared.Counts.{Counts as Coded}
 
 abbrev pub need_on : Seen → Answer ℕ
 need_on misfit = refuses 1
@@ -69,10 +68,9 @@ pub record HasLaid (ts ws us : List ℕ) : Type 0 where
 
 -- ---- of the code
 
-abbrev pub need_answer : Needs → Answer ℕ
-need_answer (needs.Words n) = gives n
-need_answer (needs.Refused n) = refuses n
+abbrev pub need_answer : Result ℕ Refusal → Answer ℕ
+need_answer = said
 
-abbrev pub build_answer : Built → Answer Counts
-build_answer (built.Counts a n) = gives (record { arrays = a; words = n })
-build_answer (built.Refused n) = refuses n
+abbrev pub build_answer : Result Coded Refusal → Answer Counts
+build_answer (Ok c) = gives (record { arrays = c.arrays; words = c.words })
+build_answer (Err e) = refuses (number e)

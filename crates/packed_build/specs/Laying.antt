@@ -28,6 +28,12 @@ use Rattle.packed_build.specs.Answer.{need_on, build_on, Compressed, HasLaid}
 abbrev pub arrays_need : List ℕ → ℕ
 arrays_need ts = needed_for (arrays_of ts) (array_count ts)
 
+-- a table with a map that is right for its arrays, and the words that they need
+pub record Mapping (ts map : List ℕ) (n : ℕ) : Type 0 where
+  pub table : Table 4 ts
+  pub mapped : Mapped (arrays_of ts) map (array_count ts)
+  pub words : n ≡ arrays_need ts
+
 -- the table's arrays are to be laid out by a map that is right, and there are words enough
 pub record Lays (ts map ws : List ℕ) : Type 0 where
   pub table : Table 4 ts
@@ -159,3 +165,6 @@ module _ (ts map ws : List ℕ) (y : Lays ts map ws) (a : ℕ) (some : 1 ≤ a) 
 
 pub laid_same : (t : Arrays) (ws us : List ℕ) (a : ℕ) → 1 ≤ a → t.tag a ≡ 0 → LaidTo t ws us (a - 1) → LaidTo t ws us (a + 1 - 1)
 laid_same t ws us a h z l = let d : a + 1 - 1 ≡ a = omega arith in rw d (laid_free t ws us a h l z)
+
+-- what the test of the table and the need ask
+pub ruleset need_laws = (need_misfit, need_foreign, need_table, is_table)

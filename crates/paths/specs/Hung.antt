@@ -10,7 +10,7 @@ use Rattle.logic.specs.Cases.{same, tri}
 use Rattle.sizes.specs.Sizes.{least_words, most_words, cell_count, cells_at, word_at, cell_at, best_bound, level_bound}
 use Rattle.array.specs.Tag.{tag_of, parent_in, cell_in, level_in}
 use Rattle.array.specs.Cell.{best-blank}
-use Rattle.tree.specs.Arrays.{cell, lev}
+use Rattle.tree.specs.Arrays.{lev}
 use Rattle.tree.specs.Free.{Found}
 use Rattle.words.specs.Words.{arrays_of, array_count, slots_of, blocks_of, bests_of}
 use Rattle.array.specs.Right.{best-small}

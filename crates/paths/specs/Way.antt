@@ -13,7 +13,7 @@ use Rattle.sizes.specs.Sizes.{least_words, cell_count, array_at, cell_at, best_b
 use Rattle.array.specs.Cell.{best_in, link_in}
 use Rattle.array.specs.Tag.{tag_of, parent_in, cell_in, level_in}
 use Rattle.array.specs.Right.{best-small}
-use Rattle.tree.specs.Arrays.{node, cell, lev}
+use Rattle.tree.specs.Arrays.{node, lev}
 use Rattle.tree.specs.Tree.{child, node-level}
 use Rattle.words.specs.Words.{arrays_of, array_count, slots_of, bests_of}
 use Rattle.words.specs.TableBut.{Table}

@@ -2,51 +2,44 @@
 // And a front cleared.
 #![tactic(auto)]
 
-ghost use Rattle.std.specs.Prelude.{◌≡◌, [], ◌+◌, ◌*◌, ◌<◌, ◌≤◌, length};
+ghost use Rattle.std.specs.Prelude.{◌≡◌, [], ◌≤◌, length};
 ghost use Rattle.front.specs.Place.{most_places};
 ghost use Rattle.front.specs.Front.{released, spent};
 ghost use Rattle.rows.specs.Row.{front_words, row_at, mark_of};
+ghost use Rattle.rows.specs.Code.{HasRow};
 ghost use Rattle.shelf.specs.Shift.{Holds};
 ghost use Rattle.charge.specs.Calls.{Became};
 ghost use Rattle.release.specs.Settle.{firsts, settled, Stepped, Gathered, cleared_to, Settles};
 
-use rows::{MOST_PLACES, ROW_WORDS};
+use rows::{MOST_PLACES, ROW_WORDS, Row, row_at};
 
-fn let_go(x: u32, k: u32) -> u32
-    ensures { mark_of result k ≡ released (mark_of x k) }
+fn let_go(mark: u32, kept: u32) -> u32
+    ensures { mark_of result kept ≡ released (mark_of mark kept) }
 {
-    if x / 2 >= 750 {
-        return x;
+    if mark / 2 >= 750 || kept != 0 {
+        mark
+    } else {
+        mark / 2 * 2
     }
-    if k != 0 {
-        return x;
-    }
-    x / 2 * 2
 }
 
-fn is_spent(x: u32, k: u32) -> bool
-    ensures { result ≡ spent (mark_of x k) }
+fn is_spent(mark: u32, kept: u32) -> bool
+    ensures { result ≡ spent (mark_of mark kept) }
 {
-    if x / 2 != 0 {
-        return false;
-    }
-    k == 0
+    mark / 2 == 0 && kept == 0
 }
 
 // Row i goes to row j, or nowhere; the row that is next.
 fn place_row(words: &mut [u32], i: usize, j: usize) -> usize
-    requires { (length words.old ≡ front_words) × (i < most_places) × (j ≤ i) }
+    requires { HasRow words.old i × (j ≤ i) }
     ensures { Stepped words.old words.new i j result }
 {
-    let a = words[ROW_WORDS * i];
-    let w = words[ROW_WORDS * i + 1];
-    let old = words[ROW_WORDS * i + 2];
-    let k = words[ROW_WORDS * i + 3];
-    let x = let_go(old, k);
-    if is_spent(x, k) {
+    let row = row_at(words, i);
+    let mark = let_go(row.mark, row.kept);
+    if is_spent(mark, row.kept) {
         return j;
     }
-    shelf::store(words, j, a, w, x, k);
+    shelf::store(words, j, Row { mark, ..row });
     j + 1
 }
 
@@ -55,11 +48,9 @@ fn gather(words: &mut [u32], n: usize) -> usize
     requires { (length words.old ≡ front_words) × (n ≤ most_places) }
     ensures { Gathered words.old words.new n result }
 {
-    let mut i = 0;
     let mut j = 0;
-    while i < n {
+    for i in 0..n {
         j = place_row(words, i, j);
-        i += 1;
     }
     j
 }
@@ -68,11 +59,7 @@ fn clear_rows(words: &mut [u32], from: usize, to: usize)
     requires { (length words.old ≡ front_words) × (from ≤ to) × (to ≤ most_places) }
     ensures { Holds words.new (cleared_to (row_at words.old) from to) }
 {
-    let mut i = from;
-    while i < to {
-        shelf::store(words, i, 0, 0, 0, 0);
-        i += 1;
-    }
+    words[ROW_WORDS * from..ROW_WORDS * to].fill(0);
 }
 
 pub fn settle(words: &mut [u32], n: usize)

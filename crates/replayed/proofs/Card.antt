@@ -5,10 +5,10 @@
 --                                                └───── toggleash_copy_build ─▶ copy, its words on the card
 use Rattle.std.specs.Prelude.{List, ℕ}
 use Rattle.std.proofs.Common.{ap, ◌∙◌}
-use Rattle.routes.specs.Match.{Match, longest}
+use Rattle.routes.specs.Match.{longest}
 use Rattle.candidates.specs.Candidate.{Candidate}
 use Rattle.lengths.proofs.Laid.{laid_walk}
-use Rattle.answers.specs.Numbers.{needed, matched}
+use Rattle.answers.specs.Numbers.{matched}
 use Rattle.answers.specs.declared.Needed.{Needed}
 use Rattle.toggleash.specs.declared.copies.Built.{Built}
 use Rattle.answers.specs.declared.Matched.{Matched}

@@ -12,11 +12,10 @@ use Rattle.candidates.specs.Bytes.{written_plainly}
 use Rattle.candidates.specs.Runs.{run}
 use Rattle.candidates.specs.Seen.{table}
 use Rattle.words.specs.Table.{seen}
-use Rattle.shortest.specs.Shortest.{forwards}
 use Rattle.shortest.specs.Seen.{shortest4}
 use Rattle.answers.specs.declared.Ran.{Ran as Fields}
 use Rattle.replayed.specs.Taken.{plain_many, shortest-forwards}
-use Rattle.replayed.specs.Shortened.{Shortened, bytes, on_table, won, shortened_bytes}
+use Rattle.replayed.specs.Shortened.{Shortened, on_table, won, shortened_bytes}
 use Rattle.replayed.specs.Fed.{Fed, ForwardsAgain, empty, whole}
 
 module _ {A : ℕ} {cs : List Candidate} {s : Shortened A cs} (f : Fed s) where

@@ -7,7 +7,6 @@ use Rattle.std.specs.Prelude.{◌≡◌, List, [], ℕ, ◌*◌, ◌^◌, ◌≤
 use Rattle.routes.specs.Family.{v4}
 use Rattle.candidates.specs.Candidate.{Candidate}
 use Rattle.candidates.specs.Winners.{winners}
-use Rattle.candidates.specs.Runs.{run}
 use Rattle.candidates.specs.Seen.{table}
 use Rattle.words.specs.Table.{seen}
 use Rattle.shortest.specs.Shortest.{forwards}

@@ -17,7 +17,6 @@ use Rattle.shortest.proofs.Proved.{shortest_of}
 use Rattle.shortest.specs.Seen.{shortest4, bytes_for}
 use Rattle.shortest.specs.Answered.{short_given}
 use Rattle.shorten.specs.Answer.{short_in}
-use Rattle.answers.specs.Numbers.{wrote}
 use Rattle.shortener.specs.Face.{HasWritten}
 use Rattle.answers.specs.declared.Written.{Written}
 use Rattle.calls.specs.Held as tables

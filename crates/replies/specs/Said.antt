@@ -1,13 +1,14 @@
 -- What an answer says: document 01's reply for each of its cases, and that no two answers say the same. Assumes nothing.
-use Rattle.std.specs.Prelude.{◌≡◌, refl}
+use Rattle.std.specs.Prelude.{◌≡◌, refl, Option, Some, None, Result, Ok, Err}
 use Rattle.std.proofs.Common.{sym, ap, ◌∙◌}
 use Rattle.routes.specs.Match as best
 use Rattle.routes.specs.Answers.{Reply, done, found, none, refused}
 use Rattle.routes.specs.Seen.{Answer, gives, refuses}
 use Rattle.replies.specs.declared.Reply as code
 use Rattle.replies.specs.declared.Reply.TheVariants as reply
-use Rattle.replies.specs.declared.Match.{Match}
-use Rattle.replies.specs.declared.Match.TheVariants as match
+use Rattle.replies.specs.declared.Best.{Best}
+use Rattle.refusals.specs.declared.Refusal.{Refusal}
+use Rattle.refusals.specs.Number.{number, number_one}
 
 -- ---- the answer to a record
 
@@ -42,18 +43,21 @@ reply_one r s e = sym (reply_back r) ∙ ap reply_of e ∙ reply_back s
 
 -- ---- the answer of a lookup in a copy
 
-abbrev pub said_match : Match → Answer best.Match
-said_match (match.Found hop length) = gives (best.found hop length)
-said_match match.Nothing = gives best.none
-said_match (match.Refused number) = refuses number
+abbrev pub said_match : Result (Option Best) Refusal → Answer best.Match
+said_match (Ok (Some b)) = gives (best.found b.hop b.length)
+said_match (Ok None) = gives best.none
+said_match (Err e) = refuses (number e)
 
-pub match_one : (r s : Match) → said_match r ≡ said_match s → r ≡ s
-match_one (match.Found h l) (match.Found i m) e = cc
-match_one (match.Found h l) match.Nothing e = cc
-match_one (match.Found h l) (match.Refused n) e = cc
-match_one match.Nothing (match.Found h l) e = cc
-match_one match.Nothing match.Nothing e = refl
-match_one match.Nothing (match.Refused n) e = cc
-match_one (match.Refused n) (match.Found h l) e = cc
-match_one (match.Refused n) match.Nothing e = cc
-match_one (match.Refused n) (match.Refused m) e = cc
+pub match_one : (r s : Result (Option Best) Refusal) → said_match r ≡ said_match s → r ≡ s
+match_one (Ok (Some b)) (Ok (Some c)) e =
+    let p : b.hop ≡ c.hop = cc in
+    let q : b.length ≡ c.length = cc in
+    λ i. Ok (Some (record { hop = p i; length = q i }))
+match_one (Ok (Some b)) (Ok None) e = cc
+match_one (Ok (Some b)) (Err f) e = cc
+match_one (Ok None) (Ok (Some b)) e = cc
+match_one (Ok None) (Ok None) e = refl
+match_one (Ok None) (Err f) e = cc
+match_one (Err f) (Ok (Some b)) e = cc
+match_one (Err f) (Ok None) e = cc
+match_one (Err f) (Err g) e = let q : number f ≡ number g = cc in ap Err (number_one f g q)

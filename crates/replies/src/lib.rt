@@ -9,7 +9,7 @@ ghost use Rattle.routes.specs.Bytes.{reply_bytes};
 ghost use Rattle.replies.specs.Said.{said_reply};
 
 // An update is done or refused, a lookup found, nothing or refused.
-#[derive(Clone, Copy)]
+#[derive(Clone, Copy, Debug, PartialEq, Eq)]
 pub enum Reply {
     // hop and cells
     Done(u32, u32),
@@ -17,52 +17,36 @@ pub enum Reply {
     Found(u32, u32, u32),
     // the block of the address
     Nothing(u32),
+    // kept: a number and not a `Refusal`, since the theorem said_back has each reply of the documents said by an answer
     Refused(u32),
 }
 
-// The answer of a lookup in a copy, which knows no block.
-#[derive(Clone, Copy)]
-pub enum Match {
-    // hop and length of the longest match
-    Found(u32, u32),
-    Nothing,
-    Refused(u32),
+// The longest match in a copy, which knows no block.
+#[derive(Clone, Copy, Debug, PartialEq, Eq)]
+pub struct Best {
+    pub hop: u32,
+    pub length: u32,
 }
 
 // Whether an update was done.
 pub fn is_done(r: Reply) -> bool
     ensures { result ≡ is_done (said_reply r) }
 {
-    match r {
-        Reply::Done(_, _) => true,
-        Reply::Found(_, _, _) => false,
-        Reply::Nothing(_) => false,
-        Reply::Refused(_) => false,
-    }
+    matches!(r, Reply::Done(..))
 }
 
 // 1 for an update that was done.
 pub fn accepts(r: Reply) -> usize
     ensures { (result ≡ cond (is_done (said_reply r)) 1 0) × (result ≤ 1) }
 {
-    match r {
-        Reply::Done(_, _) => 1,
-        Reply::Found(_, _, _) => 0,
-        Reply::Nothing(_) => 0,
-        Reply::Refused(_) => 0,
-    }
+    usize::from(is_done(r))
 }
 
 // 1 for a record that was refused.
 pub fn refuses(r: Reply) -> usize
     ensures { (result ≡ cond (is_refused (said_reply r)) 1 0) × (result ≤ 1) }
 {
-    match r {
-        Reply::Done(_, _) => 0,
-        Reply::Found(_, _, _) => 0,
-        Reply::Nothing(_) => 0,
-        Reply::Refused(_) => 1,
-    }
+    usize::from(matches!(r, Reply::Refused(_)))
 }
 
 // Writes a reply, and returns the place after it.

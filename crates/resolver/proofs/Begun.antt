@@ -1,22 +1,16 @@
 -- A way that is begun on lent words stands for what resolving there comes to: of a table, over the list. Assumes nothing.
-use Rattle.std.specs.Prelude.{◌≡◌, refl, false, List, ℕ, length}
+use Rattle.std.specs.Prelude.{◌≡◌, false, List, ℕ, length}
 use Rattle.std.proofs.Common.{sym, ap, ◌∙◌, arith}
 use Rattle.std.proofs.Math.Option.{none}
 use Rattle.logic.specs.Cases.{less}
-use Rattle.routes.specs.Match.{Match, longest}
-use Rattle.routes.specs.Match as match
-use Rattle.routes.specs.Block.{block}
-use Rattle.routes.specs.Answers.{matched}
-use Rattle.routes.specs.Seen.{Answer, gives, misfits}
-use Rattle.candidates.specs.Candidate.{Candidate}
-use Rattle.candidates.specs.Winners.{winners}
-use Rattle.candidates.specs.Seen.{Seen, table, lookup_on}
-use Rattle.lookup.specs.Walk.{walk}
+use Rattle.routes.specs.Match.{Match}
+use Rattle.routes.specs.Seen.{Answer, misfits}
+use Rattle.candidates.specs.Seen.{Seen}
 use Rattle.words.specs.Words.{array_count}
 use Rattle.words.specs.Table.{list_of, seen}
 use Rattle.words.specs.View.{seen-cases}
-use Rattle.resolver.specs.Entry.{Entries, lead_by}
-use Rattle.resolver.specs.Resolve.{match_of, walked_by, resolved, resolve_on, routed}
+use Rattle.resolver.specs.Entry.{lead_by}
+use Rattle.resolver.specs.Resolve.{walked_by, resolved, resolve_on, routed}
 use Rattle.resolver.specs.Steps.{looks, begun}
 use Rattle.resolver.specs.Turns.{stands}
 use Rattle.resolver.proofs.Turns.{asked-stands}

@@ -4,19 +4,22 @@
 use Rattle.std.specs.Prelude.{◌≡◌, ◌≢◌}
 use Rattle.std.proofs.Math.Path.{refl}
 use Rattle.std.proofs.Math.Option.{Option, some}
-use Prim.Native.Nat.{ℕ, zero, suc, ◌-◌, ◌≤◌, ◌<◌}
+use Prim.Native.Nat.{ℕ, zero, suc, ◌-◌}
 use native.Mathlib.Omega.{arith}
-use Rattle.std.proofs.Common.{le-ltb}
-use Rattle.logic.specs.Cases.{less}
+use Rattle.std.proofs.Common.{le-ltb, ap, ◌∙◌, Result}
+use Rattle.std.specs.declared.ops.ControlFlow.{ControlFlow}
+use Rattle.refusals.specs.declared.Refusal.{Refusal}
+use Rattle.resolver.specs.declared.way.Reached.{Reached}
+use Rattle.resolver.specs.declared.met.Way as code
+use Rattle.resolver.specs.Coded.{as_way, next_of}
 use Rattle.routes.specs.Match.{Match}
 use Rattle.routes.specs.Match as match
 use Rattle.routes.specs.Seen.{Answer, gives, refuses}
-use Rattle.resolver.specs.Entry.{Lead, interface, gateway, nowhere, lead_of, lead_by}
-use Rattle.resolver.specs.Resolve.{refused_by, led, found, resolve, routed, has_one, or_zero}
-use Rattle.resolver.specs.Steps.{told_of, met, asked, goes, reaches, turned_by, turned}
+use Rattle.resolver.specs.Entry.{Lead, interface, gateway, nowhere, lead_of}
+use Rattle.resolver.specs.Resolve.{found, resolve, routed, has_one, or_zero}
+use Rattle.resolver.specs.Steps.{Way, asked, goes, turned_by, turned}
 use Rattle.resolver.specs.declared.entry.Hop.{Hop}
 use Rattle.resolver.specs.declared.way.Resolved.{Resolved}
-use Rattle.resolver.specs.declared.way.Way.{Way}
 use Rattle.resolver.specs.Turns.{leads, stands_with, stands, lead, led-stands}
 
 module _ (look : ℕ → Answer Match) (at : ℕ → Hop) where
@@ -55,3 +58,10 @@ module _ (look : ℕ → Answer Match) (at : ℕ → Hop) where
       go : (n : ℕ) → w.left ≡ n → stands look (lead look at) (turned look w (at w.at)) ≡ stands_with look (lead look at) w n
       go zero e = absurd (p e)
       go (suc n) e = turned_by_lem w n (lead_of (at w.at)) e
+
+  -- so what the code's turn gives stands for the same
+  pub next-stands : (w : code.Way) (n : Result (ControlFlow Reached code.Way) Refusal) (r : Resolved)
+      → next_of n ≡ turned look (as_way w) (at w.at) → stands look (lead look at) (as_way w) ≡ r
+      → stands look (lead look at) (next_of n) ≡ r
+  next-stands w n r e h =
+      ap (stands look (lead look at)) e ∙ turned-stands (as_way w) (λ z. let s = w.some in omega arith) ∙ h

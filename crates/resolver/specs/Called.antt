@@ -8,7 +8,7 @@ use Rattle.words.specs.Table.{seen}
 use Rattle.resolver.specs.Entry.{Entries, hops}
 use Rattle.resolver.specs.Resolve.{resolved, resolve_on, walked_by, routed}
 use Rattle.resolver.specs.Stated.{HasResolved}
-use Rattle.resolver.specs.Worked.{Case, got, gots, worked, further, resolve-cases}
+use Rattle.resolver.specs.Worked.{Case, got, gots}
 use Rattle.resolver.specs.declared.way.Resolved.{Resolved}
 
 -- where the row's words are no table, every walk of them is refused with 2; of others nothing is asked

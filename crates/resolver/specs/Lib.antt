@@ -7,4 +7,5 @@ pub mod Turns
 pub mod Stated
 pub mod Called
 pub mod Begun
+pub mod Coded
 pub mod Plain

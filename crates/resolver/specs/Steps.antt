@@ -13,13 +13,20 @@ use Rattle.resolver.specs.Entry.{Lead, interface, gateway, nowhere, lead_of}
 use Rattle.resolver.specs.Resolve.{match_of, refused_by}
 use Rattle.resolver.specs.declared.entry.Hop.{Hop}
 use Rattle.resolver.specs.declared.way.Resolved.{Resolved}
-use Rattle.resolver.specs.declared.way.Way.{Way}
 
 -- what the call of lookup answers
 abbrev pub looks : List ℕ → ℕ → Answer Match
 looks ws a = match_of (lookup_on 32 (seen 4 ws) (walk 4 ws a) a)
 
 -- ---- the numbers
+
+pub record Way : Type 0 where
+  pub left : ℕ
+  pub at : ℕ
+  pub refusal : ℕ
+  pub interface : ℕ
+  pub through : ℕ
+  pub gateway : ℕ
 
 abbrev pub ended : Resolved → Way
 ended r =

@@ -6,17 +6,15 @@ use Rattle.std.proofs.Math.Path.{refl}
 use Rattle.std.proofs.Math.Option.{Option, some}
 use Prim.Native.Nat.{ℕ, zero, suc, ◌-◌, ◌≤◌, ◌<◌}
 use native.Mathlib.Omega.{arith}
-use Rattle.std.proofs.Common.{le-ltb}
 use Rattle.logic.specs.Cases.{less}
 use Rattle.routes.specs.Match.{Match}
 use Rattle.routes.specs.Match as match
 use Rattle.routes.specs.Seen.{Answer, gives, refuses}
 use Rattle.resolver.specs.Entry.{Lead, interface, gateway, nowhere, lead_of, lead_by}
-use Rattle.resolver.specs.Resolve.{refused_by, led, found, resolve, routed, has_one, or_zero}
-use Rattle.resolver.specs.Steps.{told_of, met, asked, goes, reaches, turned_by, turned}
+use Rattle.resolver.specs.Resolve.{refused_by, led, resolve, routed, has_one, or_zero}
+use Rattle.resolver.specs.Steps.{Way, told_of, met, asked, goes, reaches, turned_by, turned}
 use Rattle.resolver.specs.declared.entry.Hop.{Hop}
 use Rattle.resolver.specs.declared.way.Resolved.{Resolved}
-use Rattle.resolver.specs.declared.way.Way.{Way}
 
 -- where `lead` says what the entry of a hop leads to, with n lookups left after this one
 abbrev pub leads : (ℕ → Answer Match) → (ℕ → Lead) → Way → ℕ → Lead → Resolved

@@ -5,27 +5,41 @@
 #![tactic(auto)]
 
 pub mod entry; // one entry of the run
+mod met; // a hop that was met
+mod run; // the run of entries, as structs or as plain words
 pub mod way; // how far resolving has come, and one turn of it
 
 ghost use Rattle.std.specs.Prelude.{◌≡◌};
 ghost use Rattle.resolver.specs.Entry.{hops, plain};
+ghost use Rattle.resolver.specs.Begun.{entries as listed};
+ghost use Rattle.resolver.specs.Coded.{answer_of};
+ghost use Rattle.resolver.specs.Resolve.{routed};
 ghost use Rattle.resolver.specs.Stated.{HasResolved};
 
 use entry::Hop;
-use way::Resolved;
+use refusals::Refusal;
+use run::{Plain, Run};
+use std::ops::ControlFlow;
+use way::{Reached, Resolved};
+
+// A turn for each lookup, until one ends the way.
+fn resolve<R: Run>(words: &[u32], run: R, address: u32) -> Result<Reached, Refusal>
+    ensures { HasResolved words.now (listed (R.at run) (R.entries run)) address (routed (answer_of result)) }
+{
+    let mut way = way::begin(words, run.count(), address)?;
+    loop {
+        match way::turn(words, way, run.entry(way.at))? {
+            ControlFlow::Continue(next) => way = next,
+            ControlFlow::Break(reached) => return Ok(reached),
+        }
+    }
+}
 
 // The interface of an address, with the entries as plain words, two an entry: interface, gateway.
 pub fn resolve_plain(words: &[u32], entries: &[u32], address: u32) -> Resolved
     ensures { HasResolved words.now (plain entries.now) address result }
 {
-    let mut way = way::begin(words, entries.len() / 2, address);
-    let r = loop {
-        if way.left == 0 {
-            break way::told(way);
-        }
-        way = way::turn(words, way, entry::plain_at(entries, way.at));
-    };
-    r
+    way::told(resolve(words, Plain(entries), address))
 }
 
 // ---- the calls of bindings/c/toggleash_resolve.h, which `resolver_c` exports
@@ -41,12 +55,5 @@ pub fn toggleash_resolve_version_6() -> u32
 pub fn toggleash_resolve(words: &[u32], entries: &[Hop], address: u32) -> Resolved
     ensures { HasResolved words.now (hops entries.now) address result }
 {
-    let mut way = way::begin(words, entries.len(), address);
-    let r = loop {
-        if way.left == 0 {
-            break way::told(way);
-        }
-        way = way::turn(words, way, entry::entry_at(entries, way.at));
-    };
-    r
+    way::told(resolve(words, entries, address))
 }

@@ -7,6 +7,6 @@ use std::io;
 fn main(rt: HostRuntime) -> io::Result<()> {
     let mut words = [0u32; 12288];
     let mut reply = [0u8; 4096];
-    audit::clear(&mut words);
+    let _ = audit::clear(&mut words);
     console::show(&rt, rt.reader(), Family::V4, &mut words, &mut reply)
 }

@@ -8,6 +8,6 @@ use std::io;
 fn main(rt: HostRuntime) -> io::Result<()> {
     let mut words = [0u32; 55296];
     let mut reply = [0u8; 4096];
-    audit::clear_any(&mut words);
+    let _ = audit::clear_any(&mut words);
     console::show(&rt, rt.reader(), Family::V6, &mut words, &mut reply)
 }

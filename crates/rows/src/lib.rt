@@ -1,120 +1,134 @@
-// The words of a front: whether they are one, and the candidate of a row as one number.
+// The words of a front: whether they are one, its rows, and the candidate of a row as one number.
 #![tactic(auto)]
 
-ghost use Rattle.std.specs.Prelude.{◌≡◌, ◌+◌, ◌*◌, ◌<◌, ◌≤◌, length};
+ghost use Rattle.std.specs.Prelude.{◌≡◌};
 ghost use Rattle.logic.specs.Reflects.{Reflects};
-ghost use Rattle.front.specs.Place.{key, most_places};
-ghost use Rattle.rows.specs.Row.{front_words, row_at, decode, IsWords, candidate_b, mark_b, after_b, row_b};
+ghost use Rattle.front.specs.Place.{key};
+ghost use Rattle.rows.specs.Row.{row_at, decode, IsWords, candidate_b, mark_b, after_b, row_b};
+ghost use Rattle.rows.specs.Code.{row_of, HasRow};
 
 // The words of a row and of a front; how many rows there are, each for a place, and the last of them.
 pub const ROW_WORDS: usize = 4;
 
+// kept: a front is a slice of so many words, since of a lent `&mut [u32]` that becomes an array nothing is known at its end.
 pub const FRONT_WORDS: usize = 1024;
 
 pub const MOST_PLACES: usize = 256;
 
 pub const LAST_PLACE: usize = 255;
 
-// ---- whether the words are a front
-
-fn is_candidate(address: u32, w: u32) -> bool
-    ensures { result ≡ candidate_b address w }
-{
-    if w / 8 > 32 {
-        return false;
-    }
-    if numbers::agree::stray(address, w / 8) {
-        return false;
-    }
-    if w % 8 == 0 {
-        return false;
-    }
-    w % 8 <= 4
+// The words of a row: an address, its length * 8 + its feed, its penalty * 2 + whether it is held back, and what is kept.
+// kept: 0 for no mark and for nothing kept, since the words of a front are those of the definition `IsWords`
+#[derive(Clone, Copy, Debug, PartialEq, Eq)]
+pub struct Row {
+    pub address: u32,
+    pub who: u32,
+    pub mark: u32,
+    pub kept: u32,
 }
 
-fn is_mark(x: u32, k: u32) -> bool
-    ensures { result ≡ mark_b x k }
-{
-    if x / 2 > 12000 {
-        return false;
+// A row with no place.
+pub const UNUSED: Row = Row {
+    address: 0,
+    who: 0,
+    mark: 0,
+    kept: 0,
+};
+
+impl Row {
+    // The candidate as one number.
+    pub fn key(self) -> u64
+        ensures { result ≡ key (decode (row_of self)) }
+    {
+        self.address as u64 * 2048 + self.who as u64
     }
-    if k >= 16777216 {
-        return false;
+
+    fn is_candidate(self) -> bool
+        ensures { result ≡ candidate_b self.address self.who }
+    {
+        let length = self.who / 8;
+        length <= 32
+            && !numbers::agree::stray(self.address, length)
+            && matches!(self.who % 8, 1..=4)
     }
-    if x % 2 == 0 {
-        if k == 0 {
-            return x / 2 <= 3000;
+
+    fn is_mark(self) -> bool
+        ensures { result ≡ mark_b self.mark self.kept }
+    {
+        let penalty = self.mark / 2;
+        penalty <= 12000
+            && self.kept < 16777216
+            && match (self.mark % 2, self.kept) {
+                (0, 0) => penalty <= 3000,
+                (0, _) => false,
+                (_, 0) => penalty >= 750,
+                (_, kept) => kept % 65536 != 0,
+            }
+    }
+}
+
+impl From<[u32; ROW_WORDS]> for Row {
+    ghost from_gives = { λ words row. row_of row ≡ row_at words 0 };
+
+    fn from([address, who, mark, kept]: [u32; ROW_WORDS]) -> Row {
+        Row {
+            address,
+            who,
+            mark,
+            kept,
         }
-        return false;
     }
-    if k == 0 {
-        return x / 2 >= 750;
+}
+
+pub fn row_at(words: &[u32], i: usize) -> Row
+    requires { HasRow words.now i }
+    ensures { row_of result ≡ row_at words.now i }
+{
+    let at = ROW_WORDS * i;
+    Row {
+        address: words[at],
+        who: words[at + 1],
+        mark: words[at + 2],
+        kept: words[at + 3],
     }
-    k % 65536 != 0
 }
 
 // The candidate of row i as one number.
 pub fn key_at(words: &[u32], i: usize) -> u64
-    requires { (length words.now ≡ front_words) × (i < most_places) }
+    requires { HasRow words.now i }
     ensures { result ≡ key (decode (row_at words.now i)) }
 {
-    let w = words[ROW_WORDS * i + 1];
-    words[ROW_WORDS * i] as u64 * 2048 + w as u64
+    row_at(words, i).key()
 }
+
+// ---- whether the words are a front
 
 // Row i stands after the row before it.
 fn is_after(words: &[u32], i: usize) -> bool
-    requires { (length words.now ≡ front_words) × (i < most_places) }
+    requires { HasRow words.now i }
     ensures { result ≡ after_b (row_at words.now) i }
 {
     if i == 0 {
         return true;
     }
-    let j = i - 1;
-    if words[ROW_WORDS * j + 2] == 0 {
-        return false;
-    }
-    key_at(words, j) < key_at(words, i)
+    let before = row_at(words, i - 1);
+    before.mark != 0 && before.key() < key_at(words, i)
 }
 
+#[tactic(auto, unfolding(crate::specs::Row::row_b))]
 fn is_row(words: &[u32], i: usize) -> bool
-    requires { (length words.now ≡ front_words) × (i < most_places) }
+    requires { HasRow words.now i }
     ensures { result ≡ row_b (row_at words.now) i }
 {
-    let a = words[ROW_WORDS * i];
-    let w = words[ROW_WORDS * i + 1];
-    let x = words[ROW_WORDS * i + 2];
-    let k = words[ROW_WORDS * i + 3];
-    if x == 0 {
-        if a != 0 {
-            return false;
-        }
-        if w != 0 {
-            return false;
-        }
-        return k == 0;
+    let row = row_at(words, i);
+    if row.mark == 0 {
+        return row == UNUSED;
     }
-    if !is_candidate(a, w) {
-        return false;
-    }
-    if !is_mark(x, k) {
-        return false;
-    }
-    is_after(words, i)
+    row.is_candidate() && row.is_mark() && is_after(words, i)
 }
 
 pub fn is_front(words: &[u32]) -> bool
     ensures { Reflects result (IsWords words.now) }
 {
-    if words.len() != FRONT_WORDS {
-        return false;
-    }
-    let mut i = 0;
-    while i < MOST_PLACES {
-        if !is_row(words, i) {
-            return false;
-        }
-        i += 1;
-    }
-    true
+    words.len() == FRONT_WORDS && (0..MOST_PLACES).all(|i| is_row(words, i))
 }

@@ -1,22 +1,13 @@
 -- What the needs of the functions cite: each answer of theirs where the tests before it have settled it. Assumes nothing.
-use mathlib.Core.Path.{◌≡◌, sym, ap, ◌∙◌}
-use mathlib.Core.Logic.{◌≢◌}
-use mathlib.Core.Bool.{Bool, true, false, not, ◌&&◌}
+use mathlib.Core.Path.{◌≡◌}
+use mathlib.Core.Bool.{◌&&◌}
 use mathlib.Core.List.{List}
-use Prim.Native.Nat.{ℕ, suc, ◌+◌, ◌-◌, ◌*◌, ◌/◌, ◌^◌, ◌≤◌, ◌<◌}
-use native.Mathlib.Nat.{pow-succ'}
-use native.Mathlib.Omega.{arith}
+use Prim.Native.Nat.{ℕ, ◌-◌, ◌*◌, ◌^◌, ◌≤◌, ◌<◌}
 use lib.Bits.{bit_or}
-use lib.Dec.{leb, eqb}
-use lib.Pow.{pow_pos, pow_mono}
-use borrow.Author.Tests.{eq-eqb, ne_eqb}
-use Rattle.logic.specs.Bools.{not_true, not_false}
+use lib.Dec.{eqb}
 use Rattle.logic.specs.Ors.{or_none}
-use Rattle.sizes.specs.Sizes.{cell_count, cell_slots}
-use Rattle.calm.specs.Climb.{across, rests, joins}
+use Rattle.sizes.specs.Sizes.{cell_count}
 use Rattle.slots.specs.Word.{IsFeed}
-use Rattle.array.specs.Cell.{link_in, block_in}
-use Rattle.array.specs.Page.{slots, links, blocks}
 use Rattle.array.specs.Reslot.{Reslots, ReslotsAny}
 use Rattle.array.specs.declared.change.Changed.{Changed}
 use Rattle.settle.specs.Settled.{SettledPage, Resettled}
@@ -25,45 +16,10 @@ use Rattle.settle.specs.Reset.{Resets}
 use Rattle.settle.specs.Recell.{resettled_in, reset_in}
 use Rattle.settle.specs.Any.{ResettledAny, ResetsAny, body_cells}
 
--- ---- a cell across
-
-pub rests-linked : (w m : ℕ) (r : Bool) → r ≡ not (eqb (link_in w) 0) → r ≡ true
-    → false ≡ rests (λ _. link_in w) (λ _. block_in w) 0 m
-rests-linked w m r e t = rw (not_true (eqb (link_in w) 0) (sym e ∙ t))
-
-pub rests-plain : (w m q : ℕ) (r : Bool) → r ≡ not (eqb (link_in w) 0) → r ≡ false → q ≡ block_in w
-    → leb q m ≡ rests (λ _. link_in w) (λ _. block_in w) 0 m
-rests-plain w m q r e t d = rw (not_false (eqb (link_in w) 0) (sym e ∙ t), d)
-
--- ---- the two halves below a slot, and what was read of them
-
-module _ (l : List ℕ) (i m own : ℕ) (e : own ≡ (cell_slots + i) / 2 ^ (8 - m)) (h : ℕ) (p : h ≡ slots l own) where
-  pub joins-own : h ≢ 0 → false ≡ joins (slots l) (links l) (blocks l) i m
-  joins-own n = rw (← e, ← p, ne_eqb h 0 n)
-
-  module _ (j other : ℕ) (d : j ≡ across i (8 - m)) (o : other ≡ (cell_slots + j) / 2 ^ (8 - m)) (z : h ≡ 0) (k : ℕ)
-      (q : k ≡ slots l other) where
-    pub joins_other : k ≢ 0 → false ≡ joins (slots l) (links l) (blocks l) i m
-    joins_other n = rw (← e, ← d, ← o, ← p, ← q, eq-eqb h 0 z, ne_eqb k 0 n)
-
-    pub joins_rest : k ≡ 0 → (r : Bool) → r ≡ rests (λ _. links l j) (λ _. blocks l j) 0 m
-        → r ≡ joins (slots l) (links l) (blocks l) i m
-    joins_rest y r x = rw (← e, ← d, ← o, ← p, ← q, eq-eqb h 0 z, eq-eqb k 0 y) x
-
 -- ---- an or of words is 0 where all are
 
 pub or_four : (a b c d : ℕ) → eqb (bit_or (bit_or a b) (bit_or c d)) 0 ≡ ((eqb a 0 && eqb b 0) && (eqb c 0 && eqb d 0))
 or_four a b c d = rw (or_none (bit_or a b) (bit_or c d), or_none a b, or_none c d)
-
--- ---- one level up, of which the slots begin at a power of two
-
-pub halves : (d m : ℕ) → 1 ≤ d → d ≤ 8 → m ≡ 2 ^ d → (m / 2 ≡ 2 ^ (d - 1)) × (2 * (m / 2) ≡ m) × (1 ≤ m / 2) × (m / 2 ≤ 128)
-halves d m a b e =
-    let k : d ≡ suc (d - 1) = omega arith in
-    let p : 2 ^ d ≡ 2 * 2 ^ (d - 1) = ap (λ (n : ℕ). 2 ^ n) k ∙ pow-succ' 2 (d - 1) in
-    let q = pow_pos (d - 1) in
-    let r = pow_mono {i = d - 1} {j = 7} (omega arith) in
-    (omega (arith, e, p), omega (arith, e, p), omega (arith, e, p, q), omega (arith, e, p, r))
 
 -- ---- a slot's word set, and then the blocks around it
 

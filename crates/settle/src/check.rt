@@ -1,6 +1,6 @@
 // Whether the blocks of an array are right, and what is calm in it.
-ghost use Rattle.std.specs.Prelude.{◌≡◌, cond, ◌&&◌, ◌*◌, ◌^◌, ◌<◌, ◌≤◌, eqb, length};
-ghost use Rattle.sizes.specs.Sizes.{array_words, slot_end, cell_slots};
+ghost use Rattle.std.specs.Prelude.{◌≡◌, cond, ◌&&◌, ◌*◌, ◌^◌, ◌<◌, ◌≤◌, eqb};
+ghost use Rattle.sizes.specs.Sizes.{slot_end, cell_slots};
 ghost use Rattle.calm.specs.Check.{settled_b};
 ghost use Rattle.slots.specs.Read.{Won};
 ghost use Rattle.array.specs.Page.{slots, links, blocks};
@@ -8,12 +8,10 @@ ghost use Rattle.settle.specs.Busy.{Busy, Lifted};
 ghost use Rattle.settle.specs.Blocks.{Blocks, cell_is};
 
 use array::cell::{block_in, has_link};
-use sizes::{CELL_COUNT, CELL_SLOTS, CELLS_AT, LAST_SLOT, MARK_UNIT, SLOT_END};
-
-// The last cell's word.
-const LAST_CELL_AT: usize = 2303;
+use sizes::{ARRAY_WORDS, CELL_COUNT, CELL_SLOTS, CELLS_AT, MARK_UNIT, SLOT_END};
 
 // 0 where all four are.
+// kept: a number, as the marks of all slots are words of one list, and a loop over them joins these by or.
 fn any(a: u32, b: u32, c: u32, d: u32) -> u32
     ensures { eqb result 0 ≡ ((eqb a 0 && eqb b 0) && (eqb c 0 && eqb d 0)) }
 {
@@ -21,22 +19,23 @@ fn any(a: u32, b: u32, c: u32, d: u32) -> u32
 }
 
 // For each slot, 0 where no slot below it is taken and no cell below it has a link: those over one cell alone.
-fn marks(page: &[u32]) -> [u32; SLOT_END]
-    requires { length page.now ≡ array_words }
+fn marks(page: &[u32; ARRAY_WORDS]) -> [u32; SLOT_END]
     ensures { Busy (slots page.now) (links page.now) result cell_slots }
 {
     let mut all = [0; SLOT_END];
-    for i in 0..CELL_COUNT {
-        all[LAST_SLOT - i] = page[LAST_CELL_AT - i] / MARK_UNIT;
+    for i in (0..CELL_COUNT).rev() {
+        all[CELL_SLOTS + i] = page[CELLS_AT + i] / MARK_UNIT;
     }
     all
 }
 
-// Those of m, m + 1 .. 2 m - 1, each from the two below it. A level at a time, as within one no slot waits for another.
-fn lift(won: &[u32; SLOT_END], all: &mut [u32; SLOT_END], m: usize)
-    requires { (length all.old ≡ slot_end) × (1 ≤ m) × (m ≤ 128) }
-    ensures { Lifted won.now all.old all.new m (2 * m) }
+// Those of in-array length d, which are m, m + 1 .. 2 m - 1, each from the two below it. A level at a time, as within one no slot
+// waits for another.
+fn lift(won: &[u32; SLOT_END], all: &mut [u32; SLOT_END], d: u32)
+    requires { d < 8 }
+    ensures { Lifted won.now all.old all.new (2 ^ d) (2 * 2 ^ d) }
 {
+    let m = 1 << d;
     for s in m..2 * m {
         let two = 2 * s;
         all[s] = any(won[two], won[two + 1], all[two], all[two + 1]);
@@ -44,17 +43,13 @@ fn lift(won: &[u32; SLOT_END], all: &mut [u32; SLOT_END], m: usize)
 }
 
 // All of them. That of slot 1 is 0 where the array is empty.
-pub fn busy(page: &[u32], won: &[u32; SLOT_END]) -> [u32; SLOT_END]
-    requires { (length page.now ≡ array_words) × Won page.now won.now }
+pub fn busy(page: &[u32; ARRAY_WORDS], won: &[u32; SLOT_END]) -> [u32; SLOT_END]
+    requires { Won page.now won.now }
     ensures { Busy (slots page.now) (links page.now) result 1 }
 {
     let mut all = marks(page);
-    let mut m = CELL_SLOTS;
-    let mut d: u32 = 8;
-    while d > 0 {
-        d -= 1;
-        m = m / 2;
-        lift(won, &mut all, m);
+    for d in (0..8).rev() {
+        lift(won, &mut all, d);
     }
     all
 }
@@ -67,10 +62,11 @@ fn deeper(busy: u32, d: u32, above: u32) -> u32
 }
 
 // The blocks of the slots below those of in-array length d, which are m, m + 1 .. 2 m - 1, each from the one above it.
-fn sink(all: &[u32; SLOT_END], blocks: &mut [u32; SLOT_END], m: usize, d: u32)
-    requires { (length blocks.old ≡ slot_end) × (m ≡ 2 ^ d) × (d < 8) × (m ≤ 128) × Blocks all.now blocks.old (2 * m) }
-    ensures { (length blocks.new ≡ slot_end) × Blocks all.now blocks.new (2 * (2 * m)) }
+fn sink(all: &[u32; SLOT_END], blocks: &mut [u32; SLOT_END], d: u32)
+    requires { (d < 8) × Blocks all.now blocks.old (2 * 2 ^ d) }
+    ensures { Blocks all.now blocks.new (2 * (2 * 2 ^ d)) }
 {
+    let m = 1 << d;
     for s in m..2 * m {
         let block = deeper(all[s], d + 1, blocks[s]);
         blocks[2 * s] = block;
@@ -83,12 +79,8 @@ fn blocks_of(all: &[u32; SLOT_END]) -> [u32; SLOT_END]
     ensures { Blocks all.now result slot_end }
 {
     let mut blocks = [0; SLOT_END];
-    let mut m = 1;
-    let mut d: u32 = 0;
-    while d < 8 {
-        sink(all, &mut blocks, m, d);
-        m = 2 * m;
-        d += 1;
+    for d in 0..8 {
+        sink(all, &mut blocks, d);
     }
     blocks
 }
@@ -101,14 +93,14 @@ fn cell_is(word: u32, block: u32) -> bool
 }
 
 // Every cell without a link has its block: of a page of which it is given what is calm below each slot.
-pub fn settled(page: &[u32], all: &[u32; SLOT_END]) -> bool
-    requires { (length page.now ≡ array_words) × Busy (slots page.now) (links page.now) all.now 1 }
+pub fn settled(page: &[u32; ARRAY_WORDS], all: &[u32; SLOT_END]) -> bool
+    requires { Busy (slots page.now) (links page.now) all.now 1 }
     ensures { result ≡ settled_b (slots page.now) (links page.now) (blocks page.now) }
 {
     let blocks = blocks_of(all);
     let mut ok = true;
     for i in 0..CELL_COUNT {
-        ok = ok & cell_is(page[CELLS_AT + i], blocks[CELL_SLOTS + i]);
+        ok &= cell_is(page[CELLS_AT + i], blocks[CELL_SLOTS + i]);
     }
     ok
 }

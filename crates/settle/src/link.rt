@@ -4,7 +4,7 @@ ghost use Rattle.sizes.specs.Sizes.{array_words, most_arrays, cell_count, best_b
 ghost use Rattle.array.specs.Page.{bests, blocks};
 ghost use Rattle.settle.specs.Any.{LinkedAny, CutAny};
 
-use super::part::{climb, fill_below, part};
+use super::part::{Over, climb, fill_below, part};
 use array::cell::{best_in, block_in, linked, plain};
 use sizes::CELLS_AT;
 
@@ -17,7 +17,7 @@ pub fn set_link(page: &mut [u32], i: usize, a: u32)
     let word = page[CELLS_AT + i];
     let best = best_in(word);
     let q = block_in(word) as usize;
-    part(page, i, 8, q);
+    part(page, Over { cell: i, bits: 8 }, q);
     page[CELLS_AT + i] = linked(best, a);
 }
 
@@ -28,6 +28,7 @@ pub fn cut_link(page: &mut [u32], i: usize)
 {
     let best = best_in(page[CELLS_AT + i]);
     page[CELLS_AT + i] = plain(best, 8);
-    let q = climb(&page[..], i, 8);
-    fill_below(page, i, q, q as u32)
+    let over = Over { cell: i, bits: 8 };
+    let q = climb(page, over);
+    fill_below(page, over.to(q), q as u32)
 }

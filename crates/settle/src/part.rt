@@ -14,6 +14,14 @@ use array::place::pow2;
 use sizes::{CELL_SLOTS, CELLS_AT};
 use slots::slot::hop_of;
 
+// The slot of so many bits over a cell, and the cells below that slot: those that share so many bits with the cell.
+#[derive(Clone, Copy)]
+pub struct Over {
+    pub cell: usize,
+    pub bits: usize,
+    ghost inside: { (cell < cell_count) × (bits ≤ 8) },
+}
+
 // Writes the block q into the cells from..to.
 fn fill(page: &mut [u32], from: usize, to: usize, q: u32)
     requires { (length page.old ≡ array_words) × (from ≤ to) × (to ≤ cell_count) × (q < block_bound) }
@@ -25,47 +33,68 @@ fn fill(page: &mut [u32], from: usize, to: usize, q: u32)
     }
 }
 
-// The first of the cells that share m bits with cell i.
-fn first_of(i: usize, m: usize) -> usize
-    requires { (i < cell_count) × (m ≤ 8) }
-    ensures { (result ≡ start i m) × (result + 2 ^ (8 - m) ≤ cell_count) }
-{
-    let e = 8 - m;
-    (i >> e) * pow2(e)
+impl Over {
+    // The slot of another number of bits over the cell.
+    pub fn to(self, bits: usize) -> Over
+        requires { bits ≤ 8 }
+        ensures { (result.cell ≡ self.cell) × (result.bits ≡ bits) }
+    {
+        Over {
+            cell: self.cell,
+            bits,
+        }
+    }
+
+    // The slot's number.
+    fn slot(self) -> usize
+        ensures { (result ≡ (cell_slots + self.cell) / 2 ^ (8 - self.bits)) × (result < slot_end) }
+    {
+        (CELL_SLOTS + self.cell) >> (8 - self.bits)
+    }
+
+    // The first of the cells.
+    fn first(self) -> usize
+        ensures { (result ≡ start self.cell self.bits) × (result + 2 ^ (8 - self.bits) ≤ cell_count) }
+    {
+        let e = 8 - self.bits;
+        (self.cell >> e) * pow2(e)
+    }
+
+    // What stands across: a cell in the other half below the slot of one bit less, with as many bits.
+    fn across(self) -> Over
+        requires { 1 ≤ self.bits }
+        ensures { (result.cell ≡ acrossOf self.cell (8 - self.bits)) × (result.bits ≡ self.bits) }
+    {
+        Over {
+            cell: self.cell ^ pow2(8 - self.bits),
+            bits: self.bits,
+        }
+    }
 }
 
-// Writes the block q into the cells that share m bits with cell i.
-pub fn fill_below(page: &mut [u32], i: usize, m: usize, q: u32)
-    requires { (length page.old ≡ array_words) × (i < cell_count) × (m ≤ 8) × (q < block_bound) }
-    ensures { Recelled page.old page.new (λ j w. cond (leb m (agreement 8 j i)) (with_block w q) w) }
+// Writes the block q into the cells below a slot.
+pub fn fill_below(page: &mut [u32], over: Over, q: u32)
+    requires { (length page.old ≡ array_words) × (q < block_bound) }
+    ensures { Recelled page.old page.new (λ j w. cond (leb over.bits (agreement 8 j over.cell)) (with_block w q) w) }
 {
-    let from = first_of(i, m);
-    let to = from + pow2(8 - m);
+    let from = over.first();
+    let to = from + pow2(8 - over.bits);
     fill(page, from, to, q)
 }
 
-// A cell in the other half below the slot of m - 1 bits over cell i.
-fn across(i: usize, m: usize) -> usize
-    requires { (i < cell_count) × (1 ≤ m) × (m ≤ 8) }
-    ensures { (result ≡ acrossOf i (8 - m)) × (result < cell_count) }
+// Something at a slot is taken, whose block is q: the cells that share more bits with its cell have longer blocks. Each half that
+// leaves the cell is a run of its own, so that a cell is written once.
+pub fn part(page: &mut [u32], over: Over, q: usize)
+    requires { (length page.old ≡ array_words) × (q ≤ over.bits) }
+    ensures { Recelled page.old page.new (stage over.cell q over.bits) }
 {
-    i ^ pow2(8 - m)
-}
-
-// Something of depth d over cell i is taken, whose block is q: the cells that share more bits with i have longer blocks. Each
-// half that leaves i is a run of its own, so that a cell is written once.
-pub fn part(page: &mut [u32], i: usize, d: usize, q: usize)
-    requires { (length page.old ≡ array_words) × (i < cell_count) × (d ≤ 8) × (q ≤ d) }
-    ensures { Recelled page.old page.new (stage i q d) }
-{
-    if q >= d {
+    if q >= over.bits {
         return;
     }
-    for m in q..d {
-        let j = across(i, m + 1);
-        fill_below(page, j, m + 1, m as u32 + 1);
+    for m in q..over.bits {
+        fill_below(page, over.to(m + 1).across(), m as u32 + 1);
     }
-    fill_below(page, i, d, d as u32)
+    fill_below(page, over, over.bits as u32)
 }
 
 // A cell without a link whose block is at most m.
@@ -73,51 +102,30 @@ fn rests(word: u32, m: usize) -> bool
     requires { m ≤ 8 }
     ensures { result ≡ restsOf (λ _. link_in word) (λ _. block_in word) 0 m }
 {
-    if has_link(word) {
-        return false;
-    }
-    block_in(word) <= m as u32
+    !has_link(word) && block_in(word) <= m as u32
 }
 
-// The slot of m bits over cell i.
-pub fn slot_over(i: usize, m: usize) -> usize
-    requires { (i < cell_count) × (m ≤ 8) }
-    ensures { (result ≡ (cell_slots + i) / 2 ^ (8 - m)) × (result < slot_end) }
+// The two halves below the slot of one bit less are free and calm, if this one is calm below.
+fn joins(page: &[u32], over: Over) -> bool
+    requires { (length page.now ≡ array_words) × (1 ≤ over.bits) }
+    ensures { result ≡ joinsOf (slots page.now) (links page.now) (blocks page.now) over.cell over.bits }
 {
-    (CELL_SLOTS + i) >> (8 - m)
+    let half = over.across();
+    hop_of(page, over.slot()) == 0
+        && hop_of(page, half.slot()) == 0
+        && rests(page[CELLS_AT + half.cell], half.bits)
 }
 
-// The two halves below the slot of m - 1 bits over cell i are free and calm, if that of m bits over i is calm.
-fn joins(page: &[u32], i: usize, m: usize) -> bool
-    requires { (length page.now ≡ array_words) × (i < cell_count) × (1 ≤ m) × (m ≤ 8) }
-    ensures { result ≡ joinsOf (slots page.now) (links page.now) (blocks page.now) i m }
+// The block of the cell, where all below its slot is calm and the cells across have theirs.
+pub fn climb(page: &[u32], over: Over) -> usize
+    requires { length page.now ≡ array_words }
+    ensures { (result ≡ climb_of (slots page.now) (links page.now) (blocks page.now) over.cell over.bits)
+        × (result ≤ over.bits) }
 {
-    let j = across(i, m);
-    let own = slot_over(i, m);
-    if hop_of(page, own) != 0 {
-        return false;
-    }
-    let other = slot_over(j, m);
-    if hop_of(page, other) != 0 {
-        return false;
-    }
-    rests(page[CELLS_AT + j], m)
-}
-
-// The block of cell i, where all below its slot of `depth` bits is calm and the cells across have theirs.
-pub fn climb(page: &[u32], i: usize, depth: usize) -> usize
-    requires { (length page.now ≡ array_words) × (i < cell_count) × (depth ≤ 8) }
-    ensures { (result ≡ climb_of (slots page.now) (links page.now) (blocks page.now) i depth)
-        × (result ≤ depth) }
-{
-    let mut m = depth;
-    loop {
-        if m == 0 {
-            return 0;
-        }
-        if !joins(page, i, m) {
+    for m in (1..over.bits + 1).rev() {
+        if !joins(page, over.to(m)) {
             return m;
         }
-        m -= 1;
     }
+    0
 }

@@ -8,6 +8,8 @@ use native.Mathlib.Omega.{arith}
 use lib.Dec.{eqb, ltb}
 use lib.ListN.{length, set, take, drop, length-append}
 use lib.Seq.{take_at}
+use Rattle.std.specs.Prelude.{Result, Ok, Err}
+use Rattle.std.specs.Result.{result_unwrap_or}
 use borrow.Author.Tests.{ne_eqb, lt-ltb, le-ltb, eqb-false, ltb-false}
 use Rattle.logic.specs.Cases.{bool, less}
 use Rattle.sizes.specs.Sizes.{root_slot}
@@ -21,38 +23,19 @@ use Rattle.candidates.specs.Seen.{Seen, misfit, foreign, table}
 use Rattle.words.specs.Table.{seen}
 use Rattle.words.specs.TableBut.{Table}
 use Rattle.words.specs.View.{seen_table, table_of}
-use Rattle.writing.specs.declared.Counted.{Counted}
-use Rattle.writing.specs.declared.Counted.TheVariants as counted
+use Rattle.refusals.specs.declared.Refusal.{Refusal}
+use Rattle.refusals.specs.declared.Refusal.TheVariants as refusal
+use Rattle.refusals.specs.Number.{said}
 use Rattle.shortest.specs.Shortest.{upto}
 use Rattle.shortest.specs.Chosen.{under}
 use Rattle.shortest.specs.Proved.{upto_all}
-use Rattle.shortest.specs.Seen.{shortest4, bytes_for, short_on, bytes_in, left_in}
+use Rattle.shortest.specs.Seen.{shortest4, bytes_for, bytes_in, left_in}
 use Rattle.sweep.specs.Walk.{won_at, cost_at, store_at, routes_at}
 use Rattle.sweep.specs.Whole.{won_of, default_is, cost_whole, routes_whole, small_slot}
 use Rattle.sweep.specs.Asked.{KeepsSets, HasKept, bytes_of, PutsRoutes}
 use Rattle.sweep.specs.Bound.{cost_bound, bytes-length}
-use Rattle.shorten.specs.Answer.{unfit_on, short_in, front_in, count_in, HasCounted, HasShortened}
+use Rattle.shorten.specs.Answer.{unfit_on, short_in, front_in, HasCounted, HasShortened}
 use Rattle.shorten.proofs.Refusals.{Seated, root_stands}
-
--- ---- a refusal before the buffer's
-
-refused_by_lem : (s : Seen) (l : Bool) (room n : ℕ) → n ≡ unfit_on s l → n ≢ 0
-    → (short_on s l room ≡ refuses n) × (eqb n 9 ≡ false)
-refused_by_lem s true room n e z = rw e (refl, refl)
-refused_by_lem misfit false room n e z = rw e (refl, refl)
-refused_by_lem foreign false room n e z = rw e (refl, refl)
-refused_by_lem (table A cs) false room n e z =
-    bool (eqb (held (winners cs) 0 0) 0)
-    (λ q. (let f : n ≡ 23 = rw q at e in rw (q, f) (refl, refl)))
-    (λ q. bool (upto 32 (winners cs))
-    (λ u. absurd (z (rw (q, u) at e)))
-    (λ u. (let f : n ≡ 24 = rw (q, u) at e in rw (q, u, f) (refl, refl))))
-
-pub count_refused : (ws ms : List ℕ) (room n : ℕ) → n ≡ unfit_on (seen 4 ws) (ltb (length ms) (length ws)) → n ≢ 0
-    → HasCounted ws ms room (counted.Refused n) ms
-count_refused ws ms room n e z =
-    let q = refused_by_lem (seen 4 ws) (ltb (length ms) (length ws)) room n e z in
-    record { answer = rw q.0; scratch = rw (q.0, q.1) }
 
 -- ---- a table of small hops with the default route, and a scratch that is long enough
 
@@ -76,8 +59,8 @@ fine_of ws ms A cs v l q u =
     }
 
 -- none of the first refusals
-pub fine : (ws ms : List ℕ) (n : ℕ) → n ≡ unfit_on (seen 4 ws) (ltb (length ms) (length ws)) → n ≡ 0 → Fine ws ms
-fine ws ms n e z = go (seen 4 ws) refl (ltb (length ms) (length ws)) refl (sym z ∙ e)
+pub fine : (ws ms : List ℕ) → 0 ≡ unfit_on (seen 4 ws) (ltb (length ms) (length ws)) → Fine ws ms
+fine ws ms e = go (seen 4 ws) refl (ltb (length ms) (length ws)) refl e
   where
     go : (s : Seen) → seen 4 ws ≡ s → (l : Bool) → ltb (length ms) (length ws) ≡ l → 0 ≡ unfit_on s l → Fine ws ms
     go s v true w f = absurd (omega arith)
@@ -128,32 +111,18 @@ module _ {ws ms : List ℕ} (d : Fine ws ms) where
     pub cost-small : cost < 4294967296
     cost-small = omega (arith, g.price, cost_bound ws 32 root_slot 0)
 
-    pub count_short : (room : ℕ) → room < 8 * cost + 9 → HasCounted ws ms room (counted.Refused 9) ns
+    pub count_short : (room : ℕ) → room < 8 * cost + 9 → HasCounted ws ms room (Err refusal.Short) ns
     count_short room h =
         let e : ltb room (bytes_for (length rs)) ≡ true = lt-ltb room (bytes_for (length rs)) (omega (arith, many, g.price)) in
         let v : short_in ws ms room ≡ refuses 9 = view room ∙ rw e in
         record { answer = rw v; scratch = rw v g.list }
 
-    pub count_given : (room : ℕ) → 8 * cost + 9 ≤ room → HasCounted ws ms room (counted.Bytes (8 * cost + 9)) ns
+    pub count_given : (room : ℕ) → 8 * cost + 9 ≤ room → HasCounted ws ms room (Ok (8 * cost + 9)) ns
     count_given room h =
         let e : ltb room (bytes_for (length rs)) ≡ false = le-ltb room (bytes_for (length rs)) (omega (arith, many, g.price)) in
         let v : short_in ws ms room ≡ gives rs = view room ∙ rw e in
         let n : 8 * cost + 9 ≡ bytes_for (length rs) = omega (arith, many, g.price) in
         record { answer = rw v (ap gives n); scratch = rw v g.list }
-
--- ---- a refusal leaves the buffer
-
-pub short_refused : (ws ms b : List ℕ) (r : Counted) (ns : List ℕ) → HasCounted ws ms (length b) r ns → (n : ℕ)
-    → r ≡ counted.Refused n → HasShortened ws ms b (counted.Refused n) ns b
-short_refused ws ms b r ns c n e = record {
-  answer = rw e at c.answer;
-  scratch = c.scratch;
-  buffer = go (short_in ws ms (length b)) (rw e at c.answer);
-}
-  where
-    go : (x : Answer (List Route)) → refuses n ≡ bytes_in x → b ≡ left_in x b
-    go (gives qs) f = absurd (let z : ◌≡◌ {A = ℕ} 1 0 = cc in omega arith)
-    go (refuses m) f = refl
 
 -- ---- what is known where the bytes are counted
 
@@ -164,16 +133,15 @@ pub record Given (ws ms b : List ℕ) (n : ℕ) (ns : List ℕ) : Type 0 where
   pub view : short_in ws ms (length b) ≡ gives (shortest4 (won_of ws))
   pub list : ns ≡ store_at ws 32 root_slot 0 ms
 
-pub given : (ws ms b : List ℕ) (r : Counted) (ns : List ℕ) → HasCounted ws ms (length b) r ns → (n : ℕ) → r ≡ counted.Bytes n
-    → Given ws ms b n ns
-given ws ms b r ns c n e =
-    go (seen 4 ws) refl (ltb (length ms) (length ws)) refl (rw e at c.answer)
+pub given : (ws ms b : List ℕ) (n : ℕ) (ns : List ℕ) → HasCounted ws ms (length b) (Ok n) ns → Given ws ms b n ns
+given ws ms b n ns c =
+    go (seen 4 ws) refl (ltb (length ms) (length ws)) refl c.answer
   where
     done : (f : Fine ws ms) → gives n ≡ bytes_in (short_in ws ms (length b)) → Given ws ms b n ns
     done f a =
         less (length b) (bytes_for (length (shortest4 (won_of ws))))
         (λ _ q. absurd (let v : short_in ws ms (length b) ≡ refuses 9 = view f (length b) ∙ rw q in
-        let g : gives n ≡ refuses 9 = rw v at a in let z : ◌≡◌ {A = ℕ} 0 1 = cc in omega arith))
+        let g : gives n ≡ refuses 9 = rw v at a in cc))
         (λ h q. (let v : short_in ws ms (length b) ≡ gives (shortest4 (won_of ws)) = view f (length b) ∙ rw q in
         let g : gives n ≡ gives (bytes_for (length (shortest4 (won_of ws)))) = rw v at a in
         let k : n ≡ bytes_for (length (shortest4 (won_of ws))) = cc in
@@ -182,15 +150,15 @@ given ws ms b r ns c n e =
     go : (s : Seen) → seen 4 ws ≡ s → (l : Bool) → ltb (length ms) (length ws) ≡ l
         → gives n ≡ bytes_in (short_in ws ms (length b))
         → Given ws ms b n ns
-    go s v true w a = absurd (let g : gives n ≡ refuses 1 = rw w at a in let z : ◌≡◌ {A = ℕ} 0 1 = cc in omega arith)
-    go misfit v false w a = absurd (let g : gives n ≡ refuses 1 = rw (w, v) at a in let z : ◌≡◌ {A = ℕ} 0 1 = cc in omega arith)
-    go foreign v false w a = absurd (let g : gives n ≡ refuses 2 = rw (w, v) at a in let z : ◌≡◌ {A = ℕ} 0 1 = cc in omega arith)
+    go s v true w a = absurd (let g : gives n ≡ refuses 1 = rw w at a in cc)
+    go misfit v false w a = absurd (let g : gives n ≡ refuses 1 = rw (w, v) at a in cc)
+    go foreign v false w a = absurd (let g : gives n ≡ refuses 2 = rw (w, v) at a in cc)
     go (table A cs) v false w a =
         bool (eqb (held (winners cs) 0 0) 0)
-        (λ q. absurd (let g : gives n ≡ refuses 23 = rw (w, v, q) at a in let z : ◌≡◌ {A = ℕ} 0 1 = cc in omega arith))
+        (λ q. absurd (let g : gives n ≡ refuses 23 = rw (w, v, q) at a in cc))
         (λ q. bool (upto 32 (winners cs))
         (λ u. done (fine_of ws ms A cs v w q u) a)
-        (λ u. absurd (let g : gives n ≡ refuses 24 = rw (w, v, q, u) at a in let z : ◌≡◌ {A = ℕ} 0 1 = cc in omega arith)))
+        (λ u. absurd (let g : gives n ≡ refuses 24 = rw (w, v, q, u) at a in cc)))
 
 module _ {ws ms b : List ℕ} {n : ℕ} {ns : List ℕ} (g : Given ws ms b n ns) where
   abbrev qs : List Route
@@ -217,7 +185,7 @@ module _ {ws ms b : List ℕ} {n : ℕ} {ns : List ℕ} (g : Given ws ms b n ns)
     pub end_room : q < length b
     end_room = omega (arith, w.place, ap length out, bytes, g.fits)
 
-    pub short_done : HasShortened ws ms b (counted.Bytes n) ns (set c q 0)
+    pub short_done : HasShortened ws ms b (Ok n) ns (set c q 0)
     unfolding bytes_of
     short_done =
         let x : Wrote b 0 (written_plainly qs) (q + 1) (set c q 0) =
@@ -238,11 +206,11 @@ plain-length : (rs : List Route) → length (written_plainly rs) ≡ bytes_for (
 unfolding bytes_of
 plain-length rs = length-append (bytes_of rs) (0 ∷ []) ∙ omega (arith, bytes-length rs)
 
-pub front_length : (x : Answer (List Route)) → count_in (bytes_in x) ≡ length (front_in x)
-front_length (gives rs) = sym (plain-length rs)
-front_length (refuses n) = refl
-
-pub front_is : (x : Answer (List Route)) (b c : List ℕ) (m : ℕ) → m ≡ count_in (bytes_in x) → c ≡ left_in x b
-    → take m c ≡ front_in x
-front_is (gives rs) b c m k e = rw e (take_at (written_plainly rs) (drop (bytes_for (length rs)) b) m (plain-length rs ∙ sym k))
-front_is (refuses n) b c m k e = rw k
+pub front_is : (x : Answer (List Route)) (r : Result ℕ Refusal) (b c : List ℕ) → said r ≡ bytes_in x → c ≡ left_in x b
+    → take (result_unwrap_or r 0) c ≡ front_in x
+front_is (gives rs) (Ok n) b c f e =
+    let k : n ≡ bytes_for (length rs) = cc in
+    rw e (take_at (written_plainly rs) (drop (bytes_for (length rs)) b) n (plain-length rs ∙ sym k))
+front_is (gives rs) (Err w) b c f e = cc
+front_is (refuses n) (Ok m) b c f e = cc
+front_is (refuses n) (Err w) b c f e = refl

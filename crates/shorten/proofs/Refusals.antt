@@ -1,25 +1,22 @@
 -- The refusals that come before the buffer's, over plain variables. Assumes nothing.
-use mathlib.Core.Path.{◌≡◌, sym, ap, ◌∙◌}
+use mathlib.Core.Path.{◌≡◌, sym, ◌∙◌}
 use mathlib.Core.Logic.{◌≢◌}
 use mathlib.Core.Bool.{Bool, true, false}
 use mathlib.Core.List.{List}
-use Prim.Native.Nat.{ℕ, ◌+◌, ◌≤◌, ◌<◌}
+use Prim.Native.Nat.{ℕ, ◌+◌, ◌≤◌}
 use native.Mathlib.Omega.{arith}
 use lib.Dec.{eqb, ltb}
 use lib.ListN.{length}
-use borrow.Author.Tests.{eq-eqb, ne_eqb, lt-ltb, le-ltb}
+use borrow.Author.Tests.{eq-eqb, ne_eqb, le-ltb}
 use Rattle.sizes.specs.Sizes.{slot_words, root_slot}
 use Rattle.routes.specs.Route.{held}
-use Rattle.routes.specs.Seen.{gives, refuses}
-use Rattle.candidates.specs.Seen.{Seen, misfit, foreign, table, check_on}
+use Rattle.routes.specs.Seen.{gives, refuses, Counts}
+use Rattle.candidates.specs.Seen.{table, check_on}
 use Rattle.words.specs.Words.{array_count}
 use Rattle.words.specs.Table.{list_of, seen}
 use Rattle.words.specs.TableBut.{Table}
 use Rattle.words.specs.View.{seen-cases}
 use Rattle.writing.specs.Halves.{slot_root}
-use Rattle.audit.specs.declared.Checked.{Checked}
-use Rattle.audit.specs.declared.Checked.TheVariants as checked
-use Rattle.audit.specs.Answer.{check_answer}
 use Rattle.sweep.specs.Walk.{won_at, small_at}
 use Rattle.sweep.specs.Whole.{won_of, default_is, small_whole}
 use Rattle.sweep.specs.Asked.{Stands, Looks}
@@ -31,30 +28,12 @@ pub record Seated (ws : List ℕ) : Type 0 where
   pub right : Table 4 ws
   pub view : seen 4 ws ≡ table (array_count ws) (list_of 4 ws)
 
-module _ (ws : List ℕ) (r : Checked) (told : check_answer r ≡ check_on 32 (seen 4 ws)) where
-  pub check_table : (m a : ℕ) → r ≡ checked.Counts m a → Seated ws
-  check_table m a e =
-      let d : gives (record { routes = m; arrays = a }) ≡ check_on 32 (seen 4 ws) = sym (ap check_answer e) ∙ told in
-      seen-cases 4 ws (omega arith) (omega arith)
-      (λ _ q. absurd (let f : gives (record { routes = m; arrays = a }) ≡ refuses 1 = rw q at d in
-      let z : ◌≡◌ {A = ℕ} 0 1 = cc in omega arith))
-      (λ _ _ q. absurd (let f : gives (record { routes = m; arrays = a }) ≡ refuses 2 = rw q at d in
-      let z : ◌≡◌ {A = ℕ} 0 1 = cc in omega arith))
-      (λ _ _ t q. record { right = t; view = q })
-
-  refusal-seen : (n : ℕ) → r ≡ checked.Refused n → n ≡ unfit_on (seen 4 ws) false
-  refusal-seen n e = go (seen 4 ws) (sym (ap check_answer e) ∙ told)
-    where
-      go : (s : Seen) → refuses n ≡ check_on 32 s → n ≡ unfit_on s false
-      go misfit d = cc
-      go foreign d = cc
-      go (table A cs) d = absurd (let z : ◌≡◌ {A = ℕ} 0 1 = cc in omega arith)
-
-  pub refusal_check : (m n : ℕ) → length ws ≤ m → r ≡ checked.Refused n → n ≡ unfit_on (seen 4 ws) (ltb m (length ws))
-  refusal_check m n h e = rw (le-ltb m (length ws) h) (refusal-seen n e)
-
-pub refusal_less : (s : Seen) (m n : ℕ) → m < n → ◌≡◌ {A = ℕ} 1 (unfit_on s (ltb m n))
-refusal_less s m n h = rw (lt-ltb m n h)
+pub check_table : (ws : List ℕ) (c : Counts) → gives c ≡ check_on 32 (seen 4 ws) → Seated ws
+check_table ws c d =
+    seen-cases 4 ws (omega arith) (omega arith)
+    (λ _ q. absurd (let f : gives c ≡ refuses 1 = rw q at d in cc))
+    (λ _ _ q. absurd (let f : gives c ≡ refuses 2 = rw q at d in cc))
+    (λ _ _ t q. record { right = t; view = q })
 
 -- ---- a table
 

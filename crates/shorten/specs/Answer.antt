@@ -1,6 +1,6 @@
 -- What the two calls for the shortest list answer and leave: by what the words are seen to be, but for the scratch.
 -- Assumes nothing.
-use Rattle.std.specs.Prelude.{◌≡◌, Bool, true, false, cond, List, [], ℕ, eqb, ltb, length}
+use Rattle.std.specs.Prelude.{◌≡◌, Bool, true, false, cond, List, [], ℕ, eqb, ltb, length, Result}
 use Rattle.sizes.specs.Sizes.{root_slot}
 use Rattle.routes.specs.Route.{Route, held}
 use Rattle.routes.specs.Seen.{Answer, gives, refuses}
@@ -8,7 +8,7 @@ use Rattle.candidates.specs.Winners.{winners}
 use Rattle.candidates.specs.Bytes.{written_plainly}
 use Rattle.candidates.specs.Seen.{Seen, misfit, foreign, table}
 use Rattle.words.specs.Table.{seen}
-use Rattle.writing.specs.declared.Counted.{Counted}
+use Rattle.refusals.specs.declared.Refusal.{Refusal}
 use Rattle.writing.specs.Answer.{count_answer}
 use Rattle.shortest.specs.Shortest.{upto}
 use Rattle.shortest.specs.Seen.{short_on, bytes_in, left_in, used}
@@ -31,12 +31,12 @@ abbrev pub scratch_in : Answer (List Route) → List ℕ → List ℕ → List �
 scratch_in x ws ms = cond (used x) (store_at ws 32 root_slot 0 ms) ms
 
 -- the count answers r and leaves the scratch ns
-pub record HasCounted (ws ms : List ℕ) (room : ℕ) (r : Counted) (ns : List ℕ) : Type 0 where
+pub record HasCounted (ws ms : List ℕ) (room : ℕ) (r : Result ℕ Refusal) (ns : List ℕ) : Type 0 where
   pub answer : count_answer r ≡ bytes_in (short_in ws ms room)
   pub scratch : ns ≡ scratch_in (short_in ws ms room) ws ms
 
 -- the list written into the buffer b answers r and leaves the scratch ns and the buffer c
-pub record HasShortened (ws ms b : List ℕ) (r : Counted) (ns c : List ℕ) : Type 0 where
+pub record HasShortened (ws ms b : List ℕ) (r : Result ℕ Refusal) (ns c : List ℕ) : Type 0 where
   pub answer : count_answer r ≡ bytes_in (short_in ws ms (length b))
   pub scratch : ns ≡ scratch_in (short_in ws ms (length b)) ws ms
   pub buffer : c ≡ left_in (short_in ws ms (length b)) b

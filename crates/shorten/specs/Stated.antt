@@ -1,19 +1,18 @@
 -- What is promised of the calls for the shortest list, by their contracts alone: what is written is a shortest list for the
 -- table's winners, and two outcomes that are allowed agree. Assumes nothing.
-use Rattle.std.specs.Prelude.{◌≡◌, refl, ◌≢◌, List, [], ◌++◌, ℕ, ltb, length, drop}
-use Rattle.std.proofs.Common.{sym, ap, ◌∙◌, arith}
+use Rattle.std.specs.Prelude.{◌≡◌, refl, ◌≢◌, List, [], ◌++◌, ℕ, ltb, length, drop, Result, Ok}
+use Rattle.std.proofs.Common.{sym, ◌∙◌, arith}
 use Rattle.routes.specs.Route.{Route}
 use Rattle.routes.specs.Seen.{Answer, gives, refuses}
-use Rattle.laws.specs.Given.{given_one, refused_one, given_refused}
+use Rattle.laws.specs.Given.{given_one, given_refused}
 use Rattle.candidates.specs.Winners.{winners}
 use Rattle.candidates.specs.Bytes.{written_plainly}
 use Rattle.rivals.specs.Won.{winners_list}
 use Rattle.words.specs.Table.{list_of, seen}
 use Rattle.words.specs.Listed.{table_list}
 use Rattle.words.specs.View.{table_of}
-use Rattle.writing.specs.declared.Counted.{Counted}
-use Rattle.writing.specs.declared.Counted.TheVariants.{Bytes, Refused}
-use Rattle.writing.specs.Answer.{count_answer}
+use Rattle.refusals.specs.declared.Refusal.{Refusal}
+use Rattle.refusals.specs.Number.{said_one}
 use Rattle.shortest.specs.Shortest.{IsShortest}
 use Rattle.shortest.specs.Seen.{bytes_for, bytes_in, left_in}
 use Rattle.shortest.specs.Answered.{table_shortest}
@@ -37,7 +36,7 @@ in_shortest ws ms room qs e =
     given_shortest (winners (list_of 4 ws)) room qs (winners_list 32 (list_of 4 ws) (table_list 4 ws i.table))
     (rw i.list at f))
 
-pub shortened_shortest : (ws ms b : List ℕ) (n : ℕ) (ns c : List ℕ) → HasShortened ws ms b (Bytes n) ns c
+pub shortened_shortest : (ws ms b : List ℕ) (n : ℕ) (ns c : List ℕ) → HasShortened ws ms b (Ok n) ns c
     → WroteShortest ws b n c
 shortened_shortest ws ms b n ns c s = go (short_in ws ms (length b)) refl s.answer s.buffer
   where
@@ -63,20 +62,14 @@ part-shortest ws ms room x e n = go (short_in ws ms room) refl e
 
 -- ---- two outcomes that are allowed agree
 
-counted_one : (r t : Counted) → count_answer r ≡ count_answer t → r ≡ t
-counted_one (Bytes m) (Bytes n) e = ap Bytes (given_one e)
-counted_one (Bytes m) (Refused n) e = absurd (given_refused e)
-counted_one (Refused m) (Bytes n) e = absurd (given_refused (sym e))
-counted_one (Refused m) (Refused n) e = ap Refused (refused_one e)
-
-pub counted_sharp : (ws ms : List ℕ) (room : ℕ) (r t : Counted) (ns os : List ℕ) → HasCounted ws ms room r ns
+pub counted_sharp : (ws ms : List ℕ) (room : ℕ) (r t : Result ℕ Refusal) (ns os : List ℕ) → HasCounted ws ms room r ns
     → HasCounted ws ms room t os → (r ≡ t) × (ns ≡ os)
-counted_sharp ws ms room r t ns os p q = (counted_one r t (p.answer ∙ sym q.answer), p.scratch ∙ sym q.scratch)
+counted_sharp ws ms room r t ns os p q = (said_one r t (p.answer ∙ sym q.answer), p.scratch ∙ sym q.scratch)
 
-pub shortened_sharp : (ws ms b : List ℕ) (r t : Counted) (ns os c d : List ℕ) → HasShortened ws ms b r ns c
+pub shortened_sharp : (ws ms b : List ℕ) (r t : Result ℕ Refusal) (ns os c d : List ℕ) → HasShortened ws ms b r ns c
     → HasShortened ws ms b t os d → (r ≡ t) × (ns ≡ os) × (c ≡ d)
 shortened_sharp ws ms b r t ns os c d p q = (
-  counted_one r t (p.answer ∙ sym q.answer),
+  said_one r t (p.answer ∙ sym q.answer),
   p.scratch ∙ sym q.scratch,
   p.buffer ∙ sym q.buffer,
 )

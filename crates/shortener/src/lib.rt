@@ -4,8 +4,7 @@
 ghost use Rattle.std.specs.Prelude.{◌≡◌};
 ghost use Rattle.shortener.specs.Face.{HasWritten};
 
-use answers::{Written, size};
-use writing::Counted;
+use answers::Written;
 
 // The version of the table's words and of this call, in the name: that of `toggleash`.
 pub fn toggleash_shortest_version_6() -> u32
@@ -19,6 +18,5 @@ pub fn toggleash_shortest(words: &[u32], scratch: &mut [u32], buffer: &mut [u8])
     ensures { HasWritten words.now scratch.old buffer.old
         result scratch.new buffer.new }
 {
-    let answer: Counted = shorten::shorten(words, scratch, buffer);
-    size(answer)
+    shorten::shorten(words, scratch, buffer).into()
 }

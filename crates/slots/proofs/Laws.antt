@@ -8,7 +8,7 @@ use native.Mathlib.Omega.{arith}
 use native.Mathlib.Numerals.{add-one}
 use lib.Bits.{bit_or}
 use lib.Dec.{ltb, eqb}
-use lib.ListN.{length, get_or}
+use lib.ListN.{get_or}
 use borrow.Author.Tests.{eq-eqb, ne_eqb, le-leb}
 use Rattle.logic.specs.Cases.{bool, same, less, most}
 use Rattle.logic.specs.Every.{all_b}
@@ -17,14 +17,12 @@ use Rattle.logic.specs.Ors.{or_none}
 use Rattle.sizes.specs.Sizes.{slot_words, slot_at, later_slots, slot_stride, slot_strides, hop_bound}
 use Rattle.slots.specs.Zeros.{zero_at}
 use Rattle.slots.specs.Taken.{taken}
-use Rattle.slots.specs.Word.{IsFeed, hop_in, right_word_b}
-use Rattle.slots.specs.Winner.{lower, winner4, won_hop}
+use Rattle.slots.specs.Word.{right_word_b}
+use Rattle.slots.specs.Winner.{lower}
 use Rattle.slots.specs.Slot.{free_slot_b, right_slot_b}
-use Rattle.slots.specs.Page.{words_at, page_with, each_at}
-use Rattle.slots.specs.Stored.{HasStored, after_stored}
+use Rattle.slots.specs.Page.{words_at, each_at}
 use Rattle.slots.specs.Count.{slot_word, candidates_to, words_count, few_candidates, free_candidates}
 use Rattle.slots.specs.Check.{bare_slots_b, bare_words}
-use Rattle.slots.specs.declared.slot.Hops.{Hops}
 
 -- one word more is 0
 pub or_more : (ws : List ℕ) (from i m : ℕ) → eqb m 0 ≡ all_b (zero_at ws from) i
@@ -86,16 +84,6 @@ faults_told ws i a b c d p q r s =
     rw (or_none a (bit_or b (bit_or c d)), or_none b (bit_or c d), or_none c d, p, q, r, s)
     (each_at (λ a b c d. right_word_b a && (right_word_b b && (right_word_b c && right_word_b d))) ws i)
 
-pub hop_told : (ws : List ℕ) (i w h : ℕ)
-    → w ≡ winner4 (get_or ws i 0) (get_or ws (i + 1) 0) (get_or ws (i + 2) 0) (get_or ws (i + 3) 0) → h ≡ hop_in w
-    → h ≡ won_hop (words_at ws i)
-hop_told ws i w h p q = q ∙ ap hop_in (p ∙ each_at winner4 ws i)
-
-pub stored_told : (ws vs : List ℕ) (i f w : ℕ) (r : Hops) → i + slot_words ≤ length ws → IsFeed f
-    → vs ≡ page_with ws i f w → r.before ≡ won_hop (words_at ws i) → r.after ≡ won_hop (words_at vs i)
-    → HasStored ws vs i f w r
-stored_told ws vs i f w r h p e b a = record { page = e; before = b; after = a ∙ after_stored ws vs i f w h p e }
-
 -- ---- all slots of a page
 
 -- the words of slot_stride slots at a time
@@ -149,10 +137,6 @@ module _ (ws : List ℕ) (from k : ℕ) where
   count_done n m e w =
       let d : slot_words * from + k ≡ slot_words * (from + n) = omega arith in
       omega (arith, e, ap (taken (slot_word ws)) d, words_count ws from, words_count ws (from + n))
-
-pub count_none : (ws : List ℕ) (from : ℕ)
-    → taken (slot_word ws) (slot_words * from) + 0 ≡ taken (slot_word ws) (slot_words * from + 0)
-count_none ws from = let e : slot_words * from + 0 ≡ slot_words * from = omega arith in rw e (omega arith)
 
 -- ---- rows of slots
 

@@ -1,6 +1,6 @@
 -- The winning hops of a page's slots, read into a list, and whether the slots are right. Assumes nothing.
 use Rattle.std.specs.Prelude.{◌≡◌, refl, ◌≢◌, Bool, true, false, cond, ◌&&◌, List, ℕ, zero, suc, ◌+◌, ◌-◌, ◌*◌, ◌≤◌, ◌<◌, eqb}
-use Rattle.std.specs.Prelude.{length, get_or, set}
+use Rattle.std.specs.Prelude.{Option, Some, None, length, get_or, set}
 use Rattle.std.proofs.Common.{sym, ◌∙◌, arith, add-one, length-set, eqb-true, eq-eqb, ne_eqb, get_or-set_same, get_or-set_other}
 use Rattle.std.specs.Int.Bits.{bit_or}
 use Rattle.logic.specs.Cases.{same, less}
@@ -96,21 +96,22 @@ read_right ws c m r = r.right
 -- ---- with the number of candidates
 
 -- no number of candidates
-abbrev pub uncounted : ℕ
-uncounted = 4294967295
+abbrev pub uncounted : Option ℕ
+uncounted = None
 
 -- a number of candidates where a test is passed
-abbrev pub counted : Bool → ℕ → ℕ
-counted b n = cond b n uncounted
+abbrev pub counted : Bool → ℕ → Option ℕ
+counted b n = cond b (Some n) uncounted
 
 -- what reading a page leaves and answers
-pub record HasRead (ws c : List ℕ) (r : ℕ) : Type 0 where
+pub record HasRead (ws c : List ℕ) (r : Option ℕ) : Type 0 where
   pub won : Won ws c
   pub count : r ≡ counted (right_slots_b ws) (candidates_to ws last_slot)
 
-pub read_count : (ws c : List ℕ) (m n : ℕ) → Read ws c m last_slot → n ≡ candidates_to ws last_slot → m ≡ 0 → HasRead ws c n
+pub read_count : (ws c : List ℕ) (m n : ℕ) → Read ws c m last_slot → n ≡ candidates_to ws last_slot → m ≡ 0
+    → HasRead ws c (Some n)
 read_count ws c m n r e z =
-    record { won = read_won ws c m r; count = rw (← (read_right ws c m r), eq-eqb m 0 z) e }
+    record { won = read_won ws c m r; count = rw (← (read_right ws c m r), eq-eqb m 0 z, e) }
 
 pub read_uncounted : (ws c : List ℕ) (m : ℕ) → Read ws c m last_slot → m ≢ 0 → HasRead ws c uncounted
 read_uncounted ws c m r z =

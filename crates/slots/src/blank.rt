@@ -9,10 +9,8 @@ pub fn zeros(words: &[u32], from: usize, n: usize) -> bool
     ensures { result ≡ all_b (zero_at words.now from) n }
 {
     let mut any: u32 = 0;
-    let mut i = 0;
-    while i < n {
-        any = any | words[from + i];
-        i += 1;
+    for i in 0..n {
+        any |= words[from + i];
     }
     any == 0
 }

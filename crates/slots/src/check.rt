@@ -6,16 +6,16 @@ ghost use Rattle.slots.specs.Check.{bare_slots_b};
 ghost use Rattle.slots.specs.Read.{Read, HasRead};
 
 use super::blank::zeros;
-use super::slot::{faults, hop_flat};
-use sizes::{LAST_SLOT, SLOT_END, SLOT_STRIDES, SLOT_WORDS};
+use super::slot::{faults, hop};
+use sizes::{ARRAY_WORDS, SLOT_END, SLOT_STRIDES, SLOT_WORDS};
 
-// Told instead of a number of candidates where the words are not right.
-pub const UNCOUNTED: u32 = 4294967295;
 // The first word of the slots past the first.
 const LATER_AT: usize = 8;
 // The words of as many slots as the test for a bare array looks at at a time.
 const STRIDE_WORDS: usize = 136;
-// Slots are read so many at a time, which are so many words, and before the rows of them these.
+// Slots are read in so many rows of so many slots, which are so many words, and before the rows these.
+const ROWS: usize = 15;
+
 const ROW_SLOTS: usize = 32;
 
 const ROW_WORDS: usize = 128;
@@ -24,21 +24,27 @@ const FIRST_SLOTS: usize = 31;
 
 // The winning hops of the slots from + 1 .. to are put into `won`; 0 where these and those before them, of which `bad` tells, are
 // right.
-fn read_some(page: &[u32], won: &mut [u32; SLOT_END], bad: u32, from: usize, to: usize) -> u32
-    requires { (slot_at slot_end ≤ length page.now) × (from ≤ to) × (to ≤ last_slot) × Read page.now won.old bad from }
+fn read_some(
+    page: &[u32; ARRAY_WORDS],
+    won: &mut [u32; SLOT_END],
+    bad: u32,
+    from: usize,
+    to: usize,
+) -> u32
+    requires { (from ≤ to) × (to ≤ last_slot) × Read page.now won.old bad from }
     ensures { Read page.now won.new result to }
 {
     let mut any = bad;
     for s in from..to {
-        any = any | faults(page, SLOT_WORDS * (s + 1));
-        won[s + 1] = hop_flat(page, SLOT_WORDS * (s + 1));
+        any |= faults(page, SLOT_WORDS * (s + 1));
+        won[s + 1] = hop::<true>(page, SLOT_WORDS * (s + 1));
     }
     any
 }
 
 // How many candidates the slots from + 1 .. from + n have. No early way out: so the loop reads several words at once.
-fn candidates(page: &[u32], from: usize, n: usize) -> u32
-    requires { (slot_at slot_end ≤ length page.now) × (from + n ≤ last_slot) }
+fn candidates(page: &[u32; ARRAY_WORDS], from: usize, n: usize) -> u32
+    requires { from + n ≤ last_slot }
     ensures { (candidates_to page.now from + result ≡ candidates_to page.now (from + n))
         × (result ≤ slot_words * n) }
 {
@@ -52,29 +58,26 @@ fn candidates(page: &[u32], from: usize, n: usize) -> u32
     m
 }
 
-// The winning hop of each slot is put into `won`. The number of candidates where every slot is right, else UNCOUNTED. Where many
-// slots in a row are free it passes them.
-pub fn read(page: &[u32], won: &mut [u32; SLOT_END]) -> u32
-    requires { (slot_at slot_end ≤ length page.now) × Read page.now won.old 0 0 }
+// The winning hop of each slot is put into `won`. The number of candidates where every slot is right, else none. Where many slots
+// in a row are free it passes them.
+pub fn read(page: &[u32; ARRAY_WORDS], won: &mut [u32; SLOT_END]) -> Option<u32>
+    requires { Read page.now won.old 0 0 }
     ensures { HasRead page.now won.new result }
 {
     let mut bad = read_some(page, won, 0, 0, FIRST_SLOTS);
     let mut m = candidates(page, 0, FIRST_SLOTS);
-    let mut s = FIRST_SLOTS;
-    while s < LAST_SLOT {
-        let next = s + ROW_SLOTS;
+    for row in 0..ROWS {
+        let s = FIRST_SLOTS + ROW_SLOTS * row;
         if !zeros(page, SLOT_WORDS * (s + 1), ROW_WORDS) {
-            bad = read_some(page, won, bad, s, next);
+            bad = read_some(page, won, bad, s, s + ROW_SLOTS);
             m += candidates(page, s, ROW_SLOTS);
         }
-        s = next;
     }
-    if bad == 0 { m } else { UNCOUNTED }
+    if bad == 0 { Some(m) } else { None }
 }
 
 // No slot but the first has a candidate: some slots at a time, as a crowded array has one soon and a bare one none at all.
-pub fn bare(page: &[u32]) -> bool
-    requires { slot_at slot_end ≤ length page.now }
+pub fn bare(page: &[u32; ARRAY_WORDS]) -> bool
     ensures { result ≡ bare_slots_b page.now }
 {
     for g in 0..SLOT_STRIDES {

@@ -1,4 +1,6 @@
 // The four words of a slot, the first of them at word i of a page: feed f's is at i + f - 1.
+// kept: a page and a place: of four words that std's `first_chunk_mut` lends, `store` cannot prove what the page ends as.
+// kept: a feed as a number, as the calls have it, with `IsFeed` as the one word that a contract says of it.
 ghost use Rattle.std.specs.Prelude.{◌≡◌, ◌+◌, ◌<◌, ◌≤◌, eqb, length};
 ghost use Rattle.sizes.specs.Sizes.{slot_words, slot_at, hop_bound};
 ghost use Rattle.slots.specs.Word.{IsFeed};
@@ -11,58 +13,54 @@ use super::word::{fault, hop_in};
 use sizes::{HOP_BOUND, SLOT_WORDS};
 
 // The winning hops of a slot, before and after a word of it was set; 0 for none.
-#[derive(Drop)]
+#[derive(Clone, Copy, Debug, PartialEq, Eq)]
 pub struct Hops {
     pub before: u32,
     pub after: u32,
 }
 
-// Of a word and one of a higher feed, the one that wins. By tests: an update looks at few slots, and most words are 0.
-fn lower(x: u32, y: u32) -> u32
+// Of a word and one of a higher feed, the one that wins: by tests, as an update looks at few slots and most words are 0, or FLAT,
+// by one choice, so that a loop over slots has no branch.
+fn lower<const FLAT: bool>(x: u32, y: u32) -> u32
     ensures { result ≡ lowerOf x y }
 {
+    if FLAT {
+        return if (y != 0) & ((x == 0) | (y / HOP_BOUND < x / HOP_BOUND)) {
+            y
+        } else {
+            x
+        };
+    }
     if y == 0 {
         return x;
     }
     if x == 0 {
         return y;
     }
-    if y / HOP_BOUND < x / HOP_BOUND {
-        return y;
-    }
-    x
-}
-
-// The same by one choice, so that a loop over slots has no branch.
-fn lower_flat(x: u32, y: u32) -> u32
-    ensures { result ≡ lowerOf x y }
-{
-    if (y != 0) & ((x == 0) | (y / HOP_BOUND < x / HOP_BOUND)) {
-        y
-    } else {
-        x
-    }
+    if y / HOP_BOUND < x / HOP_BOUND { y } else { x }
 }
 
 // Of the words of feeds 1 to 4, the one that wins.
-pub fn winner4(a: u32, b: u32, c: u32, d: u32) -> u32
+fn winner4<const FLAT: bool>(a: u32, b: u32, c: u32, d: u32) -> u32
     ensures { result ≡ winnerOf4 a b c d }
 {
-    lower(a, lower(b, lower(c, d)))
+    lower::<FLAT>(a, lower::<FLAT>(b, lower::<FLAT>(c, d)))
 }
 
-fn winner_flat(a: u32, b: u32, c: u32, d: u32) -> u32
-    ensures { result ≡ winnerOf4 a b c d }
+// The winning hop of a slot, 0 for none; FLAT in a loop over slots.
+pub(crate) fn hop<const FLAT: bool>(page: &[u32], i: usize) -> u32
+    requires { i + slot_words ≤ length page.now }
+    ensures { (result ≡ won_hop (words_at page.now i)) × (result < hop_bound) }
 {
-    lower_flat(a, lower_flat(b, lower_flat(c, d)))
+    hop_in(winner4::<FLAT>(page[i], page[i + 1], page[i + 2], page[i + 3]))
 }
 
-// The winning hop of a slot, 0 for none.
+// The same of one slot.
 pub fn hop_at(page: &[u32], i: usize) -> u32
     requires { i + slot_words ≤ length page.now }
     ensures { (result ≡ won_hop (words_at page.now i)) × (result < hop_bound) }
 {
-    hop_in(winner4(page[i], page[i + 1], page[i + 2], page[i + 3]))
+    hop::<false>(page, i)
 }
 
 // The same of slot s.
@@ -71,14 +69,6 @@ pub fn hop_of(page: &[u32], s: usize) -> u32
     ensures { (result ≡ won_hop (words_at page.now (slot_at s))) × (result < hop_bound) }
 {
     hop_at(page, SLOT_WORDS * s)
-}
-
-// The same for a loop over slots.
-pub fn hop_flat(page: &[u32], i: usize) -> u32
-    requires { i + slot_words ≤ length page.now }
-    ensures { (result ≡ won_hop (words_at page.now i)) × (result < hop_bound) }
-{
-    hop_in(winner_flat(page[i], page[i + 1], page[i + 2], page[i + 3]))
 }
 
 // No feed has a candidate there.
@@ -118,8 +108,8 @@ pub fn store(page: &mut [u32], i: usize, feed: usize, word: u32) -> Hops
     requires { (i + slot_words ≤ length page.old) × IsFeed feed }
     ensures { HasStored page.old page.new i feed word result }
 {
-    let before = hop_at(&page[..], i);
+    let before = hop_at(page, i);
     set_word(page, i, feed, word);
-    let after = hop_at(&page[..], i);
+    let after = hop_at(page, i);
     Hops { before, after }
 }

@@ -31,6 +31,7 @@ pub fn hop_in(word: u32) -> u32
 }
 
 // 0 where the word is 0 or has a hop from 1 to 65,535 and a preference up to 255.
+// kept: a number, as it is one choice, and those of many words are joined by or; a Boolean takes three tests of each word.
 pub fn fault(word: u32) -> u32
     ensures { eqb result 0 ≡ right_word_b word }
 {

@@ -65,8 +65,8 @@ module _ {ws : List ℕ} {p bits h : ℕ} {ms : List ℕ} (d : KeepsSets ws p bi
     pub ask-single : (1 ≤ hop) × (hop ≤ 32)
     ask-single = rw hop_is (d.some, else_low 32 (won_at ws p) h (d.small p d.v bits d.stands) d.low)
 
-    pub leaf_done : (low m : ℕ) → low ≡ low_of ws bits p → low ≡ 0 → m ≡ only hop → HasKept ws p bits h ms m 0 (set ms p m)
-    leaf_done low m f z g = rw (g, hop_is) (kept_leaf ws p bits h ms (sym z ∙ f))
+    pub leaf_done : (m : ℕ) → low_of ws bits p ≡ 0 → m ≡ only hop → HasKept ws p bits h ms m 0 (set ms p m)
+    leaf_done m z g = rw (g, hop_is) (kept_leaf ws p bits h ms (sym z))
 
 -- a prefix whose lower half stands in the slot low
 pub record Parted (ws : List ℕ) (p bits h : ℕ) (ms : List ℕ) (own hop low : ℕ) : Type 0 where

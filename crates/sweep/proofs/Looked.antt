@@ -32,9 +32,9 @@ module _ (ws : List ℕ) (bits p : ℕ) (t : total_in ws p ≢ 0) (own : ℕ) (o
       go zero = rw (full, lt-leb (won_at ws p) 32 (omega arith))
       go (suc d) = rw (full, lt-leb (won_at ws p) 32 (omega arith))
 
-  pub look_leaf : (low : ℕ) → own ≤ 32 → low ≡ low_of ws bits p → low ≡ 0 → true ≡ small_at ws bits p
+  pub look_leaf : own ≤ 32 → low_of ws bits p ≡ 0 → true ≡ small_at ws bits p
   unfolding small_at
-  look_leaf low h e z = go bits (sym e ∙ z)
+  look_leaf h = go bits
     where
       go : (n : ℕ) → low_of ws n p ≡ 0 → true ≡ small_at ws n p
       go zero q = rw (full, le-leb (won_at ws p) 32 (omega arith))

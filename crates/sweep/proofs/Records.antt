@@ -6,10 +6,10 @@ use mathlib.Core.List.{List, [], ◌∷◌, ◌++◌, append-nil, append_assoc}
 use Prim.Native.Nat.{ℕ, zero, suc, ◌+◌, ◌-◌, ◌*◌, ◌/◌, ◌%◌, ◌^◌, ◌≤◌, ◌<◌}
 use native.Mathlib.Omega.{arith}
 use lib.Dec.{eqb}
-use lib.ListN.{length, get_or, set, length-append}
+use lib.ListN.{length, get_or, length-append}
 use lib.Pow.{pow_mono, shl_lt}
-use lib.Seq.{sets}
 use borrow.Author.Tests.{eq-eqb, ne_eqb}
+use Rattle.std.specs.Int.{w32, to_be_bytes}
 use Rattle.numbers.specs.Wrote.{Wrote, wrote_none, wrote_two}
 use Rattle.numbers.specs.Digits.{one, two, four}
 use Rattle.numbers.specs.Back.{four-digits}
@@ -28,6 +28,18 @@ use Rattle.sweep.proofs.Seats.{bits_some, seat_room, seat_low, seat_high}
 use Rattle.sweep.proofs.Kept.{else_low}
 
 -- ---- put
+
+-- the eight bytes of a record of kind 1
+abbrev record_of : List ℕ → ℕ → List ℕ → List ℕ
+record_of x l y =
+    1 ∷ get_or x 0 0 ∷ get_or x 1 0 ∷ get_or x 2 0 ∷ get_or x 3 0 ∷ (l % 256) ∷ get_or y 2 0 ∷ get_or y 3 0 ∷ []
+
+record_is : (n l hop : ℕ) → record_of (to_be_bytes w32 n) l (to_be_bytes w32 hop) ≡ 1 ∷ (four n ++ (one l ++ two hop))
+record_is n l hop =
+    let a : n / 65536 / 256 % 256 ≡ n / 16777216 % 256 = omega arith in
+    let b : n % 65536 / 256 % 256 ≡ n / 256 % 256 = omega arith in
+    let c : n % 65536 % 256 ≡ n % 256 = omega arith in
+    rw (a, b, c)
 
 own_none : (bits v hop : ℕ) → hop ≡ 0 → bytes_own bits v hop ≡ []
 unfolding bytes_own bytes_of
@@ -54,19 +66,9 @@ module _ {hop v bits : ℕ} {b : List ℕ} {at : ℕ} (p : Puts hop v bits b at)
     pub put_room : at + 8 ≤ length b
     put_room = omega (arith, p.room, ap length own-bytes)
 
-    -- kind, address, length and hop, one after the other
-    pub put_some : (a : ℕ) → a ≡ v * 2 ^ bits → (c d e : List ℕ) → c ≡ sets (set b at 1) (at + 1) (two (a / 65536))
-        → d ≡ sets c (at + 3) (two (a % 65536)) → e ≡ sets (set d (at + 5) ((32 - bits) % 256)) (at + 6) (two hop)
-        → Wrote b at (bytes_own bits v hop) (at + 8) e
-    put_some a ea c d e ec ed ee =
-        let k : Wrote b at (1 ∷ []) (at + 1) (set b at 1) = record { place = refl; list = refl } in
-        let x : Wrote (set b at 1) (at + 1) (two (a / 65536)) (at + 3) c = record { place = omega arith; list = ec } in
-        let y : Wrote c (at + 3) (two (a % 65536)) (at + 5) d = record { place = omega arith; list = ed } in
-        let l : Wrote d (at + 5) (one (32 - bits)) (at + 6) (set d (at + 5) ((32 - bits) % 256)) =
-        record { place = omega arith; list = refl } in
-        let h : Wrote (set d (at + 5) ((32 - bits) % 256)) (at + 6) (two hop) (at + 8) e =
-        record { place = omega arith; list = ee } in
-        rw (own-bytes, ← ea) (wrote_two k (wrote_two (wrote_two x y) (wrote_two l h)))
+    pub put_some : (a : ℕ) → a ≡ v * 2 ^ bits → {x y c : List ℕ} {q : ℕ} → x ≡ to_be_bytes w32 a → y ≡ to_be_bytes w32 hop
+        → Wrote b at (record_of x (32 - bits) y) q c → Wrote b at (bytes_own bits v hop) q c
+    put_some a ea ex ey w = rw (own-bytes, ← ea, ← (record_is a (32 - bits) hop)) (rw (ex, ey) at w)
 
 -- ---- put_routes
 
@@ -153,9 +155,9 @@ module _ {ws ms : List ℕ} {p v bits h : ℕ} {b : List ℕ} {at : ℕ} (d : Pu
         → Wrote b at (bytes_of (routes_at ws ms bits p v h)) q c
     part_empty z = part_end (rest_empty ws ms bits p v (under r h) z)
 
-    pub part_leaf : {c : List ℕ} {q low : ℕ} → total_in ws p ≢ 0 → low ≡ low_of ws bits p → low ≡ 0
+    pub part_leaf : {c : List ℕ} {q : ℕ} → total_in ws p ≢ 0 → low_of ws bits p ≡ 0
         → Wrote b at (bytes_own bits v r) q c → Wrote b at (bytes_of (routes_at ws ms bits p v h)) q c
-    part_leaf t f z = part_end (rest_none ws ms bits p v (under r h) t (sym f ∙ z))
+    part_leaf t z = part_end (rest_none ws ms bits p v (under r h) t z)
 
 -- a prefix with the route r whose lower half stands in the slot low, with g from above
 pub record Halved (ws ms : List ℕ) (p v bits h : ℕ) (b : List ℕ) (at r low g : ℕ) : Type 0 where

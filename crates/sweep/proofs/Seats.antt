@@ -7,7 +7,7 @@ use native.Mathlib.Omega.{arith}
 use lib.ListN.{length}
 use Rattle.sizes.specs.Sizes.{slot_words}
 use Rattle.words.specs.Half.{Within, half_of}
-use Rattle.writing.specs.Halves.{slot_number, slot_inside}
+use Rattle.writing.specs.Halves.{slot_some, slot_number, slot_inside}
 use Rattle.sweep.specs.Walk.{low_of}
 use Rattle.sweep.specs.Slot.{slot_lower, slot_upper}
 use Rattle.sweep.specs.Stored.{slot_room}
@@ -23,6 +23,10 @@ module _ {ws : List ℕ} {p v bits : ℕ} (s : Stands ws p v bits) where
     slot = slot_number 4 ws s.table p v (32 - bits) s.slot;
     array = slot_inside 4 ws s.table p v (32 - bits) s.slot;
   }
+
+  -- it is not the words' first
+  pub seat_some : p ≢ 0
+  seat_some = slot_some 4 ws s.table p v (32 - bits) s.slot
 
   -- the slot's words are all there
   pub seat_room : p + slot_words ≤ length ws

@@ -45,10 +45,10 @@ module _ {ws : List ℕ} {p bits : ℕ} {ms : List ℕ} (d : Spreads ws p bits m
   pub spread_room : p < length ms
   spread_room = omega (arith, spread_inside, d.size)
 
-  module _ (low m : ℕ) (e : low ≡ low_of ws bits p) where
-    pub spread_leaf : low ≡ 0 → set ms p m ≡ spread_at ws bits p m ms
-    spread_leaf z = leaf ws bits p m ms (sym e ∙ z)
+  pub spread_leaf : (m : ℕ) → low_of ws bits p ≡ 0 → set ms p m ≡ spread_at ws bits p m ms
+  spread_leaf m = leaf ws bits p m ms
 
+  module _ (low m : ℕ) (e : low ≡ low_of ws bits p) where
     module _ (n : low ≢ 0) where
       pub spread_rest : 1 ≤ bits
       spread_rest = (bits_some ws bits p low e n).0
@@ -70,9 +70,6 @@ module _ {ws : List ℕ} {p bits : ℕ} {ms : List ℕ} (d : Spreads ws p bits m
 -- ---- keep_sets, where the total is 0
 
 module _ {ws : List ℕ} {p bits h : ℕ} {ms : List ℕ} (d : KeepsSets ws p bits h ms) where
-  pub ask_spread : Spreads ws p bits ms
-  ask_spread = record { v = d.v; stands = d.stands; size = d.size }
-
   module _ (z : total_in ws p ≡ 0) where
     whole : 32 - bits + bits ≡ 32
     whole = omega (arith, d.stands.most)

@@ -1,39 +1,19 @@
 -- The steps on sets of hops, over plain variables. Assumes nothing.
-use mathlib.Core.Path.{◌≡◌, refl, ◌∙◌}
+use Rattle.std.specs.Prelude.{Option, Some, None, MatchOption}
+use Rattle.logic.specs.Nonzero.{nonzero, nonzero_some, nonzero_none}
+use mathlib.Core.Path.{◌≡◌, refl, sym, ◌∙◌}
 use mathlib.Core.Logic.{◌≢◌}
 use mathlib.Core.Bool.{true, false}
 use mathlib.Core.List.{List}
-use Prim.Native.Nat.{ℕ, zero, suc, ◌+◌, ◌-◌, ◌*◌, ◌/◌, ◌%◌, ◌^◌, ◌≤◌, ◌<◌}
+use Prim.Native.Nat.{ℕ, zero, suc, ◌+◌, ◌-◌, ◌/◌, ◌%◌, ◌^◌, ◌≤◌, ◌<◌}
 use native.Mathlib.Omega.{arith}
-use lib.Bits.{bit_and, bit_or}
 use lib.Count.{count_trailing_zeros, trailing_le}
-use lib.Pow.{pow_mono}
 use borrow.Author.Tests.{eq-eqb, ne_eqb}
 use Rattle.logic.specs.Cases.{bool}
 use Rattle.words.specs.Half.{half_of}
-use Rattle.shortest.specs.HopSet.{has, only, has_zero, has_shr, has_bound}
-use Rattle.shortest.specs.Chosen.{meet, pick, under}
-use Rattle.shortest.specs.Inside.{apart}
+use Rattle.shortest.specs.HopSet.{has, has_zero, has_shr, has_bound}
+use Rattle.shortest.specs.Chosen.{pick}
 use Rattle.sweep.specs.Walk.{low_of}
-
-pub under-own : (own above : ℕ) → own ≢ 0 → own ≡ under own above
-under-own zero above n = absurd (n refl)
-under-own (suc h) above n = refl
-
-pub single_is : (h : ℕ) → h ≤ 32 → 1 * 2 ^ (h - 1) % 4294967296 ≡ only h
-single_is h b = omega (arith, pow_mono {i = h - 1} {j = 31} (omega arith))
-
-pub join_apart : (x y : ℕ) → bit_and x y ≡ 0 → bit_or x y ≡ meet x y
-join_apart x y e = rw (eq-eqb (bit_and x y) 0 e)
-
-pub join-both : (x y : ℕ) → bit_and x y ≢ 0 → bit_and x y ≡ meet x y
-join-both x y n = rw (ne_eqb (bit_and x y) 0 n)
-
-pub price_apart : (x y : ℕ) → bit_and x y ≡ 0 → ◌≡◌ {A = ℕ} 1 (apart x y)
-price_apart x y e = rw (eq-eqb (bit_and x y) 0 e)
-
-pub price_both : (x y : ℕ) → bit_and x y ≢ 0 → ◌≡◌ {A = ℕ} 0 (apart x y)
-price_both x y n = rw (ne_eqb (bit_and x y) 0 n)
 
 -- ---- choose
 
@@ -61,6 +41,9 @@ choose_lowest m h n e = lowest-pick m h (has_shr m h (omega arith) ∙ ne_eqb (m
 
 -- ---- lower
 
-pub lower_half : (ws : List ℕ) (bits p r : ℕ) → bits ≢ 0 → r ≡ half_of ws p → r ≡ low_of ws bits p
+pub lower_half : (ws : List ℕ) (bits p : ℕ) (r : Option ℕ) → bits ≢ 0 → r ≡ nonzero (half_of ws p)
+    → MatchOption r (low_of ws bits p ≡ 0) (λ low. (low ≡ low_of ws bits p) × (low ≢ 0))
 lower_half ws zero p r n e = absurd (n refl)
-lower_half ws (suc d) p r n e = e
+lower_half ws (suc d) p None n e = nonzero_none (half_of ws p) (sym e)
+lower_half ws (suc d) p (Some x) n e =
+    let k = nonzero_some (half_of ws p) x (sym e) in (sym k.0, λ z. k.1 (k.0 ∙ z))

@@ -7,6 +7,7 @@ use super::half::lower;
 use super::set::{choose, under};
 use sizes::SLOT_WORDS;
 use words::total::total_in;
+use writing::put_all;
 
 // The record of the prefix v, with some bits below it, at `at`, unless the hop is 0; returns the place after it.
 fn put(hop: u32, v: usize, bits: usize, buffer: &mut [u8], at: usize) -> usize
@@ -17,12 +18,10 @@ fn put(hop: u32, v: usize, bits: usize, buffer: &mut [u8], at: usize) -> usize
         return at;
     }
     let address = (v << bits) as u32;
-    buffer[at] = 1;
-    numbers::put_two(buffer, at + 1, address / 65536);
-    numbers::put_two(buffer, at + 3, address % 65536);
-    buffer[at + 5] = ((32 - bits) % 256) as u8;
-    numbers::put_two(buffer, at + 6, hop);
-    at + 8
+    let [a, b, c, d] = address.to_be_bytes();
+    let [.., high, low] = hop.to_be_bytes();
+    let record = [1, a, b, c, d, ((32 - bits) % 256) as u8, high, low];
+    put_all(&record, buffer, at)
 }
 
 // The records of the prefix v in `slot`, with some bits below it, and of all below it, where a hop comes from above; returns the
@@ -46,10 +45,9 @@ pub fn put_routes(
     if total_in(words, slot) == 0 {
         return p;
     }
-    let low = lower(words, slot, bits);
-    if low == 0 {
+    let Some(low) = lower(words, slot, bits) else {
         return p;
-    }
+    };
     let next = under(hop, above);
     let high = low + SLOT_WORDS;
     let x = 2 * v;

@@ -8,10 +8,7 @@ ghost use Rattle.shortest.specs.Inside.{apart};
 pub(crate) fn under(own: u32, above: u32) -> u32
     ensures { result ≡ underOf own above }
 {
-    if own == 0 {
-        return above;
-    }
-    own
+    if own == 0 { above } else { own }
 }
 
 // The set of one hop.
@@ -26,22 +23,17 @@ pub(crate) fn single(hop: u32) -> u32
 pub(crate) fn join(x: u32, y: u32) -> u32
     ensures { result ≡ meet x y }
 {
-    let common = x & y;
-    if common == 0 {
-        return x | y;
+    match x & y {
+        0 => x | y,
+        common => common,
     }
-    common
 }
 
 // 1 if two sets have nothing in common.
 pub(crate) fn price(x: u32, y: u32) -> usize
     ensures { (result ≡ apart x y) × (result ≤ 1) }
 {
-    let common = x & y;
-    if common == 0 {
-        return 1;
-    }
-    0
+    usize::from(x & y == 0)
 }
 
 // The hop of the route that a prefix with this set gets, 0 for none, where a hop comes from above. Without a set the lowest hop
@@ -50,16 +42,14 @@ pub(crate) fn choose(set: u32, above: u32) -> u32
     requires { above ≤ 33 }
     ensures { (result ≡ pick 32 set above) × (result ≤ 33) }
 {
-    let lowest = u32::trailing_zeros(set) + 1;
-    if above == 0 {
+    let lowest = set.trailing_zeros() + 1;
+    // Neither is a hop of a set.
+    if above == 0 || above == 33 {
         return lowest;
     }
-    if above == 33 {
-        return lowest;
+    if (set >> (above - 1)) % 2 == 1 {
+        0
+    } else {
+        lowest
     }
-    let bit = set >> (above - 1);
-    if bit % 2 == 1 {
-        return 0;
-    }
-    lowest
 }

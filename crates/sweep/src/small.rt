@@ -23,14 +23,10 @@ pub fn small_hops(words: &[u32], slot: usize, bits: usize) -> bool
     if own > MOST_HOP {
         return false;
     }
-    let low = lower(words, slot, bits);
-    if low == 0 {
+    let Some(low) = lower(words, slot, bits) else {
         return true;
-    }
+    };
     let high = low + SLOT_WORDS;
     let rest = bits - 1;
-    if small_hops(words, low, rest) {
-        return small_hops(words, high, rest);
-    }
-    false
+    small_hops(words, low, rest) && small_hops(words, high, rest)
 }

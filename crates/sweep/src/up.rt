@@ -9,7 +9,7 @@ use sizes::SLOT_WORDS;
 use words::total::total_in;
 
 // The set of a prefix, and for how many prefixes in it the halves have no hop in common.
-#[derive(Drop)]
+#[derive(Clone, Copy, Debug, PartialEq, Eq)]
 pub struct Part {
     pub set: u32,
     pub cost: usize,
@@ -20,15 +20,12 @@ fn spread(words: &[u32], slot: usize, bits: usize, set: u32, scratch: &mut [u32]
     requires { Spreads words.now slot bits scratch.old }
     ensures { scratch.new ≡ spread_at words.now bits slot set scratch.old }
 {
-    let low = lower(words, slot, bits);
-    if low == 0 {
-        scratch[slot] = set;
-        return;
+    if let Some(low) = lower(words, slot, bits) {
+        let high = low + SLOT_WORDS;
+        let rest = bits - 1;
+        spread(words, low, rest, set, scratch);
+        spread(words, high, rest, set, scratch);
     }
-    let high = low + SLOT_WORDS;
-    let rest = bits - 1;
-    spread(words, low, rest, set, scratch);
-    spread(words, high, rest, set, scratch);
     scratch[slot] = set;
 }
 
@@ -45,15 +42,11 @@ pub fn keep_sets(words: &[u32], slot: usize, bits: usize, above: u32, scratch: &
         return Part { set: same, cost: 0 };
     }
     let hop = under(slots::slot::hop_at(words, slot), above);
-    let low = lower(words, slot, bits);
-    if low == 0 {
-        let alone = single(hop);
-        scratch[slot] = alone;
-        return Part {
-            set: alone,
-            cost: 0,
-        };
-    }
+    let Some(low) = lower(words, slot, bits) else {
+        let set = single(hop);
+        scratch[slot] = set;
+        return Part { set, cost: 0 };
+    };
     let high = low + SLOT_WORDS;
     let rest = bits - 1;
     let x = keep_sets(words, low, rest, hop, scratch);
@@ -61,8 +54,5 @@ pub fn keep_sets(words: &[u32], slot: usize, bits: usize, above: u32, scratch: &
     let set = join(x.set, y.set);
     let cost = x.cost + y.cost + price(x.set, y.set);
     scratch[slot] = set;
-    Part {
-        set: set,
-        cost: cost,
-    }
+    Part { set, cost }
 }

@@ -1,7 +1,7 @@
 -- What the C face promises of the calls that test what they touch, and no more: its numbers are those of the call below it, and
 -- the words are as that call leaves them. On a table of the family that is what the calls that test all of it promise
 -- (`update_whole`, `run_whole`). Assumes nothing.
-use Rattle.std.specs.Prelude.{◌≡◌, List, ℕ, length}
+use Rattle.std.specs.Prelude.{◌≡◌, List, ℕ, length, Ok}
 use Rattle.std.proofs.Common.{sym, ap, ◌∙◌}
 use Rattle.logic.specs.Cases.{bool}
 use Rattle.routes.specs.Family.{Family, levels}
@@ -12,10 +12,8 @@ use Rattle.replies.specs.declared.Reply.{Reply}
 use Rattle.words.specs.TableBut.{Table}
 use Rattle.words.specs.Table.{seen}
 use Rattle.update.specs.Locally.{HasUpdatedLocally as Below}
-use Rattle.feed.specs.declared.Ran.{Ran as Outcome}
-use Rattle.feed.specs.declared.Ran.TheVariants.{Stopped}
 use Rattle.feed.specs.Turns.{IsTable}
-use Rattle.feed.specs.Runs.{run_answer, HasRunLocally as Run}
+use Rattle.feed.specs.Runs.{Ran as Outcome, run_answer, HasRunLocally as Run}
 use Rattle.answers.specs.Numbers.{updated, ran}
 use Rattle.toggleash.specs.Face.{HasUpdated, HasRun}
 use Rattle.toggleash.specs.Made.{made, ran_so}
@@ -73,7 +71,7 @@ run_agrees F ws feed b vs c us d r s p q =
     )))
     (λ m. (let x = p.call.right m in
     let y = q.call.right m in (
-      p.answer ∙ ap told (x.0 ∙ ap Stopped (x.1.answer ∙ sym y.1.answer) ∙ sym y.0) ∙ sym q.answer,
+      p.answer ∙ ap told (x.0 ∙ ap Ok (x.1.answer ∙ sym y.1.answer) ∙ sym y.0) ∙ sym q.answer,
       x.1.words ∙ sym y.1.words,
       x.1.replies ∙ sym y.1.replies,
     )))

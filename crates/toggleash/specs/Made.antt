@@ -1,17 +1,16 @@
 -- What the C face promises of an update and of a run, from what the call below it promises. Assumes nothing.
-use Rattle.std.specs.Prelude.{◌≡◌, List, ℕ}
+use Rattle.std.specs.Prelude.{◌≡◌, refl, List, ℕ, Ok, Err}
 use Rattle.std.proofs.Common.{ap, ◌∙◌}
 use Rattle.routes.specs.Family.{Family, levels}
 use Rattle.routes.specs.Answers.{is_refused}
 use Rattle.routes.specs.Seen.{refuses}
 use Rattle.candidates.specs.Answers.{Update}
-use Rattle.laws.specs.Given.{refused_one, given_refused}
+use Rattle.laws.specs.Given.{given_refused}
 use Rattle.replies.specs.Said.{said_reply}
 use Rattle.replies.specs.declared.Reply.{Reply}
 use Rattle.update.specs.Update.{HasUpdated as Made}
-use Rattle.feed.specs.declared.Ran.{Ran as Outcome}
-use Rattle.feed.specs.declared.Ran.TheVariants.{Stopped, Refused as Unfit}
-use Rattle.feed.specs.Runs.{run_answer, reported, HasRun as Run}
+use Rattle.refusals.specs.declared.Refusal.{Refusal}
+use Rattle.feed.specs.Runs.{Ran as Outcome, run_answer, reported, HasRun as Run}
 use Rattle.answers.specs.Numbers.{updated, ran}
 use Rattle.toggleash.specs.Face.{HasUpdated, HasRun}
 use Rattle.answers.specs.declared.Updated.{Updated}
@@ -29,9 +28,9 @@ made F ws vs u r x m e =
       words = m.words;
     }
 
-told_refused : (r : Outcome) (n : ℕ) → run_answer r ≡ refuses n → r ≡ Unfit n
-told_refused (Stopped x) n e = absurd (given_refused e)
-told_refused (Unfit m) n e = ap Unfit (refused_one e)
+told_refused : (r : Outcome) (n : ℕ) (P : Type 0) → run_answer r ≡ refuses n → ((f : Refusal) → r ≡ Err f → P) → P
+told_refused (Ok x) n P e k = absurd (given_refused e)
+told_refused (Err f) n P e k = k f refl
 
 pub ran_so : (F : Family) (ws feed b vs c : List ℕ) (r : Outcome) (x : Fields) → Run F ws feed b vs c r → x ≡ ran (run_answer r)
     → HasRun F ws feed b vs c x
@@ -40,7 +39,7 @@ ran_so F ws feed b vs c r x p e =
       answer = e ∙ ap ran p.answer;
       list = p.list;
       replies = p.replies;
-      kept = λ n q. p.kept n (told_refused r n (p.answer ∙ ap reported q));
+      kept = λ n q. told_refused r n (vs ≡ ws) (p.answer ∙ ap reported q) p.kept;
       series = p.series;
       words = p.words;
     }

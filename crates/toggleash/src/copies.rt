@@ -4,53 +4,39 @@ ghost use Rattle.routes.specs.Route.{Route, IsList};
 ghost use Rattle.routes.specs.Match.{longest};
 ghost use Rattle.routes.specs.Seen.{gives};
 ghost use Rattle.listing.specs.Listed.{listed_in};
-ghost use Rattle.lengths_build.specs.Answer.{need_on, need_answer, build_answer};
+ghost use Rattle.lengths_build.specs.Answer.{need_on, build_answer};
 ghost use Rattle.lengths.specs.Layout.{walk};
 ghost use Rattle.lengths.specs.Laid.{Laid};
 ghost use Rattle.answers.specs.Numbers.{needed, matched};
 ghost use Rattle.toggleash.specs.Copies.{built, HasBuilt};
 
-use answers::{Matched, Needed, matching};
+use answers::{Matched, Needed};
+use lengths_build::Counts;
+use refusals::Refusal;
 
 #[repr(C)]
-#[derive(Drop)]
+#[derive(Clone, Copy, Debug, Default, PartialEq, Eq)]
 pub struct Built {
     pub refusal: u32,
     pub routes: u64,
     pub markers: u64,
 }
 
-// ---- answers in plain numbers
+impl From<Result<Counts, Refusal>> for Built {
+    ghost from_gives = { λ answer r. r ≡ built (build_answer answer) };
 
-fn size(answer: lengths_build::Needs) -> Needed
-    ensures { result ≡ needed (need_answer answer) }
-{
-    match answer {
-        lengths_build::Needs::Words(n) => Needed {
-            refusal: 0,
-            words: n as u64,
-        },
-        lengths_build::Needs::Refused(n) => Needed {
-            refusal: n,
-            words: 0,
-        },
-    }
-}
-
-fn counts(answer: lengths_build::Built) -> Built
-    ensures { result ≡ built (build_answer answer) }
-{
-    match answer {
-        lengths_build::Built::Counts(routes, markers) => Built {
-            refusal: 0,
-            routes: routes as u64,
-            markers: markers as u64,
-        },
-        lengths_build::Built::Refused(n) => Built {
-            refusal: n,
-            routes: 0,
-            markers: 0,
-        },
+    fn from(answer: Result<Counts, Refusal>) -> Built {
+        match answer {
+            Ok(counts) => Built {
+                refusal: 0,
+                routes: counts.routes as u64,
+                markers: counts.markers as u64,
+            },
+            Err(why) => Built {
+                refusal: why.number(),
+                ..Built::default()
+            },
+        }
     }
 }
 
@@ -59,13 +45,13 @@ fn counts(answer: lengths_build::Built) -> Built
 pub fn toggleash_copy_need(bytes: &[u8]) -> Needed
     ensures { result ≡ needed (need_on (listed_in bytes.now)) }
 {
-    size(lengths_build::need(bytes))
+    lengths_build::need(bytes).into()
 }
 
 pub fn toggleash_copy_build(bytes: &[u8], words: &mut [u32]) -> Built
     ensures { HasBuilt bytes.now words.old words.new result }
 {
-    counts(lengths_build::build(bytes, words))
+    lengths_build::build(bytes, words).into()
 }
 
 pub fn toggleash_copy_lookup(words: &[u32], address: u32) -> Matched
@@ -73,5 +59,5 @@ pub fn toggleash_copy_lookup(words: &[u32], address: u32) -> Matched
     ensures of_a_list { (rs : List Route) → IsList 32 rs → Laid rs words.now
         → result ≡ matched (gives (longest 32 address rs)) }
 {
-    matching(lengths::lookup(words, address))
+    lengths::lookup(words, address).into()
 }

@@ -1,4 +1,5 @@
 // The IPv6 calls: each as the IPv4 call of its name, on a table of sixteen levels.
+// kept: C names the calls of each family, so each name is a function here; below them one function serves both.
 ghost use Rattle.std.specs.Prelude.{◌≡◌};
 ghost use Rattle.numbers.specs.Number.{number as number_of};
 ghost use Rattle.routes.specs.Family.{v6};
@@ -11,15 +12,12 @@ ghost use Rattle.within.specs.Walk.{walk as totalWalk};
 ghost use Rattle.answers.specs.Numbers.{counted, looked, totalled};
 ghost use Rattle.toggleash.specs.Face.{HasCleared, HasUpdated, HasWritten, HasRun};
 
-use super::write_out;
-use answers::{
-    Counted, Found, Ran, Total, Updated, Written, change, counts, finding, inside, number, report,
-};
+use answers::{Counted, Found, Ran, Total, Updated, Written, finding, number};
 use families::Family;
 
 // An address by value, in network order: level k reads byte k.
 #[repr(C)]
-#[derive(Drop)]
+#[derive(Clone, Copy, Debug, PartialEq, Eq)]
 pub struct Ipv6 {
     pub bytes: [u8; 16],
 }
@@ -36,23 +34,21 @@ pub fn toggleash_v6_clear(words: &mut [u32]) -> u32
 pub fn toggleash_v6_check(words: &[u32]) -> Counted
     ensures { result ≡ counted (check_on 128 (seen 16 words.now)) }
 {
-    counts(audit::check_of(words, LEVELS))
+    audit::check_of(words, LEVELS).into()
 }
 
 pub fn toggleash_v6_lookup(words: &[u32], address: Ipv6) -> Found
     ensures { result ≡ looked (lookup_on 128 (seen 16 words.now)
         (walk 16 words.now (number_of address.bytes)) (number_of address.bytes)) }
 {
-    let bytes = address.bytes;
-    finding(lookup::walk_v6(words, bytes))
+    finding(lookup::walk_of(words, address.bytes))
 }
 
 pub fn toggleash_v6_within(words: &[u32], address: Ipv6, length: u32) -> Total
     ensures { result ≡ totalled (within_on 128 (seen 16 words.now)
         (totalWalk 16 words.now (number_of address.bytes) length) (number_of address.bytes) length) }
 {
-    let bytes = address.bytes;
-    inside(within::within_v6(words, bytes, length))
+    within::within(words, address.bytes, length).into()
 }
 
 pub fn toggleash_v6_announce(
@@ -66,26 +62,24 @@ pub fn toggleash_v6_announce(
     ensures { HasUpdated v6 words.old words.new
         (announced (number_of address.bytes) length hop feed preference) result }
 {
-    let bytes = address.bytes;
-    change(update::announce_v6(words, bytes, length, hop, feed, preference))
+    update::announce(words, address.bytes, length, hop, feed, preference).into()
 }
 
 pub fn toggleash_v6_withdraw(words: &mut [u32], address: Ipv6, length: u32, feed: u32) -> Updated
     ensures { HasUpdated v6 words.old words.new
         (withdrawn (number_of address.bytes) length feed) result }
 {
-    let bytes = address.bytes;
-    change(update::withdraw_v6(words, bytes, length, feed))
+    update::withdraw(words, address.bytes, length, feed).into()
 }
 
 pub fn toggleash_v6_write_out(words: &[u32], buffer: &mut [u8]) -> Written
     ensures { HasWritten v6 words.now buffer.old buffer.new result }
 {
-    write_out(words, Family::V6, buffer)
+    writing::fill_of(words, Family::V6, buffer).into()
 }
 
 pub fn toggleash_v6_run(words: &mut [u32], feed: &[u8], reply: &mut [u8]) -> Ran
     ensures { HasRun v6 words.old feed.now reply.old words.new reply.new result }
 {
-    report(feed::run_of(words, Family::V6, feed, reply))
+    feed::run_of(words, Family::V6, feed, reply).into()
 }

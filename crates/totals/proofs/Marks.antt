@@ -2,17 +2,15 @@
 -- cell's slot and its ancestors. Assumes nothing.
 --
 --     slot 19 of array 2, below cell 10 of array 1        array 2: 19, 9, 4, 2, 1        array 1: 266, 133, 66, 33, .. 1
-use Rattle.std.specs.Prelude.{◌≡◌, ℕ, zero, suc, ◌+◌, ◌-◌, ◌*◌, ◌/◌, ◌%◌, ◌^◌, ◌<◌, ◌≤◌, cond, ◌≢◌, ◌==◌, refl}
-use Rattle.std.proofs.Common.{sym, ap, ◌∙◌}
+use Rattle.std.specs.Prelude.{◌≡◌, ℕ, zero, suc, ◌+◌, ◌*◌, ◌/◌, ◌<◌, ◌≤◌}
 use native.Mathlib.Omega.{arith}
 use Rattle.logic.specs.Cases.{same}
-use Rattle.sizes.specs.Sizes.{cell_count, cell_slots, slot_end, level_bound}
-use Rattle.tree.specs.Arrays.{Arrays, lev, node}
+use Rattle.sizes.specs.Sizes.{cell_count, cell_slots, slot_end}
+use Rattle.tree.specs.Arrays.{Arrays, node}
 use Rattle.tree.specs.Shape.{Shape}
-use Rattle.tree.specs.Tree.{decode, node_suc, node-level, node_tag, node-up, down_some, child}
+use Rattle.tree.specs.Tree.{node-up}
 use Rattle.totals.specs.Sums.{sum, sum_none, sum_some}
-use Rattle.totals.specs.Local.{path_same}
-use Rattle.totals.specs.Cover.{is, is_same, is_other, above, above_one, above_split, above_last}
+use Rattle.totals.specs.Cover.{is, is_other}
 use Rattle.totals.specs.Marks.{cell_slot_of, mark, spot, mark_zero, mark_suc, part_split, part_last, spot_off, part_one, one_cell}
 use Rattle.totals.specs.Marks.{sum_zero}
 

@@ -1,16 +1,15 @@
 -- What is to be taken away from a total is there: a slot's total is at most those of its ancestors, so each mark is at most the
 -- total that it lowers. Assumes nothing.
-use Rattle.std.specs.Prelude.{◌≡◌, ℕ, zero, suc, ◌+◌, ◌-◌, ◌*◌, ◌/◌, ◌%◌, ◌<◌, ◌≤◌}
-use Rattle.std.proofs.Common.{sym, ◌∙◌, ⊎_elim, arith}
+use Rattle.std.specs.Prelude.{ℕ, zero, suc, ◌/◌, ◌<◌, ◌≤◌}
+use Rattle.std.proofs.Common.{arith}
 use Rattle.std.proofs.Math.Path.{ap}
 use borrow.Author.Tests.{ne_eqb}
-use Rattle.logic.specs.Cases.{same, less}
-use Rattle.sizes.specs.Sizes.{cell_slots, slot_end}
+use Rattle.logic.specs.Cases.{same}
+use Rattle.sizes.specs.Sizes.{slot_end}
 use Rattle.tree.specs.Arrays.{Arrays, lev, node}
 use Rattle.tree.specs.Shape.{Shape}
-use Rattle.tree.specs.Tree.{node_suc, node-level, node-up, down_some}
-use Rattle.totals.specs.Sums.{some_one, Sums, sum_some}
-use Rattle.totals.specs.Cover.{above, above_zero, above_next, above_less, above-bit, above_one}
+use Rattle.tree.specs.Tree.{node-level, node-up}
+use Rattle.totals.specs.Sums.{Sums}
 use Rattle.totals.specs.Marks.{part, cell_slot_of, mark, mark_zero, mark_suc}
 use Rattle.totals.specs.Most.{part_most, mark_off, cell_some}
 

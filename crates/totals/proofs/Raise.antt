@@ -1,14 +1,10 @@
 -- A slot taken and the totals raised by its marks, or a slot freed and the totals lowered: the conditions stay. Assumes nothing.
-use Rattle.std.specs.Prelude.{◌≡◌, ℕ, ◌+◌, ◌*◌, ◌<◌, ◌≤◌, ◌≢◌, ◌⊎◌}
-use Rattle.std.proofs.Common.{sym, inl, inr, ⊎_elim, arith}
-use Rattle.logic.specs.Cases.{same}
+use Rattle.std.specs.Prelude.{ℕ, ◌+◌, ◌*◌, ◌<◌, ◌≤◌}
+use Rattle.std.proofs.Common.{arith}
 use Rattle.sizes.specs.Sizes.{cell_count, cell_slots, slot_end}
 use Rattle.tree.specs.Arrays.{Arrays, node}
-use Rattle.tree.specs.Shape.{Child, Shape}
-use Rattle.tree.specs.SlotSet.{TreeSlotSet}
-use Rattle.totals.specs.Sums.{some, some_none, some_one, sum, Sums, sum_none, sum_some}
-use Rattle.totals.specs.Cover.{is_same, is_other}
-use Rattle.totals.specs.Marks.{mark, spot}
+use Rattle.tree.specs.Shape.{Shape}
+use Rattle.totals.specs.Sums.{Sums}
 use Rattle.totals.proofs.Marks.{mark_inner, mark_outer}
 use Rattle.totals.specs.Raise.{Takes, takes_some, Raised, link_in, sum-up, Inner, Outer}
 

@@ -1,19 +1,17 @@
 -- No total of a table is over 511 times its arrays, so that none wraps. Assumes nothing.
 use Rattle.std.specs.Prelude.{◌≡◌, ℕ, zero, suc, ◌+◌, ◌-◌, ◌*◌, ◌^◌, ◌<◌, ◌≤◌, length, refl}
-use Rattle.std.proofs.Common.{mul-le-mul_right, arith, pow-add}
+use Rattle.std.proofs.Common.{arith}
 use Rattle.logic.specs.Cases.{same}
-use Rattle.sizes.specs.Sizes.{cell_slots, last_slot, slot_end}
+use Rattle.sizes.specs.Sizes.{last_slot}
 use Rattle.routes.specs.Collect.{collect, routes}
 use Rattle.slots.specs.Taken.{taken}
-use Rattle.tree.specs.Arrays.{Arrays, par, cell, lev, node, held}
+use Rattle.tree.specs.Arrays.{Arrays, held}
 use Rattle.tree.specs.Shape.{Shape}
-use Rattle.tree.specs.Tree.{path, reach, used-level, parent_links, is_child}
-use Rattle.tree.specs.Need.{binary, depth_low, depth_high}
 use Rattle.tree.specs.Taken.{First, taken_to}
 use Rattle.tree.proofs.Taken.{taken-routes}
 use Rattle.inside.specs.Held.{inside_most}
 use Rattle.inside.proofs.Below.{routes-inside}
-use Rattle.totals.specs.Sums.{Sums, sum_some}
+use Rattle.totals.specs.Sums.{Sums}
 
 taken_most : (f : ℕ → ℕ) (n : ℕ) → taken f n ≤ n
 unfolding taken

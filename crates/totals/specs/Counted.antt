@@ -1,24 +1,18 @@
 -- A total is the number of prefixes of the table's list inside its prefix. Assumes nothing.
-use Rattle.std.specs.Prelude.{◌≡◌, ℕ, zero, suc, ◌+◌, ◌-◌, ◌*◌, ◌/◌, ◌%◌, ◌^◌, ◌<◌, ◌≤◌, length, refl}
-use Rattle.std.proofs.Common.{sym, ap, ap₂, ◌∙◌, mod-lt, ne_eqb, pow_pos, pow_mono}
-use Rattle.std.proofs.Math.Nat.{pow-succ'}
+use Rattle.std.specs.Prelude.{◌≡◌, ℕ, zero, suc, ◌+◌, ◌*◌, ◌/◌, ◌%◌, ◌<◌, ◌≤◌, length, refl}
+use Rattle.std.proofs.Common.{sym, ◌∙◌, ne_eqb}
 use native.Mathlib.Omega.{arith}
-use Rattle.std.proofs.Math.Pow.{split}
-use Rattle.sizes.specs.Sizes.{cell_count, cell_slots}
-use Rattle.routes.specs.Room.{level}
-use Rattle.logic.specs.Cases.{same, less}
-use Rattle.routes.specs.Collect.{own, collect, routes}
-use Rattle.laws.specs.Collect.{dbl}
-use Rattle.tree.specs.Arrays.{Arrays, down, at, node, depth_of, held}
+use Rattle.sizes.specs.Sizes.{cell_count}
+use Rattle.logic.specs.Cases.{same}
+use Rattle.routes.specs.Collect.{own, collect}
+use Rattle.tree.specs.Arrays.{Arrays, down, at, node, held}
 use Rattle.tree.specs.Shape.{Shape}
 use Rattle.tree.specs.Tree.{node-level, node_suc, used-level}
-use Rattle.tree.specs.Need.{held_at, at_some}
+use Rattle.tree.specs.Need.{at_some}
 use Rattle.tree.specs.SlotSet.{at_none}
 use Rattle.tree.specs.Taken.{First}
-use Rattle.inside.specs.Inside.{inside}
 use Rattle.inside.specs.Below.{collect-length}
-use Rattle.inside.proofs.Below.{routes-inside}
-use Rattle.totals.specs.Sums.{some, sum, Sums, counted, sum_inner, sum_outer, sum_none}
+use Rattle.totals.specs.Sums.{some, Sums}
 
 own-length : (d v l h : ℕ) → length (own d v l h) ≡ some h
 unfolding some

@@ -1,12 +1,10 @@
 -- An array without route and link has totals 0; hanging one below a cell, or freeing it, keeps every total. Assumes nothing.
-use Rattle.std.specs.Prelude.{◌≡◌, ℕ, zero, suc, ◌+◌, ◌-◌, ◌*◌, ◌^◌, ◌<◌, ◌≤◌, refl}
-use Rattle.std.proofs.Common.{sym, ◌∙◌, inl, arith, pow_pos}
-use Rattle.laws.specs.Collect.{dbl}
-use Rattle.logic.specs.Cases.{less}
+use Rattle.std.specs.Prelude.{◌≡◌, ℕ, ◌+◌, ◌-◌, ◌*◌, ◌<◌, ◌≤◌, refl}
+use Rattle.std.proofs.Common.{◌∙◌, arith}
 use Rattle.sizes.specs.Sizes.{cell_count, cell_slots, slot_end}
 use Rattle.tree.specs.Arrays.{Arrays}
-use Rattle.tree.specs.HungBelow.{HungBelow, cell-cases, other}
-use Rattle.totals.specs.Sums.{some, some_none, sum, Sums, sum_none, sum_some}
+use Rattle.tree.specs.HungBelow.{HungBelow}
+use Rattle.totals.specs.Sums.{some, some_none, sum, Sums, sum_none}
 use Rattle.totals.specs.Check.{SumsAt}
 
 module _ (A : ℕ) (t : Arrays) (T : ℕ → ℕ → ℕ) (a : ℕ) (c : Sums A t T) (h : 1 ≤ a) (w : a ≤ A)

@@ -11,7 +11,7 @@ use Rattle.tree.specs.Shape.{Shape}
 use Rattle.tree.specs.Tree.{node_suc, node-level, node-up, down_some}
 use Rattle.totals.specs.Sums.{some_one, Sums, sum_some}
 use Rattle.totals.specs.Cover.{above, above_zero, above_next, above_less, above-bit, above_one}
-use Rattle.totals.specs.Marks.{part, cell_slot_of, mark, mark_zero, mark_suc}
+use Rattle.totals.specs.Marks.{part, cell_slot_of, mark}
 
 module _ (A L : ℕ) (t : Arrays) (T : ℕ → ℕ → ℕ) (shape : Shape A L t) (c : Sums A t T) where
   -- a held slot has a total

@@ -6,7 +6,7 @@ use Rattle.sizes.specs.Sizes.{cell_count, cell_slots, slot_end}
 use Rattle.tree.specs.Arrays.{Arrays, node}
 use Rattle.tree.specs.Shape.{Child, Shape}
 use Rattle.tree.specs.SlotSet.{TreeSlotSet}
-use Rattle.totals.specs.Sums.{some, some_none, some_one, sum, Sums, sum_none, sum_some}
+use Rattle.totals.specs.Sums.{some, some_none, some_one, sum, sum_none, sum_some}
 use Rattle.totals.specs.Cover.{is_same, is_other}
 use Rattle.totals.specs.Marks.{mark, spot}
 

@@ -1,7 +1,7 @@
 -- The faults of an update itself, each told after those that stand before it in document 01, and what an update without a fault
 -- is. Assumes nothing.
 use Rattle.std.specs.Prelude.{◌≡◌, ◌≢◌, false, cond, ℕ, ◌-◌, ◌*◌, ◌%◌, ◌^◌, ◌≤◌, ◌<◌, eqb}
-use Rattle.std.proofs.Common.{true≢false, arith}
+use Rattle.std.proofs.Common.{true≢false, sym, ap, ◌∙◌, arith}
 use Rattle.logic.specs.Cases.{bool, less, same}
 use Rattle.sizes.specs.Sizes.{hop_bound}
 use Rattle.routes.specs.Route.{too_long, stray, bad_hop}
@@ -10,11 +10,18 @@ use Rattle.candidates.specs.Candidate.{bad_feed}
 use Rattle.candidates.specs.Answers.{Update, announce, withdraw, faulty}
 use Rattle.slots.specs.Word.{IsFeed}
 use Rattle.address.specs.Address.{IsPrefix, prefix_fault}
+use Rattle.refusals.specs.Number.{number, number_back, refusal_of}
+use Rattle.refusals.specs.declared.Refusal.{Refusal}
+use Rattle.refusals.specs.declared.Refusal.TheVariants.{Misfit}
 
 -- the number of the first fault of an update itself, 0 where it has none
 abbrev pub fault_of : ℕ → Update → ℕ
 fault_of W (announce a l h f p) = cond (too_long W l) 3 (cond (stray W a l) 4 (cond (bad_hop h) 5 (cond (bad_feed f) 10 0)))
 fault_of W (withdraw a l f) = cond (too_long W l) 3 (cond (stray W a l) 4 (cond (bad_feed f) 10 0))
+
+-- 0 is the number of no refusal
+pub number_some : (e : Refusal) → number e ≢ 0
+number_some e z = let m : Misfit ≡ e = sym (ap refusal_of z) ∙ number_back e in absurd (omega (arith, ap number m, z))
 
 -- 3, 4, 5, 10
 pub faulty_by : (W : ℕ) (u : Update) (r : Reply) → faulty W u r ≡ cond (eqb (fault_of W u) 0) r (refused (fault_of W u))

@@ -8,8 +8,7 @@ use mathlib.Core.List.{List}
 use native.Mathlib.Omega.{arith}
 use Rattle.logic.specs.Cases.{bool, same, less}
 use Rattle.sizes.specs.Sizes.{hop_bound, array_words, slot_end, cells_at, array_at, word_at, cell_at}
-use Rattle.routes.specs.Answers.{is_refused, done, none, refused}
-use Rattle.routes.specs.Answers as replies
+use Rattle.routes.specs.Answers.{is_refused, done}
 use Rattle.candidates.specs.Answers.{Update, announce, withdraw}
 use Rattle.slots.specs.Word.{IsFeed, hop_in, word_of}
 use Rattle.settle.specs.Any.{ResetsAny}

@@ -6,19 +6,23 @@
 --     any others                   `local_answer`: refused with the first of    `local_words`: as they were where it is refused;
 --                                  1, 3, 4, 5, 10, 2, 7 and 8 that applies,    else the arrays of the path, those gained or
 --                                  or done                                     freed and the header may differ
-use Rattle.std.specs.Prelude.{◌≡◌, refl, ◌≢◌, true, false, List, ℕ, ◌*◌, ◌≤◌, length}
+use Rattle.std.specs.Prelude.{◌≡◌, refl, ◌≢◌, Bool, true, false, cond, List, ℕ, ◌*◌, ◌≤◌, length}
 use Rattle.std.proofs.Common.{sym, ◌∙◌, true≢false, arith, ne_eqb}
 use Rattle.routes.specs.Answers.{is_refused}
 use Rattle.candidates.specs.Answers.{Update}
 use Rattle.candidates.specs.Seen.{misfits}
 use Rattle.words.specs.Words.{arrays_of}
 use Rattle.words.specs.TableBut.{Table}
-use Rattle.words.specs.View.{fits_no_misfit, table_fits}
+use Rattle.words.specs.CheckReflects.{Fits}
+use Rattle.words.specs.View.{fits_no_misfit, no_misfit_fits, table_fits}
 use Rattle.paths.specs.Alike.{Alike}
 use Rattle.replies.specs.Said.{said_reply}
 use Rattle.replies.specs.declared.Reply.{Reply}
 use Rattle.replies.specs.declared.Reply.TheVariants.{Refused}
-use Rattle.update.specs.Fault.{fault_of}
+use Rattle.logic.specs.Cases.{bool}
+use Rattle.refusals.specs.Number.{number}
+use Rattle.refusals.specs.declared.Refusal.{Refusal}
+use Rattle.update.specs.Fault.{fault_of, number_some}
 use Rattle.update.specs.Update.{HasUpdated}
 use Rattle.update.specs.Refuse.{refuses_table, applied}
 use Rattle.update.specs.Anywhere.{OffPath, local_fault, local_answer, local_words}
@@ -32,6 +36,10 @@ pub record HasUpdatedLocally (L : ℕ) (ws vs : List ℕ) (u : Update) (r : Repl
   pub kept : is_refused (said_reply r) ≡ true → vs ≡ ws
   pub spared : (c : ℕ) → 1 ≤ c → OffPath L ws u c → (arrays_of vs).tag c ≡ (arrays_of ws).tag c → Alike ws vs c
   pub table : Table L ws → HasUpdated L ws vs u r
+
+-- the number of the fault of a size that misfits, or does not
+abbrev pub fault_at : Bool → ℕ
+fault_at m = cond m 1 0
 
 module _ (L : ℕ) (ws : List ℕ) (u : Update) where
   left : (n : ℕ) → local_fault L ws u ≡ n → n ≢ 0 → (Table L ws → HasUpdated L ws ws u (Refused n))
@@ -67,3 +75,19 @@ module _ (L : ℕ) (ws : List ℕ) (u : Update) where
     spared = p.spared;
     table = λ t. applied L ws vs u r t f (p.table t) p.words;
   }
+
+-- ---- by the numbers of the faults that were looked for
+
+pub size_fits : (n : ℕ) → fault_at (misfits n) ≡ 0 → Fits n
+size_fits n q = bool (misfits n) (λ m. absurd (omega (arith, rw m at q))) (no_misfit_fits n)
+
+size_right : (n : ℕ) → fault_at (misfits n) ≡ 0 → misfits n ≡ false
+size_right n q = fits_no_misfit n (size_fits n q)
+
+module _ {L : ℕ} {ws : List ℕ} {u : Update} (q : fault_at (misfits (length ws)) ≡ 0) where
+  pub locally_faulty : (e : Refusal) → number e ≡ fault_of (8 * L) u → HasUpdatedLocally L ws ws u (Refused (number e))
+  locally_faulty e f = locally_fault L ws u (number e) (size_right (length ws) q) f (number_some e)
+
+  -- none: the work's promise
+  pub locally_tried : {vs : List ℕ} {r : Reply} → fault_of (8 * L) u ≡ 0 → AppliedAny L ws vs u r → HasUpdatedLocally L ws vs u r
+  locally_tried {vs} {r} f p = locally_applied L ws u vs r (size_right (length ws) q) f p

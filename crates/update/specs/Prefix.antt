@@ -2,8 +2,7 @@
 use Rattle.std.proofs.Math.Path.{◌≡◌}
 use Rattle.std.proofs.Common.{sym, ap, ◌∙◌, arith}
 use Rattle.std.proofs.Math.Logic.{⊎_elim}
-use Rattle.std.specs.Prelude.{List, ℕ, ◌+◌, ◌*◌, ◌^◌, ◌≤◌, ◌<◌}
-use Rattle.logic.specs.Cases.{same}
+use Rattle.std.specs.Prelude.{List, ℕ, ◌+◌, ◌*◌, ◌^◌, ◌≤◌}
 use Rattle.routes.specs.Route.{Route, hop_at}
 use Rattle.routes.specs.Collect.{routes}
 use Rattle.laws.specs.Collect.{routes_hop}

@@ -16,7 +16,9 @@ use Rattle.words.specs.View.{fits_no_misfit, no_misfit_fits, table_fits, seen_mi
 use Rattle.words.specs.CheckReflects.{table_reflects}
 use Rattle.replies.specs.declared.Reply as code
 use Rattle.replies.specs.declared.Reply.TheVariants.{Refused}
-use Rattle.update.specs.Fault.{fault_of, faulty_by}
+use Rattle.refusals.specs.Number.{number}
+use Rattle.refusals.specs.declared.Refusal.{Refusal}
+use Rattle.update.specs.Fault.{fault_of, faulty_by, number_some}
 use Rattle.update.specs.Anywhere.{touch_fault, words_by, local_fault, local_words}
 use Rattle.update.specs.Update.{refusal_of, HasUpdated, HasApplied}
 
@@ -92,6 +94,12 @@ module _ (L : ℕ) (ws : List ℕ) (some : 1 ≤ L) (levels : L < level_bound) w
       (λ b. rw (e ∙ sym (refusal_foreign L ws (fault_of W u) m f b)) (refuses_foreign L ws u m f b)))
       (λ f _. refuses_fault L ws u some levels n m (e ∙ sym (refusal_fault L ws (fault_of W u) m f)) z))
 
+  -- by the refusal that is found
+  pub refused_named : (u : Update) (n : ℕ) (e : Refusal) (f : ℕ) → n ≡ number e → number e ≡ refusal_of L ws f
+      → f ≡ fault_of (8 * L) u → HasUpdated L ws ws u (Refused n)
+  refused_named u n e f a b c =
+      refused_by_lem u n (a ∙ b ∙ ap (refusal_of L ws) c) (λ z. number_some e (sym a ∙ z))
+
   -- ---- the work
 
   is_table : misfits (length ws) ≡ false → table_b L ws ≡ true → Table L ws
@@ -105,6 +113,9 @@ module _ (L : ℕ) (ws : List ℕ) (some : 1 ≤ L) (levels : L < level_bound) w
       (λ m. same f 0
       (λ z _. bool (table_b L ws) (λ b. (is_table m b, z)) (λ b. absurd (omega (arith, refusal_foreign L ws f m z b))))
       (λ z _. absurd (omega (arith, refusal_fault L ws f m z))))
+
+  pub passed_named : (f : ℕ) → 0 ≡ refusal_of L ws f → Table L ws
+  passed_named f e = (passed f (sym e)).0
 
 pub applied : (L : ℕ) (ws vs : List ℕ) (u : Update) (r : code.Reply) → Table L ws → fault_of (8 * L) u ≡ 0
     → HasApplied L ws vs u r

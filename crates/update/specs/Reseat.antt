@@ -1,6 +1,6 @@
 -- A feed's word in a seat of a table set, and then the totals on the path of its array: what is asked, and the words afterwards.
 -- Assumes nothing.
-use Rattle.std.specs.Prelude.{◌≡◌, ◌≢◌, List, ℕ, ◌+◌, ◌-◌, ◌*◌, ◌/◌, ◌^◌, ◌≤◌, ◌<◌, length, get_or}
+use Rattle.std.specs.Prelude.{◌≡◌, ◌≢◌, List, ℕ, ◌+◌, ◌-◌, ◌*◌, ◌/◌, ◌^◌, ◌≤◌, ◌<◌, get_or}
 use Rattle.std.proofs.Common.{sym, ap, ◌∙◌, arith, pow_pos, pow_mono}
 use Rattle.sizes.specs.Sizes.{slot_end, word_at}
 use Rattle.array.specs.Tag.{level_in}

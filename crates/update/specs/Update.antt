@@ -1,6 +1,6 @@
 -- What announce and withdraw promise. An answer is a reply of document 01; the words are seen before and after; what is refused,
 -- or leaves the list as it is, changes nothing. Assumes nothing.
-use Rattle.std.specs.Prelude.{◌≡◌, true, cond, List, ◌⊎◌, ℕ, ◌+◌, ◌*◌, ◌≤◌, eqb, length}
+use Rattle.std.specs.Prelude.{◌≡◌, true, cond, List, ◌⊎◌, ℕ, ◌+◌, ◌*◌, ◌≤◌, eqb, length, Result, Ok, Err}
 use Rattle.routes.specs.Room.{level}
 use Rattle.routes.specs.Answers.{is_done, is_refused}
 use Rattle.candidates.specs.Candidate.{Candidate}
@@ -15,6 +15,10 @@ use Rattle.numbers.specs.Front.{front}
 use Rattle.paths.specs.Alike.{Alike}
 use Rattle.replies.specs.Said.{said_reply}
 use Rattle.replies.specs.declared.Reply.{Reply}
+use Rattle.replies.specs.declared.Reply.TheVariants as code
+use Rattle.refusals.specs.Number.{number}
+use Rattle.refusals.specs.declared.Refusal.{Refusal}
+use Rattle.update.specs.declared.Done.{Done}
 use Rattle.update.specs.Anywhere.{local_words}
 
 -- ---- which arrays may differ
@@ -60,3 +64,8 @@ pub record HasApplied (L : ℕ) (ws vs : List ℕ) (u : Update) (r : Reply) : Ty
 -- table of L levels
 abbrev pub refusal_of : ℕ → List ℕ → ℕ → ℕ
 refusal_of L ws f = cond (misfits (length ws)) 1 (cond (eqb f 0) (cond (table_b L ws) 0 2) f)
+
+-- the reply to an update that was tried
+abbrev pub reply_of : Result Done Refusal → Reply
+reply_of (Ok d) = code.Done d.hop d.cells
+reply_of (Err e) = code.Refused (number e)

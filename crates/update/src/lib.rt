@@ -3,76 +3,77 @@
 #![tactic(auto)]
 
 ghost use Rattle.std.specs.Prelude.{◌≡◌, true, ◌*◌, ◌<◌, ◌≤◌, length as size};
-ghost use Rattle.sizes.specs.Sizes.{least_words, most_words, level_bound};
+ghost use Rattle.routes.specs.Seen.{misfits};
+ghost use Rattle.sizes.specs.Sizes.{most_words, level_bound};
 ghost use Rattle.candidates.specs.Answers.{announce as announced, withdraw as withdrawn};
 ghost use Rattle.slots.specs.Word.{IsFeed};
 ghost use Rattle.words.specs.TableBut.{Table};
-ghost use Rattle.address.specs.Address.{IsAddress, IsPrefix};
+ghost use Rattle.address.specs.Address.{IsAddress};
 ghost use Rattle.numbers.specs.Number.{number};
-ghost use Rattle.update.specs.Fault.{fault_of, feed_fault, SoundRoute};
-ghost use Rattle.update.specs.Locally.{HasUpdatedLocally};
-ghost use Rattle.update.specs.Local.{SpotIn, SeatedAny, SitsAny, ReseatedAny, AppliedAny};
-ghost use Rattle.update.specs.Update.{HasUpdated, refusal_of};
+ghost use Rattle.refusals.specs.Number.{fault};
+ghost use Rattle.update.specs.Fault.{fault_of, feed_fault};
+ghost use Rattle.update.specs.Locally.{fault_at, HasUpdatedLocally};
+ghost use Rattle.update.specs.Local.{SpotIn, SeatedAny, SitsAny, ReseatedAny};
+ghost use Rattle.update.specs.Update.{HasUpdated, refusal_of, reply_of};
 
+use address::Address;
 use array::change::Changed;
-use paths::ASTRAY;
+use refusals::Refusal;
 use replies::Reply;
 use slots::word::{hop_in, word_of};
+use std::convert::AsSlice;
 
-// The number of the fault of a feed's number, 0 where it has none.
-fn feed_fault(feed: u32) -> u32
-    ensures { result ≡ feed_fault feed }
+// The fault of a number of words, if it has one.
+fn size_fault(words: &[u32]) -> Result<(), Refusal>
+    ensures { fault result ≡ fault_at (misfits (size words.now)) }
 {
-    if feed == 0 {
-        return 10;
+    if words::size::misfit(words.len()) {
+        return Err(Refusal::Misfit);
     }
-    if feed > 4 {
-        return 10;
-    }
-    0
+    Ok(())
 }
 
-// The first fault of an announcement, 0 where it has none; no preference is a fault.
-pub fn announce_fault(address: &[u8], length: u32, hop: u32, feed: u32) -> u32
+// The fault of a feed's number, if it has one.
+fn feed_fault(feed: u32) -> Result<(), Refusal>
+    ensures { fault result ≡ feed_fault feed }
+{
+    match feed {
+        1..=4 => Ok(()),
+        _ => Err(Refusal::Feed),
+    }
+}
+
+// The first fault of an announcement, if it has one; no preference is a fault.
+pub fn announce_fault(address: &[u8], length: u32, hop: u32, feed: u32) -> Result<(), Refusal>
     requires { size address.now < level_bound }
-    ensures { result ≡ fault_of (8 * size address.now)
+    ensures { fault result ≡ fault_of (8 * size address.now)
         (announced (number address.now) length hop feed 0) }
 {
-    let f = address::prefix_fault(address, length);
-    if f != 0 {
-        return f;
-    }
-    if hop == 0 {
-        return 5;
-    }
-    if hop > 65535 {
-        return 5;
+    address::prefix_fault(address, length)?;
+    if hop == 0 || hop > 65535 {
+        return Err(Refusal::Hop);
     }
     feed_fault(feed)
 }
 
 // The same of a withdrawal.
-pub fn withdraw_fault(address: &[u8], length: u32, feed: u32) -> u32
+pub fn withdraw_fault(address: &[u8], length: u32, feed: u32) -> Result<(), Refusal>
     requires { size address.now < level_bound }
-    ensures { result ≡ fault_of (8 * size address.now) (withdrawn (number address.now) length feed) }
+    ensures { fault result ≡ fault_of (8 * size address.now) (withdrawn (number address.now) length feed) }
 {
-    let f = address::prefix_fault(address, length);
-    if f != 0 {
-        return f;
-    }
+    address::prefix_fault(address, length)?;
     feed_fault(feed)
 }
 
 // A feed's word in the slot at a place of array a set, to 0 for none. The page of that array alone is lent.
+// kept: 0 and no option, as it is the word that stands in the lent words then (definition word_for).
 fn reslot(words: &mut [u32], a: usize, p: address::Place, feed: usize, word: u32) -> Changed
     requires { SpotIn words.old a p.depth p.value × IsFeed feed }
     ensures { SeatedAny words.old words.new a p.depth p.value feed word result }
 {
     let from = words::part::array_at(a);
     let to = words::part::array_at(a + 1);
-    let d = p.depth;
-    let x = p.value;
-    settle::slot::reslot(&mut words[from..to], d, x, feed, word)
+    settle::slot::reslot(&mut words[from..to], p.depth, p.value, feed, word)
 }
 
 // The same, and the totals on the path of the array; the cells rewritten are counted.
@@ -86,8 +87,24 @@ fn reseat(words: &mut [u32], a: usize, p: address::Place, feed: usize, word: u32
     changed.cells
 }
 
-// A candidate announced, to any words of a right size. One that is held already changes no word; another replaces the feed's, in
-// the array that is there. A caller who knows the words to be a table spares the tests of what is touched.
+// What an update that is done tells: the hop, and the cells that a card has to reload.
+#[derive(Clone, Copy, Debug, PartialEq, Eq)]
+struct Done {
+    hop: u32,
+    cells: u32,
+}
+
+fn reply(tried: Result<Done, Refusal>) -> Reply
+    ensures { result ≡ reply_of tried }
+{
+    match tried {
+        Ok(done) => Reply::Done(done.hop, done.cells),
+        Err(e) => Reply::Refused(e.number()),
+    }
+}
+
+// A candidate announced. One that is held already changes no word; another replaces the feed's, in the array that is there. A
+// caller who knows the words to be a table spares the tests of what is touched.
 fn announce_in(
     words: &mut [u32],
     address: &[u8],
@@ -96,79 +113,67 @@ fn announce_in(
     feed: u32,
     preference: u8,
     known: bool,
-) -> Reply
-    requires least_words_bound { (least_words ≤ size words.old) × (size words.old ≤ most_words) × IsAddress address.now
-        × ((known ≡ true) → Table (size address.now) words.old) }
-    requires sound_route { SoundRoute (size address.now) (number address.now) length hop feed }
-    ensures { AppliedAny (size address.now) words.old words.new
-        (announced (number address.now) length hop feed preference) result }
+) -> Result<Done, Refusal>
+    requires { IsAddress address.now × ((known ≡ true) → Table (size address.now) words.old) }
+    ensures { HasUpdatedLocally (size address.now) words.old words.new
+        (announced (number address.now) length hop feed preference) (reply_of result) }
 {
+    size_fault(words)?;
+    announce_fault(address, length, hop, feed)?;
     let word = word_of(preference as u32, hop);
-    let f = paths::find(words, address, length, feed as usize, known);
-    let p = f.place;
-    let s = f.stop;
-    let k = p.level;
-    let b = s.array;
-    let j = s.level;
-    if b == 0 {
-        return Reply::Refused(2);
+    let found = paths::find(words, address, length, feed as usize, known)?;
+    if found.word == word {
+        return Ok(Done { hop, cells: 0 });
     }
-    if f.word == word {
-        return Reply::Done(hop, 0);
-    }
-    let a = paths::extend(words, address, b, j, k, known);
-    if a == 0 {
-        return Reply::Refused(8);
-    }
-    if a == ASTRAY {
-        return Reply::Refused(2);
-    }
-    let cells = reseat(words, a, p, feed as usize, word);
-    Reply::Done(hop, cells)
+    let place = found.place;
+    let a = paths::extend(words, address, found.stop, place.level, known)?;
+    let cells = reseat(words, a, place, feed as usize, word);
+    Ok(Done { hop, cells })
 }
 
-// A candidate withdrawn, from any words of a right size.
-fn withdraw_in(words: &mut [u32], address: &[u8], length: u32, feed: u32, known: bool) -> Reply
-    requires least_words_bound { (least_words ≤ size words.old) × (size words.old ≤ most_words) × IsAddress address.now
-        × ((known ≡ true) → Table (size address.now) words.old) }
-    requires prefix { IsPrefix (size address.now) (number address.now) length × IsFeed feed }
-    ensures { AppliedAny (size address.now) words.old words.new
-        (withdrawn (number address.now) length feed) result }
+// A candidate withdrawn.
+fn withdraw_in(
+    words: &mut [u32],
+    address: &[u8],
+    length: u32,
+    feed: u32,
+    known: bool,
+) -> Result<Done, Refusal>
+    requires { IsAddress address.now × ((known ≡ true) → Table (size address.now) words.old) }
+    ensures { HasUpdatedLocally (size address.now) words.old words.new
+        (withdrawn (number address.now) length feed) (reply_of result) }
 {
-    let f = paths::find(words, address, length, feed as usize, known);
-    let s = f.stop;
-    let a = s.array;
-    if a == 0 {
-        return Reply::Refused(2);
+    size_fault(words)?;
+    withdraw_fault(address, length, feed)?;
+    let found = paths::find(words, address, length, feed as usize, known)?;
+    if found.word == 0 {
+        return Err(Refusal::Absent);
     }
-    if f.word == 0 {
-        return Reply::Refused(7);
-    }
-    let cells = reseat(words, a, f.place, feed as usize, 0);
+    let a = found.stop.array;
+    let cells = reseat(words, a, found.place, feed as usize, 0);
     paths::prune(words, a);
-    Reply::Done(hop_in(f.word), cells)
+    Ok(Done {
+        hop: hop_in(found.word),
+        cells,
+    })
 }
 
 // ---- updates of any words
 
-// The first of 1, an update's own fault (0 for none) and 2 that applies, or 0: then there is no fault and the words are a table
-// of so many levels.
-pub fn refusal(words: &[u32], levels: u32, fault: u32) -> u32
-    ensures { result ≡ refusal_of levels words.now fault }
+// The first of 1, an update's own fault and 2 that applies: with none, the words are a table of so many levels.
+pub fn refusal(words: &[u32], levels: u32, own: Result<(), Refusal>) -> Result<(), Refusal>
+    ensures { fault result ≡ refusal_of levels words.now (fault own) }
 {
-    if words::size::misfit(words.len()) {
-        return 1;
-    }
-    if fault != 0 {
-        return fault;
-    }
+    size_fault(words)?;
+    own?;
     if !audit::table::is_table_of(words, levels) {
-        return 2;
+        return Err(Refusal::Foreign);
     }
-    0
+    Ok(())
 }
 
 // A candidate announced: refused with the first of 1, 3, 4, 5, 10, 2 and 8 that applies, or held afterwards.
+// kept: length, hop, feed and preference one by one, as C lends them: a struct of them is made at each call to be taken apart.
 pub fn announce_of(
     words: &mut [u32],
     address: &[u8],
@@ -181,42 +186,27 @@ pub fn announce_of(
     ensures { HasUpdated (size address.now) words.old words.new
         (announced (number address.now) length hop feed preference) result }
 {
-    let fault = announce_fault(address, length, hop, feed);
-    let n = refusal(words, address.len() as u32, fault);
-    if n != 0 {
-        return Reply::Refused(n);
+    let own = announce_fault(address, length, hop, feed);
+    match refusal(words, address.len() as u32, own) {
+        Ok(()) => announce_with(words, address, length, hop, feed, preference, true),
+        Err(e) => Reply::Refused(e.number()),
     }
-    announce_in(words, address, length, hop, feed, preference, true)
 }
 
-// The same of an IPv4 address.
-pub fn announce(
+// The same of an address of either family.
+pub fn announce<A: Address>(
     words: &mut [u32],
-    address: u32,
+    address: A,
     length: u32,
     hop: u32,
     feed: u32,
     preference: u8,
 ) -> Reply
-    ensures { HasUpdated 4 words.old words.new (announced address length hop feed preference) result }
+    ensures { HasUpdated A.levels words.old words.new
+        (announced (A.value address) length hop feed preference) result }
 {
-    let bytes = address::four_of(address);
-    announce_of(words, &bytes, length, hop, feed, preference)
-}
-
-// .. and of an IPv6 address, sixteen bytes by value: level k reads byte k of it.
-pub fn announce_v6(
-    words: &mut [u32],
-    address: [u8; 16],
-    length: u32,
-    hop: u32,
-    feed: u32,
-    preference: u8,
-) -> Reply
-    ensures { HasUpdated 16 words.old words.new
-        (announced (number address) length hop feed preference) result }
-{
-    announce_of(words, &address[..], length, hop, feed, preference)
+    let bytes = address.bytes();
+    announce_of(words, bytes.as_slice(), length, hop, feed, preference)
 }
 
 // A candidate withdrawn: refused with the first of 1, 3, 4, 10, 2 and 7 that applies, or held no more.
@@ -225,27 +215,19 @@ pub fn withdraw_of(words: &mut [u32], address: &[u8], length: u32, feed: u32) ->
     ensures { HasUpdated (size address.now) words.old words.new
         (withdrawn (number address.now) length feed) result }
 {
-    let fault = withdraw_fault(address, length, feed);
-    let n = refusal(words, address.len() as u32, fault);
-    if n != 0 {
-        return Reply::Refused(n);
+    let own = withdraw_fault(address, length, feed);
+    match refusal(words, address.len() as u32, own) {
+        Ok(()) => withdraw_with(words, address, length, feed, true),
+        Err(e) => Reply::Refused(e.number()),
     }
-    withdraw_in(words, address, length, feed, true)
 }
 
-// The same of an IPv4 address.
-pub fn withdraw(words: &mut [u32], address: u32, length: u32, feed: u32) -> Reply
-    ensures { HasUpdated 4 words.old words.new (withdrawn address length feed) result }
+// The same of an address of either family.
+pub fn withdraw<A: Address>(words: &mut [u32], address: A, length: u32, feed: u32) -> Reply
+    ensures { HasUpdated A.levels words.old words.new (withdrawn (A.value address) length feed) result }
 {
-    let bytes = address::four_of(address);
-    withdraw_of(words, &bytes, length, feed)
-}
-
-// .. and of an IPv6 address.
-pub fn withdraw_v6(words: &mut [u32], address: [u8; 16], length: u32, feed: u32) -> Reply
-    ensures { HasUpdated 16 words.old words.new (withdrawn (number address) length feed) result }
-{
-    withdraw_of(words, &address[..], length, feed)
+    let bytes = address.bytes();
+    withdraw_of(words, bytes.as_slice(), length, feed)
 }
 
 // ---- updates of any words that test what they touch, and no more
@@ -265,14 +247,7 @@ pub fn announce_with(
     ensures { HasUpdatedLocally (size address.now) words.old words.new
         (announced (number address.now) length hop feed preference) result }
 {
-    if words::size::misfit(words.len()) {
-        return Reply::Refused(1);
-    }
-    let f = announce_fault(address, length, hop, feed);
-    if f != 0 {
-        return Reply::Refused(f);
-    }
-    announce_in(words, address, length, hop, feed, preference, known)
+    reply(announce_in(words, address, length, hop, feed, preference, known))
 }
 
 // A candidate withdrawn: refused with the first of 1, 3, 4, 10, 2 and 7 that applies, or held no more.
@@ -287,84 +262,38 @@ pub fn withdraw_with(
     ensures { HasUpdatedLocally (size address.now) words.old words.new
         (withdrawn (number address.now) length feed) result }
 {
-    if words::size::misfit(words.len()) {
-        return Reply::Refused(1);
-    }
-    let f = withdraw_fault(address, length, feed);
-    if f != 0 {
-        return Reply::Refused(f);
-    }
-    withdraw_in(words, address, length, feed, known)
+    reply(withdraw_in(words, address, length, feed, known))
 }
 
 // A candidate announced, by a caller who knows nothing of the words.
-pub fn announce_local_of(
+pub fn announce_local<A: Address>(
     words: &mut [u32],
-    address: &[u8],
+    address: A,
     length: u32,
     hop: u32,
     feed: u32,
     preference: u8,
 ) -> Reply
-    requires { IsAddress address.now }
-    ensures { HasUpdatedLocally (size address.now) words.old words.new
-        (announced (number address.now) length hop feed preference) result }
+    ensures { HasUpdatedLocally A.levels words.old words.new
+        (announced (A.value address) length hop feed preference) result }
 {
-    announce_with(words, address, length, hop, feed, preference, false)
-}
-
-// The same of an IPv4 address.
-pub fn announce_local(
-    words: &mut [u32],
-    address: u32,
-    length: u32,
-    hop: u32,
-    feed: u32,
-    preference: u8,
-) -> Reply
-    ensures { HasUpdatedLocally 4 words.old words.new
-        (announced address length hop feed preference) result }
-{
-    let bytes = address::four_of(address);
-    announce_local_of(words, &bytes, length, hop, feed, preference)
-}
-
-// .. and of an IPv6 address.
-pub fn announce_local_v6(
-    words: &mut [u32],
-    address: [u8; 16],
-    length: u32,
-    hop: u32,
-    feed: u32,
-    preference: u8,
-) -> Reply
-    ensures { HasUpdatedLocally 16 words.old words.new
-        (announced (number address) length hop feed preference) result }
-{
-    announce_local_of(words, &address[..], length, hop, feed, preference)
+    let bytes = address.bytes();
+    announce_with(
+        words,
+        bytes.as_slice(),
+        length,
+        hop,
+        feed,
+        preference,
+        false,
+    )
 }
 
 // A candidate withdrawn, by a caller who knows nothing of the words.
-pub fn withdraw_local_of(words: &mut [u32], address: &[u8], length: u32, feed: u32) -> Reply
-    requires { IsAddress address.now }
-    ensures { HasUpdatedLocally (size address.now) words.old words.new
-        (withdrawn (number address.now) length feed) result }
+pub fn withdraw_local<A: Address>(words: &mut [u32], address: A, length: u32, feed: u32) -> Reply
+    ensures { HasUpdatedLocally A.levels words.old words.new
+        (withdrawn (A.value address) length feed) result }
 {
-    withdraw_with(words, address, length, feed, false)
-}
-
-// The same of an IPv4 address.
-pub fn withdraw_local(words: &mut [u32], address: u32, length: u32, feed: u32) -> Reply
-    ensures { HasUpdatedLocally 4 words.old words.new (withdrawn address length feed) result }
-{
-    let bytes = address::four_of(address);
-    withdraw_local_of(words, &bytes, length, feed)
-}
-
-// .. and of an IPv6 address.
-pub fn withdraw_local_v6(words: &mut [u32], address: [u8; 16], length: u32, feed: u32) -> Reply
-    ensures { HasUpdatedLocally 16 words.old words.new
-        (withdrawn (number address) length feed) result }
-{
-    withdraw_local_of(words, &address[..], length, feed)
+    let bytes = address.bytes();
+    withdraw_with(words, bytes.as_slice(), length, feed, false)
 }

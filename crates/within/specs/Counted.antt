@@ -1,24 +1,24 @@
 -- On a table the walk's answer is the count over its list: the number of prefixes that lie inside the given one. Assumes nothing.
-use Rattle.std.specs.Prelude.{◌≡◌, false, List, length}
+use Rattle.std.specs.Prelude.{◌≡◌, List}
 use Rattle.std.proofs.Math.Path.{refl, ap}
 use Rattle.std.proofs.Common.{sym, ◌∙◌, mul-le-mul_right, pow-add, pow_pos, pow_mono}
-use Prim.Native.Nat.{ℕ, zero, suc, ◌+◌, ◌-◌, ◌*◌, ◌/◌, ◌%◌, ◌^◌, ◌≤◌, ◌<◌}
+use Prim.Native.Nat.{ℕ, zero, suc, ◌+◌, ◌-◌, ◌*◌, ◌^◌, ◌≤◌, ◌<◌}
 use native.Mathlib.Omega.{arith}
 use Rattle.std.proofs.Math.Pow.{high, low}
-use borrow.Author.Tests.{eq-eqb, ne_eqb, le-ltb}
+use borrow.Author.Tests.{le-ltb}
 use Rattle.logic.specs.Cases.{bool, same}
 use Rattle.sizes.specs.Sizes.{last_slot, slot_end, level_bound}
 use Rattle.routes.specs.Route.{Route, too_long, stray}
 use Rattle.routes.specs.Room.{level}
 use Rattle.routes.specs.Collect.{routes}
-use Rattle.routes.specs.Seen.{Answer, gives, refuses}
+use Rattle.routes.specs.Seen.{gives}
 use Rattle.numbers.specs.Front.{front, byte_of, value, byte_lt, value_lt, front_lt, front_more, front-up, prefix_whole}
-use Rattle.address.specs.Address.{IsPrefix, prefix_fault, no_fault}
+use Rattle.address.specs.Address.{IsPrefix, no_fault}
 use Rattle.tree.specs.Arrays.{Arrays, node, depth_of, held}
 use Rattle.tree.specs.Tree.{node-level}
 use Rattle.tree.specs.Need.{node_child, node-above}
 use Rattle.inside.specs.Inside.{inside, prefixes_inside}
-use Rattle.inside.specs.Seen.{asked, within_on}
+use Rattle.inside.specs.Seen.{within_on}
 use Rattle.totals.specs.Sums.{sum, counted, sum_none, sum_some}
 use Rattle.totals.proofs.Counted.{counted-inside}
 use Rattle.words.specs.Words.{arrays_of, array_count, totals_of}

@@ -2,21 +2,19 @@
 -- whatever the words hold: two runs of words that agree there give the same. Assumes nothing.
 use Rattle.std.specs.Prelude.{◌≡◌, List, length}
 use Rattle.std.proofs.Math.Path.{refl, ap}
-use Rattle.std.proofs.Common.{sym, ◌∙◌, pow_mono}
-use Prim.Native.Nat.{ℕ, zero, suc, ◌+◌, ◌-◌, ◌*◌, ◌/◌, ◌^◌, ◌≤◌, ◌<◌}
+use Rattle.std.proofs.Common.{◌∙◌, pow_mono}
+use Prim.Native.Nat.{ℕ, zero, suc, ◌+◌, ◌-◌, ◌*◌, ◌^◌, ◌≤◌, ◌<◌}
 use native.Mathlib.Omega.{arith}
-use Rattle.logic.specs.Cases.{bool, less, same}
-use Rattle.sizes.specs.Sizes.{array_words, slot_end, cells_at, total_at, word_at, cell_at}
-use Rattle.routes.specs.Route.{too_long}
+use Rattle.logic.specs.Cases.{less, same}
+use Rattle.sizes.specs.Sizes.{slot_end, cells_at, total_at, word_at, cell_at}
 use Rattle.routes.specs.Room.{level}
-use Rattle.routes.specs.Seen.{Answer}
 use Rattle.numbers.specs.Front.{front, byte_of, value, byte_lt, value_lt, front_more}
 use Rattle.array.specs.Cell.{link_in}
 use Rattle.tree.specs.Arrays.{node, depth_of}
 use Rattle.tree.specs.Need.{node_child}
 use Rattle.words.specs.Words.{arrays_of, array_count, totals_of}
 use Rattle.paths.specs.Alike.{Alike}
-use Rattle.within.specs.Walk.{walk_from, walk, walked}
+use Rattle.within.specs.Walk.{walk_from, walked}
 
 -- the arrays of the first 8 * j bits of x, for j up to k, have the same words
 abbrev pub AlikeOn : ℕ → List ℕ → List ℕ → ℕ → ℕ → Type 0

@@ -1,7 +1,7 @@
 -- Free arrays found one after the other, on any words: those that `taken` says, where they are all clean. On a table as many are
 -- found as there is room for. Assumes nothing.
 use Rattle.std.specs.Prelude.{◌≡◌, ℕ, zero, suc, ◌+◌, ◌-◌, ◌*◌, ◌/◌, ◌<◌, ◌≤◌, Bool, true, false, ◌≢◌, List, length, replicate}
-use Rattle.std.specs.Prelude.{slice_index, slice_index_or, slice_set, refl}
+use Rattle.std.specs.Prelude.{slice_index, slice_index_or, slice_set, refl, Option, Some, None}
 use Rattle.std.proofs.Math.Path.{sym, ap}
 use Rattle.std.proofs.Common.{◌∙◌}
 use Rattle.std.proofs.Math.Bool.{true≢false}
@@ -82,6 +82,19 @@ pub record Fresh (ws : List ℕ) (f : ℕ) : Type 0 where
   pub free : (arrays_of ws).tag f ≡ 0
   pub clean : (k : ℕ) → slot_at 1 ≤ k → k < totals_at → slice_index ws (word_at f k) ≡ 0
 
+-- a search can go on after array f, which was found by one; and after the last that was found, if there is one
+abbrev pub OfferedAt : List ℕ → ℕ → Type 0
+OfferedAt ws f = (1 ≤ f) × (f ≤ array_count ws) × (told_full ws ((f - 1) / per_group) ≡ false)
+
+abbrev pub Offered : List ℕ → Option ℕ → Type 0
+Offered ws None = Unit {0}
+Offered ws (Some f) = OfferedAt ws f
+
+-- the last of those found, 0 before the first
+abbrev pub found_last : Option ℕ → ℕ
+found_last None = 0
+found_last (Some f) = f
+
 -- i of them are found, the last is f
 pub record FreesTo (ws : List ℕ) (i f : ℕ) (l : List ℕ) : Type 0 where
   pub size : length l ≡ 32
@@ -106,6 +119,26 @@ pub record Frees (ws : List ℕ) (m : ℕ) (l : List ℕ) : Type 0 where
   pub fresh : slice_index_or l (m - 1) 0 ≢ 0 → (h : ℕ) → h < m → Fresh ws (slice_index l h)
   pub rising : slice_index_or l (m - 1) 0 ≢ 0 → (g h : ℕ) → g < h → h < m → slice_index l g < slice_index l h
   pub room : (L e : ℕ) → TableBut L e ws → slice_index ws 0 + m ≤ array_count ws → slice_index l (m - 1) ≢ 0
+
+-- what a search for m answers: these, or none
+abbrev pub HasFrees : List ℕ → ℕ → Option (List ℕ) → Type 0
+HasFrees ws m (Some l) = Frees ws m l × (slice_index l (m - 1) ≢ 0)
+HasFrees ws m None = Frees ws m (replicate 32 0)
+
+-- where they were not found no other array needs a number
+pub frees_unset : (ws : List ℕ) (m : ℕ) (l : List ℕ) → 1 ≤ m → m ≤ 32 → slice_index_or l (m - 1) 0 ≡ 0 → Frees ws m l
+    → Frees ws m (replicate 32 0)
+frees_unset ws m l low top e f =
+    let z : slice_index_or (replicate 32 0) (m - 1) 0 ≡ 0 = get_or-replicate {A = ℕ} 32 (m - 1) 0 0 (omega arith) in
+    record {
+      size = length-replicate {A = ℕ} 32 0;
+      none = λ _. f.none e;
+      takes = λ q. absurd (q z);
+      which = λ q. absurd (q z);
+      fresh = λ q. absurd (q z);
+      rising = λ q. absurd (q z);
+      room = λ L d t w. absurd (f.room L d t w e);
+    }
 
 pub frees_none : (ws : List ℕ) → FreesTo ws 0 0 (replicate 32 0)
 unfolding takes_b

@@ -1,10 +1,9 @@
 -- A table stands for a list of candidates, and for one only, of as many as words of slots are taken. Assumes nothing.
 --
 --     words ── paths lead to slots ──► word of each prefix and feed ── at most one list holds these ──► list_of
-use Rattle.std.specs.Prelude.{◌≡◌, ℕ, zero, suc, ◌+◌, ◌-◌, ◌*◌, ◌/◌, ◌^◌, ◌<◌, ◌≤◌, ◌≢◌, List, [], ◌∷◌, length, refl}
+use Rattle.std.specs.Prelude.{◌≡◌, ℕ, ◌+◌, ◌-◌, ◌*◌, ◌/◌, ◌^◌, ◌<◌, ◌≤◌, ◌≢◌, List, [], ◌∷◌, length, refl}
 use Rattle.std.proofs.Common.{sym, ◌∙◌, arith, shr_lt}
 use Rattle.std.proofs.Math.Option.{Option, none, some, none-ne-some}
-use Rattle.sizes.specs.Sizes.{level_bound}
 use Rattle.logic.specs.Cases.{same}
 use Rattle.laws.specs.Longest.{whole}
 use Rattle.candidates.specs.Keyed.{find, Every}

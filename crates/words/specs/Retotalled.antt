@@ -2,21 +2,19 @@
 -- last, else as they were. Their conditions hold again. Assumes nothing.
 --
 --     ws ── a word of slot s of array a set ──▶ vs ── the totals on the path changed ──▶ us
-use Rattle.std.specs.Prelude.{◌≡◌, ℕ, suc, ◌+◌, ◌-◌, ◌*◌, ◌/◌, ◌%◌, ◌^◌, ◌<◌, ◌≤◌, cond, ◌≢◌, ◌⊎◌, List, length, ◌==◌}
+use Rattle.std.specs.Prelude.{◌≡◌, ℕ, ◌+◌, ◌-◌, ◌*◌, ◌/◌, ◌^◌, ◌<◌, ◌≤◌, cond, ◌≢◌, List, length, ◌==◌}
 use Rattle.std.specs.Prelude.{slice_index, slice_index_or, refl}
-use Rattle.std.proofs.Common.{sym, ap, ◌∙◌, inl, inr, ⊎_elim, arith, eq-eqb, ne_eqb}
+use Rattle.std.proofs.Common.{sym, ap, ◌∙◌, inl, inr, arith, eq-eqb, ne_eqb}
 use Rattle.logic.specs.Cases.{same}
-use Rattle.sizes.specs.Sizes.{array_words, slot_at, slot_end, last_slot, cell_count, cells_at, totals_at, total_at}
+use Rattle.sizes.specs.Sizes.{array_words, slot_at, slot_end, last_slot, cell_count, cells_at, totals_at}
 use Rattle.sizes.specs.Sizes.{array_at, word_at, cell_at}
 use Rattle.slots.specs.Word.{IsFeed, hop_in}
 use Rattle.slots.specs.Winner.{winner_same}
-use Rattle.slots.specs.Slot.{free_won}
 use Rattle.array.specs.Tag.{level_in}
 use Rattle.array.specs.Cell.{best_in, link_in, block_in}
 use Rattle.array.specs.Right.{right_ext}
 use Rattle.calm.specs.Same.{settled_ext}
 use Rattle.tree.specs.Arrays.{Arrays, node, lev}
-use Rattle.tree.specs.Shape.{Shape}
 use Rattle.tree.specs.Tree.{Level, node-level}
 use Rattle.tree.specs.Taken.{First}
 use Rattle.tree.specs.SlotSet.{TreeSlotSet, same_shape, same_node}
@@ -27,7 +25,7 @@ use Rattle.totals.proofs.Bound.{total_most}
 use Rattle.totals.specs.Marks.{mark, mark_same}
 use Rattle.totals.specs.Most.{own_some}
 use Rattle.totals.proofs.Most.{mark_most}
-use Rattle.totals.specs.Raise.{Takes, set_takes, set_frees, Raised}
+use Rattle.totals.specs.Raise.{set_takes, set_frees, Raised}
 use Rattle.totals.proofs.Raise.{raise, lower}
 use Rattle.words.specs.Words.{feeds_of, arrays_of, array_count, words_of, slots_of, bests_of, blocks_of, totals_of}
 use Rattle.words.specs.TableBut.{TableBut}

@@ -1,10 +1,14 @@
 -- The size of a table's words, by the number of its arrays. Assumes nothing.
 use Rattle.std.specs.Prelude.{◌≡◌, ℕ, ◌+◌, ◌≤◌, false, List, length}
 use Rattle.std.proofs.Common.{arith}
-use Rattle.sizes.specs.Sizes.{most_arrays, array_at}
+use Rattle.sizes.specs.Sizes.{least_words, most_words, most_arrays, array_at}
 use Rattle.routes.specs.Seen.{misfits}
 use Rattle.words.specs.Words.{array_count}
 use Rattle.words.specs.View.{no_misfit_fits}
+
+-- no fewer words than a table has at least, and no more than it has at most
+abbrev pub Bounded : List ℕ → Type 0
+Bounded ws = (least_words ≤ length ws) × (length ws ≤ most_words)
 
 -- the words of n arrays and of the header
 pub record Sized (ws : List ℕ) (n : ℕ) : Type 0 where

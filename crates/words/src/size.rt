@@ -10,13 +10,7 @@ use sizes::{ARRAY_WORDS, LEAST_WORDS, MOST_WORDS};
 pub fn misfit(n: usize) -> bool
     ensures { result ≡ misfits n }
 {
-    if n % ARRAY_WORDS != 0 {
-        return true;
-    }
-    if n < LEAST_WORDS {
-        return true;
-    }
-    n > MOST_WORDS
+    n % ARRAY_WORDS != 0 || n < LEAST_WORDS || n > MOST_WORDS
 }
 
 // How many arrays the words hold besides the header.

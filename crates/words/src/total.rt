@@ -15,7 +15,7 @@ use array::tag::{cell_in, parent_in};
 use sizes::{ARRAY_WORDS, CELL_SLOTS, SLOT_WORDS, TOTALS_AT};
 
 // What takes 1 away, as words wrap.
-pub const LESS_ONE: u32 = 4294967295;
+pub const LESS_ONE: u32 = u32::MAX;
 
 // The total of slot s of array a.
 pub fn total(words: &[u32], a: usize, s: usize) -> u32
@@ -26,6 +26,7 @@ pub fn total(words: &[u32], a: usize, s: usize) -> u32
 }
 
 // The total of a slot that is named by the place of its first word.
+#[tactic(auto, unfolding(crate::specs::Empty::total_in))]
 pub fn total_in(words: &[u32], slot: usize) -> u32
     requires { Within words.now slot }
     ensures { result ≡ total_in words.now slot }
@@ -62,19 +63,15 @@ pub fn add_on(words: &mut [u32], a: usize, slot: usize, by: u32)
 }
 
 // What a slot's winning hops before and after, 0 for none, add to its totals.
+// kept: hop 0 is none in the words themselves (`step` of specs/Retotalled), and no option is made of it to be tested once.
 fn step(before: u32, after: u32) -> u32
     ensures { result ≡ step_of before after }
 {
-    if before == 0 {
-        if after == 0 {
-            return 0;
-        }
-        return 1;
+    match (before == 0, after == 0) {
+        (true, false) => 1,
+        (false, true) => LESS_ONE,
+        _ => 0,
     }
-    if after == 0 {
-        return LESS_ONE;
-    }
-    0
 }
 
 // The totals after a word of a slot of array a was set: 1 more on its path where it got its first candidate, 1 less where it

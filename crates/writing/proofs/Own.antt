@@ -3,10 +3,14 @@ use mathlib.Core.Path.{◌≡◌, refl, sym, ap, ◌∙◌}
 use mathlib.Core.Logic.{◌≢◌}
 use mathlib.Core.Bool.{true}
 use mathlib.Core.List.{List, [], ◌∷◌, ◌++◌, append-nil}
-use Prim.Native.Nat.{ℕ, zero, suc, ◌+◌, ◌-◌, ◌*◌, ◌%◌, ◌^◌, ◌≤◌, ◌<◌}
+use Prim.Native.Nat.{ℕ, zero, suc, ◌+◌, ◌-◌, ◌*◌, ◌^◌, ◌≤◌, ◌<◌}
 use native.Mathlib.Omega.{arith}
 use lib.ListN.{length, get_or, set, drop, length-append, drop_of_length-le}
 use lib.Seq.{sets, drop-cons}
+use borrow.Rule.Slice.PartMut.{put_mid}
+use Rattle.std.proofs.lemmas.List.Edits.{sets-eq}
+use Rattle.std.proofs.Common.{append_assoc}
+use Rattle.std.proofs.lemmas.Grind.{common_steps}
 use Rattle.numbers.specs.Wrote.{Wrote, wrote_none, wrote_two}
 use Rattle.numbers.specs.Digits.{one, two, digits}
 use Rattle.numbers.proofs.Back.{number_digits}
@@ -15,7 +19,7 @@ use Rattle.routes.specs.Family.{levels, announcing_for, kind_of}
 use Rattle.candidates.specs.Bytes.{announces_for, sent_bytes}
 use Rattle.encoded.specs.Encoded.{size_back}
 use Rattle.address.specs.Parts.{filled, filled-length, filled-bytes}
-use Rattle.slots.specs.Word.{IsFeed, preference_in, hop_in}
+use Rattle.slots.specs.Word.{preference_in, hop_in}
 use Rattle.slots.specs.Slot.{free_slot_b, free_slot_reflects}
 use Rattle.slots.specs.Page.{words_at}
 use Rattle.gather.specs.Gather.{meant, listed, of_feeds}
@@ -23,6 +27,14 @@ use Rattle.writing.specs.Records.{bytes_of, bytes-append}
 use Rattle.writing.specs.Prefix.{reach, prefix_of, leads-number}
 use Rattle.words.specs.Empty.{slot_none}
 use Rattle.writing.specs.Asked.{family_of, bytes_word, bytes_feeds, bytes_own, Puts, PutsSlot}
+
+-- ---- put_all: the part that is copied to
+
+pub put_part : (b : List ℕ) (at k : ℕ) (xs ys : List ℕ) → ys ≡ xs → length xs ≡ k → at + k ≤ length b
+    → put_mid at k b ys ≡ sets b at xs
+put_part b at k xs ys e f h =
+    let g : at + length xs ≤ length b = omega (arith, f, h) in
+    rw (e, sets-eq xs b at g, append_assoc, f) (grind (arith, common_steps))
 
 -- ---- put_bytes: what is left to be copied is the whole
 
@@ -34,8 +46,8 @@ module _ (b h : List ℕ) (at : ℕ) (c : List ℕ) (i : ℕ) (inv : sets c (at 
       let g : i + 1 ≡ suc i = omega arith in
       rw (f, g, e) (rw (drop-cons h i 0 l) at inv)
 
-  pub copy_done : length h ≡ i → Wrote b at h (at + i) c
-  copy_done e =
+  pub copy_done : (n : ℕ) → length h ≡ n → n ≤ i → Wrote b at h (at + n) c
+  copy_done n e l =
       record { place = rw e; list = rw (drop_of_length-le h {i = i} (omega arith)) at inv }
 
 -- ---- put
@@ -66,9 +78,9 @@ module _ {feed word bits : ℕ} {a b : List ℕ} {at : ℕ} (p : Puts feed word 
   abbrev M : ℕ
   M = reach (length a) bits
 
-  -- room for length, hop, feed and preference, and no more
-  pub put_end : word ≢ 0 → {q : ℕ} → q ≡ at + 1 + length (filled M a) → q + 5 ≤ length b
-  put_end n e = omega (arith, put_room n, filled-length a M (omega arith))
+  -- behind the address there is room for the rest, and no more
+  pub put_end : word ≢ 0 → {p q : ℕ} → p ≡ at + 1 → q ≡ p + length (filled M a) → q + 5 ≤ length b
+  put_end n f e = omega (arith, put_room n, filled-length a M (omega arith))
 
   -- what stands behind the address
   abbrev Tail : List ℕ
@@ -85,22 +97,10 @@ module _ {feed word bits : ℕ} {a b : List ℕ} {at : ℕ} (p : Puts feed word 
       let f : digits n' (prefix_of a bits * 2 ^ bits) ≡ filled M a = ap (digits n') (sym (leads-number p.leads)) ∙ e in
       word_some bits a feed word n ∙ ap (λ (xs : List ℕ). Kind ∷ (xs ++ Tail)) f
 
-  -- kind, address, length, hop, feed and preference, one after the other
-  pub put_some : AreBytes a → word ≢ 0 → (k : ℕ) → k ≡ Kind → (c : List ℕ) (q : ℕ) → Wrote (set b at k) (at + 1) (filled M a) q c
-      → (hop : ℕ) → hop ≡ hop_in word → (pref : ℕ) → pref ≡ preference_in word
-      → (e : List ℕ) → e ≡ sets (set c q ((8 * length a - bits) % 256)) (q + 1) (two hop)
-      → Wrote b at (bytes_word bits a feed word) (q + 5) (set (set e (q + 3) (feed % 256)) (q + 4) (pref % 256))
-  put_some ok n k ek c q w hop eh pref ep e f =
-      let l = (8 * length a - bits) % 256 in
-      let x : Wrote b at (Kind ∷ []) (at + 1) (set b at k) = record { place = refl; list = ap (set b at) ek } in
-      let y : Wrote c q (l ∷ []) (q + 1) (set c q l) = record { place = refl; list = refl } in
-      let z : Wrote (set c q l) (q + 1) (two (hop_in word)) (q + 3) e =
-      record { place = omega arith; list = f ∙ ap (λ (h : ℕ). sets (set c q l) (q + 1) (two h)) eh } in
-      let i = set e (q + 3) (feed % 256) in
-      let u : Wrote e (q + 3) (one feed) (q + 4) i = record { place = omega arith; list = refl } in
-      let t : Wrote i (q + 4) (one (preference_in word)) (q + 5) (set i (q + 4) (pref % 256)) =
-      record { place = omega arith; list = rw ep } in
-      rw (word_bytes ok n) (wrote_two x (wrote_two w (wrote_two y (wrote_two z (wrote_two u t)))))
+  -- kind, address and the rest, one after the other
+  pub put_some : AreBytes a → word ≢ 0 → {k : ℕ} → k ≡ Kind → {c d e rest : List ℕ} {p q r : ℕ} → Wrote b at (k ∷ []) p c
+      → Wrote c p (filled M a) q d → rest ≡ Tail → Wrote d q rest r e → Wrote b at (bytes_word bits a feed word) r e
+  put_some ok n ek w x et y = rw (word_bytes ok n, ← ek, ← et) (wrote_two w (wrote_two x y))
 
 -- ---- put_feeds and put_slot
 
@@ -130,24 +130,18 @@ module _ {ws : List ℕ} {slot : ℕ} {a : List ℕ} {bits : ℕ} {b : List ℕ}
   abbrev g : ℕ → ℕ
   g = words_at ws slot
 
-  pub left_all : Left ws slot a bits b at b at 1
-  left_all = record { some = omega arith; most = omega arith; long = refl; room = s.room; whole = λ q e w. w }
-
   module _ {c : List ℕ} {p f : ℕ} (l : Left ws slot a bits b at c p f) where
     pub left_done : 4 < f → Wrote b at (bytes_own bits a g) p c
     left_done h =
         let e : 5 - f ≡ 0 = omega (arith, l.most) in
         l.whole p c (rw (e, feeds_done bits a g f) (wrote_none c p))
 
-    module _ (h : f ≤ 4) where
+    module _ (h : f < 5) where
       next : bytes_feeds bits a g f (5 - f) ≡ bytes_word bits a f (g f) ++ bytes_feeds bits a g (f + 1) (5 - (f + 1))
       next =
           let e : 5 - f ≡ suc (5 - (f + 1)) = omega arith in
           let n : f + 1 ≡ suc f = omega arith in
           rw (e, n) (feeds_more bits a g f (5 - suc f))
-
-      pub ask-feed : IsFeed f
-      ask-feed = record { low = l.some; high = h }
 
       pub ask-word : (w : ℕ) → w ≡ g f → Puts f w a bits c p
       ask-word w e = record {

@@ -8,7 +8,8 @@ ghost use Rattle.candidates.specs.Seen.{count_on, front_on};
 ghost use Rattle.slots.specs.Page.{words_at};
 ghost use Rattle.words.specs.Table.{seen};
 ghost use Rattle.families.specs.Said.{said_family};
-ghost use Rattle.writing.specs.Answer.{count_answer, HasFilled};
+ghost use Rattle.refusals.specs.Number.{said};
+ghost use Rattle.writing.specs.Answer.{bytes_put, HasFilled};
 ghost use Rattle.numbers.specs.Wrote.{Wrote};
 ghost use Rattle.writing.specs.Asked.{family_of, bytes_word, bytes_own, bytes_below, bytes_all, Puts, PutsSlot};
 ghost use Rattle.writing.specs.Asked.{Sides, Branches, Splits, Keeps, list_bytes, Starts, Dumps};
@@ -16,65 +17,50 @@ ghost use Rattle.writing.specs.Prefix.{stand_at};
 ghost use Rattle.address.specs.Parts.{filled};
 
 use families::Family;
+use refusals::Refusal;
 use sizes::{ROOT_SLOT, SLOT_WORDS};
 use slots::slot::{is_free, word_at};
 use slots::word::{hop_in, preference_in};
 use words::part::half;
 use words::total::total_in;
 
-// The number of bytes of the list written out, or the number with which that is refused.
-#[derive(Clone, Copy)]
-pub enum Counted {
-    Bytes(usize),
-    Refused(u32),
-}
+// The bytes of an address of IPv4, and of IPv6.
+const V4_BYTES: usize = 4;
 
-// The bytes of an IPv6 address.
 const V6_BYTES: usize = 16;
 
-// The byte at i of the address of a prefix that reaches into some bytes: 0 behind them. It is read first, so that the test
-// needs no jump.
-fn byte_of(address: &[u8], reach: usize, i: usize) -> u8
-    requires { (reach ≤ length address.now) × (i < length address.now) }
-    ensures { result ≡ get_or (filled reach address.now) i 0 }
+// Some bytes at `at`; returns the place after them.
+pub fn put_all<const N: usize>(bytes: &[u8; N], buffer: &mut [u8], at: usize) -> usize
+    requires { at + N ≤ length buffer.old }
+    ensures { Wrote buffer.old at bytes.now result buffer.new }
 {
-    let y = address[i];
-    if i < reach {
-        return y;
-    }
-    0
+    buffer[at..at + N].copy_from_slice(bytes);
+    at + N
 }
 
-// The bytes of a prefix's address at `at`; returns the place after them.
-fn put_bytes(address: &[u8], reach: usize, buffer: &mut [u8], at: usize) -> usize
-    requires { (reach ≤ length address.now) × (at + length address.now ≤ length buffer.old) }
-    ensures { Wrote buffer.old at (filled reach address.now) result buffer.new }
+// The bytes of a prefix's address at `at`, which reaches into some of them: 0 behind these. Returns the place after them. The
+// address comes by value, and each byte is read whether it is used or not, so that no test needs a jump.
+fn put_bytes<const L: usize>(address: [u8; L], reach: usize, buffer: &mut [u8], at: usize) -> usize
+    requires { (reach ≤ L) × (at + L ≤ length buffer.old) }
+    ensures { Wrote buffer.old at (filled reach address.entry) result buffer.new }
 {
-    let mut i = 0;
-    while i < address.len() {
-        buffer[at + i] = byte_of(address, reach, i);
-        i += 1;
+    for (i, &own) in address.iter().enumerate() {
+        let byte = if i < reach { own } else { 0 };
+        buffer[at + i] = byte;
     }
-    at + i
-}
-
-// The same of an IPv6 address, by value.
-fn put_sixteen(address: [u8; 16], reach: usize, buffer: &mut [u8], at: usize) -> usize
-    requires { (reach ≤ 16) × (at + 16 ≤ length buffer.old) }
-    ensures { Wrote buffer.old at (filled reach address) result buffer.new }
-{
-    put_bytes(&address[..], reach, buffer, at)
+    at + L
 }
 
 // The same of either family's.
 fn put_address(address: &[u8], reach: usize, buffer: &mut [u8], at: usize) -> usize
-    requires { (reach ≤ length address.now) × (at + length address.now ≤ length buffer.old) }
+    requires family { levels (family_of address.now) ≡ length address.now }
+    requires room { (reach ≤ length address.now) × (at + length address.now ≤ length buffer.old) }
     ensures { Wrote buffer.old at (filled reach address.now) result buffer.new }
 {
     if address.len() == V6_BYTES {
-        return put_sixteen(address::sixteen_of(address), reach, buffer, at);
+        return put_bytes::<V6_BYTES>(address.try_into().unwrap(), reach, buffer, at);
     }
-    put_bytes(address, reach, buffer, at)
+    put_bytes::<V4_BYTES>(address.try_into().unwrap(), reach, buffer, at)
 }
 
 // The record of a prefix at `at` with a feed's candidate, unless its word is 0; returns the place after it. The prefix is the
@@ -87,13 +73,18 @@ fn put(word: u32, feed: usize, address: &[u8], bits: usize, buffer: &mut [u8], a
         return at;
     }
     let length = 8 * address.len() - bits;
-    buffer[at] = families::list_kind(address.len());
-    let end = put_address(address, address.len() - bits / 8, buffer, at + 1);
-    buffer[end] = (length % 256) as u8;
-    numbers::put_two(buffer, end + 1, hop_in(word));
-    buffer[end + 3] = (feed % 256) as u8;
-    buffer[end + 4] = (preference_in(word) % 256) as u8;
-    end + 5
+    let start = put_all(&[families::list_kind(address.len())], buffer, at);
+    let end = put_address(address, address.len() - bits / 8, buffer, start);
+    let [.., high, low] = hop_in(word).to_be_bytes();
+    let preference = (preference_in(word) % 256) as u8;
+    let tail = [
+        (length % 256) as u8,
+        high,
+        low,
+        (feed % 256) as u8,
+        preference,
+    ];
+    put_all(&tail, buffer, end)
 }
 
 // The records of a prefix with the candidates in `slot`, lower feed first.
@@ -110,10 +101,8 @@ fn put_feeds(
         (bytes_own bits address.now (words_at words.now slot)) result buffer.new }
 {
     let mut p = at;
-    let mut feed = 1;
-    while feed <= SLOT_WORDS {
+    for feed in 1..SLOT_WORDS + 1 {
         p = put(word_at(words, slot, feed), feed, address, bits, buffer, p);
-        feed += 1;
     }
     p
 }
@@ -151,6 +140,8 @@ pub fn stand_at(address: &mut [u8], slot: usize, bits: usize)
 // The records of the prefix in `slot`, which has some bits below it in the address, and of all below it. Returns the place after
 // them. The address is lent to be changed: of the bytes that the prefix reaches into all but the last are there, and stay. Where
 // the slot's total is 0 there are no records, and nothing else is read.
+// kept: the place and the output are no structs, since every clause would grow: `out.old.buffer.now` for `buffer.old`.
+// kept: a slice and no `[u8; L]`, since no proof closes of functions that call each other over a const parameter.
 #[cycle(branch_halves_side_some)]
 fn side(
     words: &[u32],
@@ -172,7 +163,7 @@ fn side(
 }
 
 // The same without the test: the prefix's own records, and what is below it. Apart from `side`, so that the compiler tests a
-// total before it calls: most are 0.
+// total before it calls: most are 0. kept: speed.
 #[cycle(branch_halves_side_some)]
 fn some(
     words: &[u32],
@@ -210,14 +201,14 @@ fn branch(
     if bits == 0 {
         return at;
     }
-    let low = half(words, slot);
-    if low == 0 {
+    let Some(low) = half(words, slot) else {
         return at;
-    }
+    };
     halves(words, low, address, bits, buffer, at)
 }
 
 // The same where its lower half stands in the slot `low`: that half's records, then the upper half's.
+// kept: speed. Apart from `branch`, which tests for a half before the call: as one function writing out takes a fifth longer.
 #[cycle(branch_halves_side_some)]
 fn halves(
     words: &[u32],
@@ -249,8 +240,7 @@ fn dump_from(words: &[u32], address: &mut [u8], buffer: &mut [u8]) -> usize
     let p = put_slot(words, ROOT_SLOT, address, bits, buffer, 0);
     let low = ROOT_SLOT + SLOT_WORDS;
     let end = halves(words, low, address, bits, buffer, p);
-    buffer[end] = 0;
-    end + 1
+    put_all(&[0], buffer, end)
 }
 
 // The same for a family.
@@ -259,58 +249,47 @@ fn dump(words: &[u32], family: Family, buffer: &mut [u8]) -> usize
     ensures { Wrote buffer.old 0 (list_bytes (said_family family) words.now)
         result buffer.new }
 {
-    match family {
-        Family::V4 => {
-            let mut address = [0u8; 4];
-            dump_from(words, &mut address[..], buffer)
-        }
-        Family::V6 => {
-            let mut address = [0u8; 16];
-            dump_from(words, &mut address[..], buffer)
-        }
-    }
+    let mut address = [0u8; V6_BYTES];
+    dump_from(words, &mut address[..families::levels(family)], buffer)
 }
 
-// How many bytes writing a family's list out puts into a buffer of `room` bytes, or the number with which it refuses.
-pub fn count_of(words: &[u32], family: Family, room: usize) -> Counted
-    ensures { count_answer result ≡ count_on (said_family family) (seen (levels (said_family family)) words.now) room }
+// How many bytes writing a family's list out puts into a buffer of `room` bytes.
+pub fn count_of(words: &[u32], family: Family, room: usize) -> Result<usize, Refusal>
+    ensures { said result ≡ count_on (said_family family) (seen (levels (said_family family)) words.now) room }
 {
     let levels = families::levels(family);
-    let checked = audit::check_of(words, levels as u32);
-    match checked {
-        audit::Checked::Counts(routes, _) => {
-            let bytes = (levels + 6) * routes as usize + 1;
-            if room < bytes {
-                return Counted::Refused(9);
-            }
-            Counted::Bytes(bytes)
-        }
-        audit::Checked::Refused(number) => Counted::Refused(number),
+    let counts = audit::check_of(words, levels as u32)?;
+    let bytes = (levels + 6) * counts.routes as usize + 1;
+    if room < bytes {
+        return Err(Refusal::Short);
     }
+    Ok(bytes)
 }
 
 // Of an IPv4 list.
-pub fn count(words: &[u32], room: usize) -> Counted
-    ensures { count_answer result ≡ count_on v4 (seen 4 words.now) room }
+// kept: `count`, `fill` and `write_out` are named by the documents, and fix one argument: no twins.
+pub fn count(words: &[u32], room: usize) -> Result<usize, Refusal>
+    ensures { said result ≡ count_on v4 (seen 4 words.now) room }
 {
     count_of(words, Family::V4, room)
 }
 
-// Writes a family's list out at the front of the buffer, whose other bytes stay; returns how many bytes, 0 where the count
-// refuses.
-pub fn fill_of(words: &[u32], family: Family, buffer: &mut [u8]) -> usize
-    ensures { HasFilled (said_family family) (seen (levels (said_family family)) words.now)
-        buffer.old result buffer.new }
+// Writes a family's list out at the front of the buffer, whose other bytes stay; returns how many bytes. Where the count refuses,
+// all of them stay.
+pub fn fill_of(words: &[u32], family: Family, buffer: &mut [u8]) -> Result<usize, Refusal>
+    ensures answer { said result ≡ count_on (said_family family) (seen (levels (said_family family)) words.now)
+        (length buffer.old) }
+    ensures filled { HasFilled (said_family family) (seen (levels (said_family family)) words.now)
+        buffer.old (bytes_put result) buffer.new }
 {
-    let Counted::Bytes(_) = count_of(words, family, buffer.len()) else {
-        return 0;
-    };
-    dump(words, family, buffer)
+    count_of(words, family, buffer.len())?;
+    Ok(dump(words, family, buffer))
 }
 
 // An IPv4 list.
-pub fn fill(words: &[u32], buffer: &mut [u8]) -> usize
-    ensures { HasFilled v4 (seen 4 words.now) buffer.old result buffer.new }
+pub fn fill(words: &[u32], buffer: &mut [u8]) -> Result<usize, Refusal>
+    ensures answer { said result ≡ count_on v4 (seen 4 words.now) (length buffer.old) }
+    ensures filled { HasFilled v4 (seen 4 words.now) buffer.old (bytes_put result) buffer.new }
 {
     fill_of(words, Family::V4, buffer)
 }
@@ -321,7 +300,7 @@ pub fn write_out_of<'a>(words: &[u32], family: Family, buffer: &'a mut [u8]) -> 
     ensures bytes { result.now ≡ front_on (said_family family) (seen (levels (said_family family)) words.now)
         (length buffer.old) }
 {
-    let n = fill_of(words, family, &mut buffer[..]);
+    let n = fill_of(words, family, &mut buffer[..]).unwrap_or(0);
     &mut buffer[..n]
 }
 

@@ -10,6 +10,6 @@ returns-then-misfit c = λ L some levels. search (rules, clear_refused)
 pub returns : goal.returns
 returns c =
     λ L some levels.
-    rw c.array_at-root.ensures
-    (clear_done L some levels c.args.words.now c.wipe.new.words
-    (sym c.misfit.ensures ∙ c.if-misfit.false) c.wipe.ensures)
+    rw c.array_at.ensures
+    (clear_done L some levels c.args.words.now c.fill.new.self
+    (sym c.misfit.ensures ∙ c.if-misfit.false) (c.fill.ensures.after (λ y e. e)))

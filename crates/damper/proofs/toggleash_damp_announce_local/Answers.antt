@@ -5,4 +5,4 @@ use Rattle.damper.proofs.toggleash_damp_announce_local.Goals as goal
 pub returns : goal.returns
 returns c =
     let a = c.announce_local in
-    made_locally _ _ _ _ _ a.result _ a.ensures c.change.ensures
+    made_locally _ _ _ _ _ a.result _ a.ensures c.from.ensures

@@ -5,4 +5,4 @@ use Rattle.damper.proofs.toggleash_damp_tick.Goals as goal
 pub returns : goal.returns
 returns c =
     let a = c.tick in
-    ticked _ _ _ _ a.result _ a.ensures c.counts.ensures
+    ticked _ _ _ _ a.result _ a.ensures c.from.ensures

@@ -5,4 +5,4 @@ use Rattle.damper.proofs.toggleash_damp_withdraw.Goals as goal
 pub returns : goal.returns
 returns c =
     let a = c.withdraw in
-    made _ _ _ _ _ a.result _ a.ensures c.change.ensures
+    made _ _ _ _ _ a.result _ a.ensures c.from.ensures

@@ -7,6 +7,3 @@ use Rattle.lengths.proofs.probe_on.Given as goal
 abbrev pub invariant-loop-e : goal.invariant-loop-e
 invariant-loop-e l = (l.e ≤ l.p)
     × (probe (places_of l.words l.m l.o l.p) l.p l.v (l.p - l.e) l.e ≡ probe (places_of l.words l.m l.o l.p) l.p l.v (l.p - l.d) l.d)
-
-abbrev pub decreases-loop-e : goal.decreases-loop-e
-decreases-loop-e l = l.p - l.e

@@ -7,5 +7,5 @@ pub returns : goal.returns
 returns c =
     let reach = c.reach in
     let count = c.count in
-    entries-told c.args.bytes.now c.args.m reach.result count.result c.requires.0 c.requires.1 c.requires.2
+    entries-told c.args.list.bytes.now c.args.m reach.result count.result c.args.list.list c.requires.0 c.requires.1
     reach.ensures count.ensures

@@ -3,7 +3,4 @@ use Rattle.lengths_build.specs.Filling.{Filled}
 use Rattle.lengths_build.proofs.fill.Given as goal
 
 abbrev pub invariant-loop-i : goal.invariant-loop-i
-invariant-loop-i l = Filled l.marks l.bytes l.initial.words l.words l.i l.m l.o l.size
-
-abbrev pub decreases-loop-i : goal.decreases-loop-i
-decreases-loop-i l = l.i
+invariant-loop-i l = Filled l.marks l.list.bytes.now l.initial.words l.words l.i l.t.m l.t.o l.t.size

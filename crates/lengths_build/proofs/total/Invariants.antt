@@ -8,7 +8,4 @@ use Rattle.lengths_build.specs.Build.{entries_bound}
 use Rattle.lengths_build.proofs.total.Given as goal
 
 abbrev pub invariant-loop-m : goal.invariant-loop-m
-invariant-loop-m l = (l.m ≤ 32) × (l.sum ≡ entries_to l.m (list_of l.bytes) + tally 0 (list_of l.bytes)) × (l.sum ≤ entries_bound * l.m + entries_bound)
-
-abbrev pub decreases-loop-m : goal.decreases-loop-m
-decreases-loop-m l = 32 - l.m
+invariant-loop-m l = (l.m ≤ 33) × (l.sum ≡ entries_to (l.m - 1) (list_of l.list.bytes.now) + tally 0 (list_of l.list.bytes.now)) × (l.sum ≤ entries_bound * l.m)

@@ -3,7 +3,7 @@ use mathlib.Core.Path.{refl}
 use Prim.Native.Nat.{◌-◌, ◌<◌}
 use native.Mathlib.Omega.{arith}
 use Rattle.words.specs.Rises.{rises_inside}
-use Rattle.paths.specs.Hung.{hanging_first, hanging_gains, hanging_more}
+use Rattle.paths.specs.Hung.{hanging_first, hanging_gains, hanging_more, hanging_done}
 use Rattle.paths.proofs.hang_path.Goals as goal
 
 pub loop-i-init : goal.loop-i-init
@@ -22,8 +22,13 @@ loop-i-preserved c =
     let a = c.args in
     let q = c.requires in
     let g = c.loop-i.invariant.1 in
-    let n = c.loop-i.i - a.j in
-    let p : n < a.k - a.j = omega (arith, g.low) in (
+    let n = c.loop-i.i - a.s.level in
+    let p : n < a.k - a.s.level = omega (arith, g.low) in (
       omega (arith, (q.fresh n p).within, q.most),
       hanging_more q g (omega arith) c.byte_at-y.result _ c.byte_at-y.ensures.0 refl c.gain.new.words c.gain.ensures,
     )
+
+pub returns : goal.returns
+returns c =
+    let g = c.loop-i.invariant.1 in
+    (hanging_done c.requires g (omega (arith, g.high)), c.loop-i.invariant.0)

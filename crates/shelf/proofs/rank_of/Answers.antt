@@ -1,24 +1,17 @@
--- The loop keeps that the rows before lo come before the candidate, and those from hi on do not. Assumes nothing.
-use Rattle.shelf.specs.Ranks.{falls, between-up, between-down, between_end}
-use Rattle.rows.specs.Row.{row_at}
-use native.Mathlib.Omega.{arith}
+-- The rows before a candidate come first. Assumes nothing.
+use Rattle.std.proofs.Common.{◌≡◌, ◌≤◌, arith, rules}
+use Rattle.std.specs.Simd.{first_chunks}
+use Rattle.std.proofs.lemmas.List.Sorted.{IsPartitionPoint-from_clause}
+use Rattle.shelf.proofs.Chunks.{chunk_before, chunks_fall, rank_told}
 use Rattle.shelf.proofs.rank_of.Goals as goal
-
-pub loop-lo-preserved-then-precedes : goal.loop-lo-preserved-then-precedes
-loop-lo-preserved-then-precedes c =
-    let s = c.loop-lo in
-    let p = c.precedes in
-    between-up (row_at c.args.words.now) c.args.k s.lo s.hi p.result (falls c.args.words.now c.args.k c.requires) s.invariant
-    c.loop-lo-test.true p.ensures c.if-precedes.true
-
-pub loop-lo-preserved : goal.loop-lo-preserved
-loop-lo-preserved c =
-    let s = c.loop-lo in
-    let p = c.precedes in
-    between-down (row_at c.args.words.now) c.args.k s.lo s.hi p.result (falls c.args.words.now c.args.k c.requires) s.invariant
-    c.loop-lo-test.true p.ensures c.if-precedes.false
 
 pub returns : goal.returns
 returns c =
-    let s = c.loop-lo in
-    (between_end c.args.words.now c.args.k s.lo s.hi s.invariant c.loop-lo-test.false, omega (arith, s.invariant.order, s.invariant.last))
+    let ws = c.args.words.now in
+    let k = c.args.k in
+    let r = c.partition_point.result in
+    let e : c.as_chunks.result.0.now ≡ first_chunks 4 256 ws = rw c.requires.size at c.as_chunks.ensures.front in
+    let b : r ≤ 256 = omega (arith, c.partition_point.ensures.bound, c.as_chunks.ensures.front_len, c.requires.size) in
+    let f = IsPartitionPoint-from_clause (chunk_before k) c.as_chunks.result.0.now r c.partition_point.ensures.partitioned
+    (rw e (chunks_fall ws k c.requires)) (λ a r q p. search rules) in
+    (rank_told ws k r b (rw e at f), b)

@@ -3,4 +3,5 @@ use Rattle.shelf.specs.Shifts.{stored}
 use Rattle.shelf.proofs.store.Goals as goal
 
 pub returns : goal.returns
-returns c = stored c.args.words.now c.args.i c.args.a c.args.w c.args.x c.args.k c.requires.0 c.requires.1
+returns c =
+    let r = c.args.row in stored c.args.words.now c.args.i r.address r.who r.mark r.kept c.requires.0 c.requires.1

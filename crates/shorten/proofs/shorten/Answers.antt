@@ -5,18 +5,18 @@ use Rattle.shorten.proofs.shorten.Goals as goal
 
 pub put_routes-end-requires : goal.put_routes-end-requires
 put_routes-end-requires c =
-    let k = given c.args.words.now c.args.scratch.now c.args.buffer.now c.count-counted.result c.count-counted.new.scratch
-    c.count-counted.ensures c.in-Bytes.bytes c.in-Bytes.is in
-    ask-put k c.count-counted.auto.scratch
+    let k = given c.args.words.now c.args.scratch.now c.args.buffer.now c.in_ok-bytes.bytes c.count.new.scratch
+    c.in_ok-bytes.ensures in
+    ask-put k c.count.auto.scratch
 
 pub bounds-buffer-end : goal.bounds-buffer-end
 bounds-buffer-end c =
-    let k = given c.args.words.now c.args.scratch.now c.args.buffer.now c.count-counted.result c.count-counted.new.scratch
-    c.count-counted.ensures c.in-Bytes.bytes c.in-Bytes.is in
+    let k = given c.args.words.now c.args.scratch.now c.args.buffer.now c.in_ok-bytes.bytes c.count.new.scratch
+    c.in_ok-bytes.ensures in
     omega (arith, end_room k c.put_routes-end.ensures, c.put_routes-end.auto.buffer)
 
-pub returns-in-Bytes : goal.returns-in-Bytes
-returns-in-Bytes c =
-    let k = given c.args.words.now c.args.scratch.now c.args.buffer.now c.count-counted.result c.count-counted.new.scratch
-    c.count-counted.ensures c.in-Bytes.bytes c.in-Bytes.is in
+pub returns : goal.returns
+returns c =
+    let k = given c.args.words.now c.args.scratch.now c.args.buffer.now c.in_ok-bytes.bytes c.count.new.scratch
+    c.in_ok-bytes.ensures in
     short_done k c.put_routes-end.ensures

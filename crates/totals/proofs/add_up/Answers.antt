@@ -1,6 +1,6 @@
 -- `totals::add_up` meets its contract. The loop's invariant: what is left to add is the whole. The measure is the slot. Assumes
 -- nothing.
-use Rattle.std.proofs.Common.{arith}
+use Rattle.std.proofs.Common.{arith, rules}
 use Rattle.totals.specs.Up.{left_all, left_more, left_none}
 use Rattle.totals.proofs.add_up.Goals as goal
 
@@ -15,8 +15,8 @@ loop-s-preserved c =
     let l = c.loop-s in
     let a = c.args in (
       omega arith,
-      left_more a.page.now a.slot a.by l.page l.s c.wrapping_add_u32.result
-          c.loop-s-test.true c.wrapping_add_u32.ensures.value l.invariant.1,
+      left_more a.page.now a.slot a.by l.page l.s _
+          c.loop-s-test.true (search rules) l.invariant.1,
     )
 
 pub returns : goal.returns

@@ -1,48 +1,26 @@
--- `update::announce_of` meets its contract: by the number that stands before the work, or by the work's promise on a table.
--- Assumes nothing.
-use mathlib.Core.Path.{◌≡◌, sym, ap, ◌∙◌}
-use Prim.Native.Nat.{◌*◌}
-use lib.ListN.{length as size}
-use Rattle.numbers.specs.Number.{number}
-use Rattle.candidates.specs.Answers.{announce as update}
-use Rattle.words.specs.TableBut.{Table}
-use Rattle.update.specs.Update.{refusal_of}
-use Rattle.update.specs.Fault.{fault_of, sound-route}
-use Rattle.update.specs.Refuse.{refused_by_lem, passed, applied}
+-- `update::announce_of` meets its contract: by the number that stands before the work, or by the work's promise on a table. Assumes
+-- nothing.
+use Rattle.std.proofs.Common.{length}
+use Rattle.refusals.specs.Number.{fault}
+use Rattle.update.specs.Refuse.{refused_named, passed_named}
 use Rattle.update.proofs.announce_of.Goals as goal
 
-pub returns-then-n-ne0 : goal.returns-then-n-ne0
-returns-then-n-ne0 c =
-    let a = c.args in
-    let b = a.address.now in
-    refused_by_lem (size b) a.words.now c.requires.some c.requires.levels _ _
-    (c.refusal-n.ensures ∙ ap (refusal_of (size b) a.words.now) c.announce_fault-fault.ensures) c.if-n-ne0.true
+pub returns-in-Err : goal.returns-in-Err
+returns-in-Err c =
+    let b = c.args.address.now in
+    refused_named (length b) c.args.words.now c.requires.some c.requires.levels _ _ c.in-Err.e (fault c.announce_fault-own.result)
+    c.number.ensures.0 c.in-Err.ensures c.announce_fault-own.ensures
 
--- past the test the words are a table and the update has no fault
-pub announce_in-requires-clause-least_words_bound : goal.announce_in-requires-clause-least_words_bound
-announce_in-requires-clause-least_words_bound c =
-    let a = c.args in
-    let b = a.address.now in
-    let p : Table (size b) a.words.now × (fault_of (8 * size b) (update (number b) a.length a.hop a.feed a.preference) ≡ 0) =
-    passed (size b) a.words.now c.requires.some c.requires.levels _
-    (sym (c.refusal-n.ensures ∙ ap (refusal_of (size b) a.words.now) c.announce_fault-fault.ensures) ∙ c.if-n-ne0.false) in
-    (p.0.low, p.0.high, c.requires, λ _. p.0)
+-- past the test the words are a table
+pub announce_with-requires : goal.announce_with-requires
+announce_with-requires c =
+    let b = c.args.address.now in
+    let i = c.requires in
+    (i, λ _. passed_named (length b) c.args.words.now i.some i.levels (fault c.announce_fault-own.result) c.in-Ok.ensures)
 
-pub announce_in-requires-clause-sound_route : goal.announce_in-requires-clause-sound_route
-announce_in-requires-clause-sound_route c =
-    let a = c.args in
-    let b = a.address.now in
-    let p : Table (size b) a.words.now × (fault_of (8 * size b) (update (number b) a.length a.hop a.feed a.preference) ≡ 0) =
-    passed (size b) a.words.now c.requires.some c.requires.levels _
-    (sym (c.refusal-n.ensures ∙ ap (refusal_of (size b) a.words.now) c.announce_fault-fault.ensures) ∙ c.if-n-ne0.false) in
-    sound-route (size b) (number b) a.length a.hop a.feed a.preference p.1
-
-pub returns : goal.returns
-returns c =
-    let w = c.announce_in in
-    let a = c.args in
-    let b = a.address.now in
-    let p : Table (size b) a.words.now × (fault_of (8 * size b) (update (number b) a.length a.hop a.feed a.preference) ≡ 0) =
-    passed (size b) a.words.now c.requires.some c.requires.levels _
-    (sym (c.refusal-n.ensures ∙ ap (refusal_of (size b) a.words.now) c.announce_fault-fault.ensures) ∙ c.if-n-ne0.false) in
-    applied (size b) a.words.now w.new.words _ w.result p.0 p.1 (w.ensures.table p.0) w.ensures.words
+pub returns-in-Ok : goal.returns-in-Ok
+returns-in-Ok c =
+    let b = c.args.address.now in
+    let i = c.requires in
+    c.announce_with.ensures.table
+    (passed_named (length b) c.args.words.now i.some i.levels (fault c.announce_fault-own.result) c.in-Ok.ensures)

@@ -1,5 +1,5 @@
--- `within::descend` is the layout's walk. The loop's invariant: what is left of the walk, from this array on, is the whole walk. The
--- measure is the levels left. Assumes nothing.
+-- `within::descend` is the layout's walk. The loop's invariant: what is left of the walk, from this array on, is the whole walk.
+-- Assumes nothing.
 use mathlib.Core.Path.{◌≡◌}
 use Prim.Native.Nat.{◌-◌, ◌≤◌}
 use lib.ListN.{length}
@@ -11,7 +11,4 @@ abbrev pub invariant-loop-j : goal.invariant-loop-j
 invariant-loop-j l =
     let L = length l.address in
     let x = number l.address in
-    (l.j ≤ l.k) × (1 ≤ l.a) × (l.a ≤ l.arrays) × (walk_from L l.words x l.s l.k (l.k - l.j) l.a ≡ walk_from L l.words x l.s l.k l.k 1)
-
-abbrev pub decreases-loop-j : goal.decreases-loop-j
-decreases-loop-j l = l.k - l.j
+    (1 ≤ l.a) × (l.a ≤ l.arrays) × (walk_from L l.words x l.s l.k (l.k - l.j) l.a ≡ walk_from L l.words x l.s l.k l.k 1)

@@ -6,8 +6,8 @@ use Rattle.words.proofs.empty.Goals as goal
 pub returns : goal.returns
 returns c =
     let s = c.args in (
-      rw c.page.ensures.0 at c.empty.ensures.0,
+      rw c.page.ensures at c.empty.ensures.0,
       λ right.
-          c.empty.ensures.1 (rw c.page.ensures.0 (page_slots s.words.now s.a right)) ∙ rw c.page.ensures.0
+          c.empty.ensures.1 (rw c.page.ensures (page_slots s.words.now s.a right)) ∙ rw c.page.ensures
           (lent_empty s.words.now s.a),
     )

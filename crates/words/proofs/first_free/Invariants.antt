@@ -5,7 +5,6 @@ use Rattle.tree.specs.Free.{first_free}
 use Rattle.words.proofs.first_free.Given as goal
 
 abbrev pub invariant-loop-a : goal.invariant-loop-a
-invariant-loop-a l = (l.from ≤ l.a) × (l.a ≤ l.to) × (first_free (arrays_of l.words) l.a (l.to - l.a) ≡ first_free (arrays_of l.words) l.from (l.to - l.from))
-
-abbrev pub decreases-loop-a : goal.decreases-loop-a
-decreases-loop-a l = l.to - l.a
+invariant-loop-a l =
+    (l.from ≤ l.a)
+    × (first_free (arrays_of l.words) l.a (l.to - l.a) ≡ first_free (arrays_of l.words) l.from (l.to - l.from))

@@ -16,4 +16,4 @@ returns c =
     (released_any ws c.cut_link.new.page c.args.a (parent_in x) (cell_in x) _ _ refl refl
     (omega (arith, known 0)) (omega (arith, known (group_at c.args.a))) c.requires
     (rw (c.cell_in-i.ensures.0, c.parent_in-p.ensures, c.tag-tag.ensures, e) at c.cut_link.ensures)
-    c.wrapping_add_u32-n1.ensures.value c.wrapping_add_u32-m1.ensures.value)
+    refl refl)

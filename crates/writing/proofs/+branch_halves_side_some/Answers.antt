@@ -3,9 +3,10 @@
 -- Assumes nothing.
 use mathlib.Core.Path.{sym, ◌∙◌}
 use native.Mathlib.Omega.{arith}
+use Rattle.std.proofs.Common.{rules}
 use Rattle.writing.proofs.Laws.{side_within, side_none, ask-own, ask-below, side_kept, side_some}
-use Rattle.writing.proofs.Laws.{branch_within, branch_none, branch_bare, ask-halves}
-use Rattle.writing.proofs.Laws.{high_slot, ask-low, ask_high, halves-kept, halves-wrote}
+use Rattle.writing.proofs.Laws.{branch_within, branch_none, branch_bare, branch_half, ask-halves}
+use Rattle.writing.proofs.Laws.{high_slot, ask-low, ask_high, halves-wrote}
 use Rattle.writing.proofs.+branch_halves_side_some.Goals as goal
 
 -- ---- side
@@ -38,16 +39,16 @@ some-returns-clause-wrote t c =
 pub branch-returns-then-bits-eq0-clause-wrote : goal.branch-returns-then-bits-eq0-clause-wrote
 branch-returns-then-bits-eq0-clause-wrote t c = branch_none c.requires c.if-bits-eq0.true
 
-pub branch-half-low-requires : goal.branch-half-low-requires
-branch-half-low-requires t c = branch_within c.requires
+pub branch-half-requires : goal.branch-half-requires
+branch-half-requires t c = branch_within c.requires
 
-pub branch-returns-then-low-eq0-clause-wrote : goal.branch-returns-then-low-eq0-clause-wrote
-branch-returns-then-low-eq0-clause-wrote t c =
-    branch_bare c.requires c.if-bits-eq0.false (sym c.half-low.ensures ∙ c.if-low-eq0.true)
+pub branch-returns-in_default-clause-wrote : goal.branch-returns-in_default-clause-wrote
+branch-returns-in_default-clause-wrote t c = branch_bare c.requires c.if-bits-eq0.false c.in_default.ensures.any
 
 pub branch-halves-requires : goal.branch-halves-requires
 branch-halves-requires t c =
-    (omega (arith, c.decreases), ask-halves c.requires c.if-bits-eq0.false c.half-low.result c.half-low.ensures c.if-low-eq0.false)
+    let l = c.in-Some in
+    (omega (arith, c.decreases), ask-halves c.requires c.if-bits-eq0.false l.low (branch_half c.requires l.ensures.low))
 
 -- ---- halves
 
@@ -56,21 +57,16 @@ halves-overflow_add-high t c = omega (arith, high_slot c.requires (λ i. omega (
 
 pub halves-side-p-requires : goal.halves-side-p-requires
 halves-side-p-requires t c =
-    (omega (arith, c.decreases, c.requires.more), ask-low c.requires (λ i. omega (arith, c.slice_known-1.given i)))
+    (omega (arith, c.decreases, c.requires.more), ask-low c.requires (search rules))
 
 pub halves-side-requires : goal.halves-side-requires
 halves-side-requires t c = (
   omega (arith, c.decreases, c.requires.more),
-  ask_high c.requires (λ i. omega (arith, c.slice_known-1.given i)) c.side-p.new.address c.side-p.auto.address
+  ask_high c.requires (search rules) c.side-p.new.address c.side-p.auto.address
       c.side-p.ensures.kept c.side-p.ensures.wrote c.side-p.auto.buffer,
 )
 
-pub halves-returns-clause-kept : goal.halves-returns-clause-kept
-halves-returns-clause-kept t c =
-    halves-kept c.requires (λ i. omega (arith, c.slice_known-1.given i)) c.side-p.new.address c.side-p.auto.address
-    c.side-p.ensures.kept c.side-p.ensures.wrote c.side.new.address c.side.ensures.kept
-
 pub halves-returns-clause-wrote : goal.halves-returns-clause-wrote
 halves-returns-clause-wrote t c =
-    halves-wrote c.requires (λ i. omega (arith, c.slice_known-1.given i)) c.side-p.new.address c.side-p.auto.address
+    halves-wrote c.requires (search rules) c.side-p.new.address c.side-p.auto.address
     c.side-p.ensures.kept c.side-p.ensures.wrote c.side.ensures.wrote

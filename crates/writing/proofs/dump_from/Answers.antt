@@ -12,18 +12,15 @@ halves-end-requires c =
     let p = c.put_slot-p in
     ask-below_root c.requires.starts c.requires.dumps p.new.buffer p.result p.auto.buffer p.ensures.place
 
-pub bounds-buffer-end : goal.bounds-buffer-end
-bounds-buffer-end c =
-    omega (
-      arith,
-      end_room c.requires.starts c.requires.dumps c.put_slot-p.ensures c.halves-end.ensures.wrote,
-      c.halves-end.auto.buffer ∙ c.put_slot-p.auto.buffer,
-    )
-
-pub overflow_add-result : goal.overflow_add-result
-overflow_add-result c =
-    omega (arith, end_room c.requires.starts c.requires.dumps c.put_slot-p.ensures c.halves-end.ensures.wrote, c.well_formed)
+pub put_all-requires : goal.put_all-requires
+put_all-requires c = (
+  omega arith,
+  omega (
+    arith,
+    end_room c.requires.starts c.requires.dumps c.put_slot-p.ensures c.halves-end.ensures.wrote,
+    c.halves-end.auto.buffer ∙ c.put_slot-p.auto.buffer,
+  ),
+)
 
 pub returns : goal.returns
-returns c =
-    end_wrote c.requires.starts c.requires.dumps c.put_slot-p.ensures c.halves-end.ensures.wrote
+returns c = end_wrote c.requires.starts c.requires.dumps c.put_slot-p.ensures c.halves-end.ensures.wrote c.put_all.ensures

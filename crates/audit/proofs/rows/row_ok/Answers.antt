@@ -1,6 +1,5 @@
 -- `audit::rows::row_ok` makes the test of each cell of a row, unless none has a link. Assumes nothing.
 use mathlib.Core.Path.{refl, sym, ◌∙◌}
-use mathlib.Core.Bool.{true}
 use Prim.Native.Nat.{◌+◌}
 use native.Mathlib.Omega.{arith}
 use borrow.Author.Tests.{not-true, not-false}
@@ -12,26 +11,24 @@ use Rattle.audit.proofs.rows.row_ok.Goals as goal
 
 pub returns-then-unlinked : goal.returns-then-unlinked
 returns-then-unlinked c =
-    let a = c.args in
+    let a = c.args.a.now in
     c.plains_in.ensures
-    ∙ row_tied (arrays_of a.words.now) a.a a.from _ c.unlinked.ensures c.if-unlinked.true a.n a.top
-    a.words.now refl
+    ∙ row_tied (arrays_of a.lent.words.now) a.number c.args.from _ c.unlinked.ensures c.if-unlinked.true a.lent.arrays a.lent.levels
+    a.lent.words.now refl
 
 pub loop-j-init : goal.loop-j-init
-loop-j-init c = (omega arith, all_none _)
+loop-j-init c = all_none _
 
 pub returns-then-not-tied : goal.returns-then-not-tied
 returns-then-not-tied c =
     let l = c.loop-j in
-    let a = c.args in
-    all_stop (λ k. tied_b a.n a.top a.words.now a.a (a.from + k)) row_cells l.j (omega arith)
+    let a = c.args.a.now in
+    all_stop (λ k. tied_b a.lent.arrays a.lent.levels a.lent.words.now a.number (c.args.from + k)) row_cells l.j (omega arith)
     (sym c.tied.ensures ∙ not-true _ c.if-not-tied.true-raw)
 
 pub loop-j-preserved : goal.loop-j-preserved
 loop-j-preserved c =
     let l = c.loop-j in
-    let a = c.args in (
-      omega arith,
-      all_more (λ k. tied_b a.n a.top a.words.now a.a (a.from + k)) l.j l.invariant.1
-          (sym c.tied.ensures ∙ not-false _ c.if-not-tied.false-raw),
-    )
+    let a = c.args.a.now in
+    all_more (λ k. tied_b a.lent.arrays a.lent.levels a.lent.words.now a.number (c.args.from + k)) l.j l.invariant
+    (sym c.tied.ensures ∙ not-false _ c.if-not-tied.false-raw)

@@ -1,7 +1,7 @@
 -- `audit::table::candidates_of` tells of all arrays: those passed are right, and their candidates are summed. Assumes nothing.
 use mathlib.Core.Path.{◌≡◌}
 use mathlib.Core.Bool.{true}
-use Prim.Native.Nat.{◌≤◌, ◌+◌, ◌-◌}
+use Prim.Native.Nat.{◌+◌}
 use Rattle.logic.specs.Every.{all_b}
 use Rattle.gather.specs.Counted.{candidates_of}
 use Rattle.words.specs.Words.{feeds_of}
@@ -10,7 +10,4 @@ use Rattle.audit.proofs.table.candidates_of.Given as goal
 
 abbrev pub invariant-loop-j : goal.invariant-loop-j
 invariant-loop-j l =
-    (l.j ≤ l.n) × (all_b (λ j. array_b l.top l.words (j + 1)) l.j ≡ true) × (l.m ≡ candidates_of (feeds_of l.words) l.j)
-
-abbrev pub decreases-loop-j : goal.decreases-loop-j
-decreases-loop-j l = l.n - l.j
+    (all_b (λ j. array_b l.lent.levels l.lent.words.now (j + 1)) l.j ≡ true) × (l.m ≡ candidates_of (feeds_of l.lent.words.now) l.j)

@@ -1,59 +1,65 @@
 -- `audit::table::content` reads the slots of one array, then checks its page, its totals and its links by what it read. Assumes nothing.
-use mathlib.Core.Path.{sym, ◌∙◌}
+use mathlib.Core.Path.{◌≡◌, sym, ◌∙◌}
+use Rattle.std.specs.Prelude.{Some, None}
 use native.Mathlib.Omega.{arith}
 use borrow.Author.Tests.{not-true, not-false}
 use Rattle.audit.specs.Won.{won_of_lem}
-use Rattle.audit.proofs.Laws.{read_start, read_wrong, read_right, read_page, content_words, content_inner}
+use Rattle.audit.proofs.Laws.{read_start, read_wrong, read_right, read_page, content_words, content_page, content_inner}
 use Rattle.audit.proofs.Laws.{content_tied, content_all}
 use Rattle.audit.proofs.table.content.Goals as goal
 
-pub read-m-requires : goal.read-m-requires
-read-m-requires c = (omega (arith, c.page.ensures.1), read_start _)
+pub read-requires : goal.read-requires
+read-requires c = read_start _
 
-pub returns-then-m : goal.returns-then-m
-returns-then-m c =
+pub returns-in_err-m : goal.returns-in_err-m
+returns-in_err-m c =
     let a = c.args in
-    content_words a.n a.top a.words.now a.a
-    (read_wrong a.words.now _ _ a.a _ c.page.ensures.0 c.read-m.ensures c.if-m.true)
+    let z : c.read.result ≡ None = grind arith in
+    rw c.from_residual.ensures
+    (content_words a.lent.now.arrays a.lent.now.levels a.lent.now.words.now a.a
+    (read_wrong a.lent.now.words.now _ _ a.a c.page.ensures _ c.read.ensures z))
 
-pub inners_ok-requires : goal.inners_ok-requires
-inners_ok-requires c =
-    let a = c.args in (
-      c.requires.0,
-      c.requires.1,
-      won_of_lem a.words.now a.a _ (read_page a.words.now _ _ a.a _ c.page.ensures.0 c.read-m.ensures),
-    )
+pub invariant_of-array : goal.invariant_of-array
+invariant_of-array c =
+    let a = c.args in
+    record {
+      within = c.requires;
+      hops = won_of_lem a.lent.now.words.now a.a _ (read_page a.lent.now.words.now _ _ a.a c.page.ensures _ c.read.ensures);
+    }
+
+pub returns-then-not-page_ok : goal.returns-then-not-page_ok
+returns-then-not-page_ok c =
+    let a = c.args in
+    let z : c.read.result ≡ Some c.in_ok-m.m = grind arith in
+    content_page a.lent.now.arrays a.lent.now.levels a.lent.now.words.now a.a
+    (read_right a.lent.now.words.now _ _ a.a c.page.ensures _ c.read.ensures _ z).0
+    (sym c.page_ok.ensures ∙ not-true _ c.if-not-page_ok.true-raw)
 
 pub returns-then-not-inners_ok : goal.returns-then-not-inners_ok
 returns-then-not-inners_ok c =
     let a = c.args in
-    content_inner a.n a.top a.words.now a.a
-    (read_right a.words.now _ _ a.a _ c.page.ensures.0 c.read-m.ensures c.if-m.false).0
+    let z : c.read.result ≡ Some c.in_ok-m.m = grind arith in
+    content_inner a.lent.now.arrays a.lent.now.levels a.lent.now.words.now a.a
+    (read_right a.lent.now.words.now _ _ a.a c.page.ensures _ c.read.ensures _ z).0
     (sym c.page_ok.ensures ∙ not-false _ c.if-not-page_ok.false-raw)
     (sym c.inners_ok.ensures ∙ not-true _ c.if-not-inners_ok.true-raw)
 
-pub rows_ok-requires : goal.rows_ok-requires
-rows_ok-requires c =
-    let a = c.args in (
-      c.requires.0,
-      c.requires.1,
-      won_of_lem a.words.now a.a _ (read_page a.words.now _ _ a.a _ c.page.ensures.0 c.read-m.ensures),
-    )
-
-pub returns-then-not-rows_ok : goal.returns-then-not-rows_ok
-returns-then-not-rows_ok c =
+pub returns-else-rows_ok : goal.returns-else-rows_ok
+returns-else-rows_ok c =
     let a = c.args in
-    content_tied a.n a.top a.words.now a.a
-    (read_right a.words.now _ _ a.a _ c.page.ensures.0 c.read-m.ensures c.if-m.false).0
+    let z : c.read.result ≡ Some c.in_ok-m.m = grind arith in
+    content_tied a.lent.now.arrays a.lent.now.levels a.lent.now.words.now a.a
+    (read_right a.lent.now.words.now _ _ a.a c.page.ensures _ c.read.ensures _ z).0
     (sym c.page_ok.ensures ∙ not-false _ c.if-not-page_ok.false-raw)
     (sym c.inners_ok.ensures ∙ not-false _ c.if-not-inners_ok.false-raw)
-    (sym c.rows_ok.ensures ∙ not-true _ c.if-not-rows_ok.true-raw)
+    (sym c.rows_ok.ensures ∙ c.if-rows_ok.false)
 
-pub returns : goal.returns
-returns c =
+pub returns-then-rows_ok : goal.returns-then-rows_ok
+returns-then-rows_ok c =
     let a = c.args in
-    let k = read_right a.words.now _ _ a.a _ c.page.ensures.0 c.read-m.ensures c.if-m.false in
-    content_all a.n a.top a.words.now a.a _ k.0 k.1
+    let z : c.read.result ≡ Some c.in_ok-m.m = grind arith in
+    let k = read_right a.lent.now.words.now _ _ a.a c.page.ensures _ c.read.ensures _ z in
+    content_all a.lent.now.arrays a.lent.now.levels a.lent.now.words.now a.a _ k.0 k.1
     (sym c.page_ok.ensures ∙ not-false _ c.if-not-page_ok.false-raw)
     (sym c.inners_ok.ensures ∙ not-false _ c.if-not-inners_ok.false-raw)
-    (sym c.rows_ok.ensures ∙ not-false _ c.if-not-rows_ok.false-raw)
+    (sym c.rows_ok.ensures ∙ c.if-rows_ok.true)

@@ -9,22 +9,20 @@ use Rattle.audit.proofs.Laws.{group_is}
 use Rattle.audit.proofs.table.groups_ok.Goals as goal
 
 pub loop-g-init : goal.loop-g-init
-loop-g-init c = (omega arith, all_none _)
+loop-g-init c = all_none _
 
-pub returns-then-words-h : goal.returns-then-words-h
-returns-then-words-h c =
+pub returns-then-lent-g : goal.returns-then-lent-g
+returns-then-lent-g c =
     let l = c.loop-g in
     let a = c.args in
     let u = c.used_in-m in
-    all_stop (group_b a.words.now) group_count l.g (omega arith)
-    (group_is a.words.now l.g u.result false u.ensures (ne_eqb _ _ c.if-words-h.true))
+    all_stop (group_b a.lent.now.words.now) group_count l.g (omega arith)
+    (group_is a.lent.now.words.now l.g u.result false u.ensures (ne_eqb _ _ c.if-lent-g.true))
 
 pub loop-g-preserved : goal.loop-g-preserved
 loop-g-preserved c =
     let l = c.loop-g in
     let a = c.args in
-    let u = c.used_in-m in (
-      omega arith,
-      all_more (group_b a.words.now) l.g l.invariant.1
-          (group_is a.words.now l.g u.result true u.ensures (eq-eqb _ _ c.if-words-h.false)),
-    )
+    let u = c.used_in-m in
+    all_more (group_b a.lent.now.words.now) l.g l.invariant
+    (group_is a.lent.now.words.now l.g u.result true u.ensures (eq-eqb _ _ c.if-lent-g.false))

@@ -1,6 +1,6 @@
 -- The test on the number of words, and what clearing leaves. Assumes nothing.
+use Rattle.std.proofs.Common.{arith}
 use Rattle.damping.specs.Held.{cleared_not, cleared_done}
-use native.Mathlib.Omega.{arith}
 use Rattle.damping.proofs.held.clear.Goals as goal
 
 pub returns-then-front-ne-FRONT_WORDS : goal.returns-then-front-ne-FRONT_WORDS

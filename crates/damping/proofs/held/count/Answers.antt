@@ -1,6 +1,6 @@
 -- All places come before 2 ^ 43. Assumes nothing.
+use Rattle.std.proofs.Common.{◌∙◌}
 use Rattle.damping.specs.Count.{counted}
-use mathlib.Core.Path.{◌∙◌}
 use Rattle.damping.proofs.held.count.Goals as goal
 
 pub returns : goal.returns

@@ -1,4 +1,4 @@
--- A tick is the tick of both, a record is asked by its role. Assumes nothing.
+-- A tick is the tick of both. Assumes nothing.
 use Rattle.damping_run.proofs.Answers.{asked_tick}
 use Rattle.damping_run.proofs.ask.answer.Goals as goal
 

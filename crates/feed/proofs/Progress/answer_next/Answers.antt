@@ -1,15 +1,15 @@
--- The counters after a record stand for the state that the definition hands on. A count stays below the bytes consumed, so no sum wraps. Assumes nothing.
-use mathlib.Core.Path.{ap, ◌∙◌}
+-- The counters after a record stand for the state that the definition hands on. A count stays below the bytes consumed, so no sum wraps.
+-- Assumes nothing.
+use Rattle.std.proofs.Common.{sym, ap, ◌∙◌}
 use Rattle.candidates.specs.Runs.{size}
-use Rattle.families.specs.Said.{said_family}
+use Rattle.families.specs.Said.{said_family, said_kind}
 use Rattle.replies.specs.Said.{said_reply}
-use Rattle.feed.proofs.Loop.{took_any}
+use Rattle.feed.proofs.Loop.{took_counted}
 use Rattle.feed.proofs.Progress.answer_next.Goals as goal
 
 pub returns : goal.returns
 returns c =
-    let e = c.role_of-role.ensures in
     let F = said_family c.args.family in
-    took_any F _ _ _ _ c.requires.0 _ _ (said_reply c.ask-answer.result) _ _ _ _ (c.size-n.ensures.0 ∙ ap (size F) e)
-    (rw e at c.ask-answer.ensures) c.put-next.ensures
-    c.accepts.ensures.0 c.refuses.ensures.0
+    let e = ap said_kind (sym c.unwrap-role.ensures) ∙ c.role_of.ensures in
+    took_counted F _ _ _ _ c.requires.0 _ _ (said_reply c.answer-answer.result) _ _ (c.size.ensures.0 ∙ ap (size F) e)
+    (rw (c.read.ensures.0, c.read.ensures.1, e) at c.answer-answer.ensures) c.after.ensures

@@ -1,5 +1,5 @@
 -- `masks::sieve::mark` takes one pair into X or Y. Assumes nothing.
-use mathlib.Core.Path.{sym, ◌∙◌}
+use Rattle.std.proofs.Common.{sym, ◌∙◌, arith}
 use Rattle.masks.proofs.Pairs.{mark-nested, mark-parted}
 use Rattle.masks.proofs.sieve.mark.Goals as goal
 
@@ -7,10 +7,10 @@ pub returns-then-x-eq0 : goal.returns-then-x-eq0
 returns-then-x-eq0 c =
     let a = c.args in
     rw c.added.ensures.0
-    (mark-nested a.xs.now a.y a.s a.t c.requires.1 (sym c.parted-x.ensures.0 ∙ c.if-x-eq0.true))
+    (mark-nested a.xs.now a.y a.s.slot a.t.slot c.requires (sym c.parted-x.ensures.0 ∙ c.if-x-eq0.true))
 
 pub returns : goal.returns
 returns c =
     let a = c.args in
     rw c.parted-x.ensures.0
-    (mark-parted a.xs.now a.y a.s a.t c.requires.0 c.requires.1 (λ e. c.if-x-eq0.false (c.parted-x.ensures.0 ∙ e)))
+    (mark-parted a.xs.now a.y a.s.slot a.t.slot (omega arith) c.requires (λ e. c.if-x-eq0.false (c.parted-x.ensures.0 ∙ e)))

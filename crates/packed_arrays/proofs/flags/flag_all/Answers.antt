@@ -4,12 +4,9 @@ use Rattle.packed_arrays.specs.Flags.{flagged_none, flagged_more}
 use Rattle.packed_arrays.proofs.flags.flag_all.Goals as goal
 
 pub loop-s-init : goal.loop-s-init
-loop-s-init c =
-    (omega arith, omega arith, flagged_none c.args.page.now c.args.held.now c.requires.1)
+loop-s-init c = flagged_none c.args.page.now c.args.held.now c.told-held
 
 pub loop-s-preserved : goal.loop-s-preserved
 loop-s-preserved c =
     let l = c.loop-s in
-    let more = flagged_more c.args.page.now l.held l.s c.flag.result l.invariant.0 (omega arith) c.flag.ensures
-    l.invariant.2 in
-    (omega arith, omega arith, more)
+    flagged_more c.args.page.now l.held l.s c.flag.result l.auto.s (omega arith) c.flag.ensures l.invariant

@@ -10,6 +10,6 @@ pub returns : goal.returns
 returns c =
     let a = c.args in
     let m = c.mask in
-    let later = mask_later a.table.now _ _ a.a m.result c.if-a-eq1.false c.page.ensures.0 c.flag_all.ensures
+    let later = mask_later a.table.now _ _ a.a m.result c.if-a-eq1.false c.page.ensures c.flag_all.ensures
     m.ensures.0 in
     (later, m.ensures.1)

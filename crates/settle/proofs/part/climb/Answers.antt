@@ -1,28 +1,30 @@
 -- `settle::part::climb` meets its contract: the block sought is that from where the loop stands, for all that it passed joins.
 -- Assumes nothing.
-use mathlib.Core.Path.{sym, ◌∙◌}
-use native.Mathlib.Omega.{arith}
-use Rattle.logic.specs.Bools.{not_true, not_false}
+use Rattle.std.proofs.Common.{◌≢◌, ◌-◌, sym, ◌∙◌, arith}
 use Rattle.calm.specs.Climb.{climb_top, climb_stop, climb_up}
 use Rattle.array.specs.Page.{slots, links, blocks}
 use Rattle.settle.proofs.part.climb.Goals as goal
 
-pub returns-then-m-eq0 : goal.returns-then-m-eq0
-returns-then-m-eq0 c =
-    let a = c.args in
-    let p = a.page.now in
-    (sym (climb_top (slots p) (links p) (blocks p) a.i _ c.if-m-eq0.true) ∙ c.loop-m.invariant.1, omega arith)
-
 pub returns-then-not-joins : goal.returns-then-not-joins
 returns-then-not-joins c =
-    let a = c.args in
-    let p = a.page.now in
-    let h = sym c.joins.ensures ∙ not_true _ c.if-not-joins.true-raw in
-    (sym (climb_stop (slots p) (links p) (blocks p) a.i _ c.if-m-eq0.false h) ∙ c.loop-m.invariant.1, omega arith)
+    let p = c.args.page.now in
+    let m = c.loop-m.m - 1 in
+    let n : m ≢ 0 = λ z. omega arith in
+    let j = rw (c.to.ensures.0, c.to.ensures.1) at (sym c.joins.ensures ∙ c.if-not-joins.true) in
+    (sym (climb_stop (slots p) (links p) (blocks p) c.args.over.cell m n j) ∙ c.loop-m.invariant.left, omega arith)
 
 pub loop-m-preserved : goal.loop-m-preserved
 loop-m-preserved c =
-    let a = c.args in
-    let p = a.page.now in
-    let h = sym c.joins.ensures ∙ not_false _ c.if-not-joins.false-raw in
-    (omega arith, sym (climb_up (slots p) (links p) (blocks p) a.i _ c.if-m-eq0.false h) ∙ c.loop-m.invariant.1)
+    let p = c.args.page.now in
+    let m = c.loop-m.m - 1 in
+    let n : m ≢ 0 = λ z. omega arith in
+    let j = rw (c.to.ensures.0, c.to.ensures.1) at (sym c.joins.ensures ∙ c.if-not-joins.false) in
+    record {
+      some = omega arith;
+      left = sym (climb_up (slots p) (links p) (blocks p) c.args.over.cell m n j) ∙ c.loop-m.invariant.left;
+    }
+
+pub returns : goal.returns
+returns c =
+    let p = c.args.page.now in
+    (sym (climb_top (slots p) (links p) (blocks p) c.args.over.cell (c.loop-m.m - 1) (omega arith)) ∙ c.loop-m.invariant.left, omega arith)

@@ -7,5 +7,5 @@ use Rattle.settle.proofs.part.fill_below.Goals as goal
 pub returns : goal.returns
 returns c =
     let a = c.args in
-    fill_run a.page.now _ a.i a.m _ _ _ a.q (omega arith) (omega arith) (omega arith)
-    c.first_of-from.ensures.0 c.pow2.ensures refl c.fill.ensures
+    fill_run a.page.now _ a.over.cell a.over.bits _ _ _ a.q (omega arith) (omega arith) (omega arith)
+    c.first-from.ensures.0 c.pow2.ensures refl c.fill.ensures

@@ -24,18 +24,15 @@ returns-then-total_in-eq0 t c =
     part_empty c.requires c.choose-hop.result c.choose-hop.ensures.0 (sym c.total_in.ensures ∙ c.if-total_in-eq0.true)
     c.put-p.ensures
 
-pub lower-low-requires : goal.lower-low-requires
-lower-low-requires t c = seat_within c.requires.stands
-
-pub returns-then-low-eq0 : goal.returns-then-low-eq0
-returns-then-low-eq0 t c =
+pub returns-in_default : goal.returns-in_default
+returns-in_default t c =
     part_leaf c.requires c.choose-hop.result c.choose-hop.ensures.0
-    (λ z. c.if-total_in-eq0.false (c.total_in.ensures ∙ z)) c.lower-low.ensures c.if-low-eq0.true c.put-p.ensures
+    (λ z. c.if-total_in-eq0.false (c.total_in.ensures ∙ z)) c.in_default.ensures c.put-p.ensures
 
 pub overflow_add-high : goal.overflow_add-high
 overflow_add-high t c =
-    let h = halved c.requires c.choose-hop.ensures (λ z. c.if-total_in-eq0.false (c.total_in.ensures ∙ z)) c.lower-low.ensures
-    c.if-low-eq0.false c.under-next.ensures in
+    let h = halved c.requires c.choose-hop.ensures (λ z. c.if-total_in-eq0.false (c.total_in.ensures ∙ z)) c.in-Some.ensures.0
+    c.in-Some.ensures.1 c.under-next.ensures in
     omega (arith, part_high h, c.well_formed)
 
 pub overflow_mul-x : goal.overflow_mul-x
@@ -49,16 +46,16 @@ overflow_add-y t c = omega (arith, part-value c.requires)
 
 pub put_routes-q-requires : goal.put_routes-q-requires
 put_routes-q-requires t c =
-    let h = halved c.requires c.choose-hop.ensures (λ z. c.if-total_in-eq0.false (c.total_in.ensures ∙ z)) c.lower-low.ensures
-    c.if-low-eq0.false c.under-next.ensures in (
+    let h = halved c.requires c.choose-hop.ensures (λ z. c.if-total_in-eq0.false (c.total_in.ensures ∙ z)) c.in-Some.ensures.0
+    c.in-Some.ensures.1 c.under-next.ensures in (
       omega (arith, c.decreases, part_rest h),
       part_low h c.put-p.new.buffer c.put-p.result c.put-p.auto.buffer c.put-p.ensures,
     )
 
 pub put_routes-requires : goal.put_routes-requires
 put_routes-requires t c =
-    let h = halved c.requires c.choose-hop.ensures (λ z. c.if-total_in-eq0.false (c.total_in.ensures ∙ z)) c.lower-low.ensures
-    c.if-low-eq0.false c.under-next.ensures in
+    let h = halved c.requires c.choose-hop.ensures (λ z. c.if-total_in-eq0.false (c.total_in.ensures ∙ z)) c.in-Some.ensures.0
+    c.in-Some.ensures.1 c.under-next.ensures in
     let x = c.put_routes-q in (
       omega (arith, c.decreases, part_rest h),
       part_upper h c.put-p.new.buffer x.new.buffer c.put-p.result x.result (x.auto.buffer ∙ c.put-p.auto.buffer)
@@ -67,6 +64,6 @@ put_routes-requires t c =
 
 pub returns : goal.returns
 returns t c =
-    let h = halved c.requires c.choose-hop.ensures (λ z. c.if-total_in-eq0.false (c.total_in.ensures ∙ z)) c.lower-low.ensures
-    c.if-low-eq0.false c.under-next.ensures in
+    let h = halved c.requires c.choose-hop.ensures (λ z. c.if-total_in-eq0.false (c.total_in.ensures ∙ z)) c.in-Some.ensures.0
+    c.in-Some.ensures.1 c.under-next.ensures in
     part-node h c.put-p.ensures c.put_routes-q.ensures c.put_routes.ensures

@@ -21,31 +21,27 @@ returns-then-own-gt-MOST_HOP t c =
     look-over c.args.words.now c.args.bits c.args.slot (λ z. c.if-total_in-eq0.false (c.total_in.ensures ∙ z))
     c.hop_at-own.result c.hop_at-own.ensures.0 c.if-own-gt-MOST_HOP.true
 
-pub lower-low-requires : goal.lower-low-requires
-lower-low-requires t c = seat_within c.requires.stands
-
-pub returns-then-low-eq0 : goal.returns-then-low-eq0
-returns-then-low-eq0 t c =
+pub returns-in_default : goal.returns-in_default
+returns-in_default t c =
     look_leaf c.args.words.now c.args.bits c.args.slot (λ z. c.if-total_in-eq0.false (c.total_in.ensures ∙ z))
-    c.hop_at-own.result c.hop_at-own.ensures.0 c.lower-low.result
-    c.if-own-gt-MOST_HOP.false c.lower-low.ensures c.if-low-eq0.true
+    c.hop_at-own.result c.hop_at-own.ensures.0 c.if-own-gt-MOST_HOP.false c.in_default.ensures
 
 pub overflow_add-high : goal.overflow_add-high
 overflow_add-high t c =
-    omega (arith, high_room c.requires c.lower-low.result c.lower-low.ensures c.if-low-eq0.false, c.well_formed)
+    omega (arith, high_room c.requires c.in-Some.low c.in-Some.ensures.0 c.in-Some.ensures.1, c.well_formed)
 
 pub small_hops-requires : goal.small_hops-requires
 small_hops-requires t c =
-    let l = c.lower-low in (
-      omega (arith, c.decreases, bits_some c.args.words.now c.args.bits c.args.slot l.result l.ensures c.if-low-eq0.false),
-      look-low c.requires l.result l.ensures c.if-low-eq0.false,
+    let l = c.in-Some in (
+      omega (arith, c.decreases, bits_some c.args.words.now c.args.bits c.args.slot l.low l.ensures.0 l.ensures.1),
+      look-low c.requires l.low l.ensures.0 l.ensures.1,
     )
 
 pub small_hops-requires-then-small_hops : goal.small_hops-requires-then-small_hops
 small_hops-requires-then-small_hops t c =
-    let l = c.lower-low in (
-      omega (arith, c.decreases, bits_some c.args.words.now c.args.bits c.args.slot l.result l.ensures c.if-low-eq0.false),
-      look_high c.requires l.result l.ensures c.if-low-eq0.false,
+    let l = c.in-Some in (
+      omega (arith, c.decreases, bits_some c.args.words.now c.args.bits c.args.slot l.low l.ensures.0 l.ensures.1),
+      look_high c.requires l.low l.ensures.0 l.ensures.1,
     )
 
 pub returns-then-small_hops : goal.returns-then-small_hops
@@ -53,12 +49,13 @@ returns-then-small_hops t c =
     let x = c.small_hops in
     let y = c.small_hops-then-small_hops in
     look-both c.args.words.now c.args.bits c.args.slot (λ z. c.if-total_in-eq0.false (c.total_in.ensures ∙ z))
-    c.hop_at-own.result c.hop_at-own.ensures.0 c.lower-low.result
-    c.if-own-gt-MOST_HOP.false c.lower-low.ensures c.if-low-eq0.false x.result y.result x.ensures c.if-small_hops.true y.ensures
+    c.hop_at-own.result c.hop_at-own.ensures.0 c.in-Some.low
+    c.if-own-gt-MOST_HOP.false c.in-Some.ensures.0 c.in-Some.ensures.1 x.result y.result x.ensures c.if-small_hops.true y.ensures
 
-pub returns : goal.returns
-returns t c =
-    look_not c.args.words.now c.args.bits c.args.slot (λ z. c.if-total_in-eq0.false (c.total_in.ensures ∙ z))
-    c.hop_at-own.result c.hop_at-own.ensures.0 c.lower-low.result
-    c.if-own-gt-MOST_HOP.false c.lower-low.ensures c.if-low-eq0.false c.small_hops.result
+pub returns-else-small_hops : goal.returns-else-small_hops
+returns-else-small_hops t c =
+    c.if-small_hops.false
+    ∙ look_not c.args.words.now c.args.bits c.args.slot (λ z. c.if-total_in-eq0.false (c.total_in.ensures ∙ z))
+    c.hop_at-own.result c.hop_at-own.ensures.0 c.in-Some.low
+    c.if-own-gt-MOST_HOP.false c.in-Some.ensures.0 c.in-Some.ensures.1 c.small_hops.result
     c.small_hops.ensures c.if-small_hops.false

@@ -5,7 +5,7 @@ use native.Mathlib.Omega.{arith}
 use Rattle.sweep.proofs.Seats.{seat_within, seat_room}
 use Rattle.sweep.proofs.Kept.{kept-inside, kept_room, ask-single, leaf_done, parted, rest_some, high_inside, ask-low, ask_high}
 use Rattle.sweep.proofs.Kept.{sum-small, node_done}
-use Rattle.sweep.proofs.Spreads.{ask_spread, spread_hop, spread_kept}
+use Rattle.sweep.proofs.Spreads.{spread_hop, spread_kept}
 use Rattle.sweep.proofs.up.+keep_sets.Goals as goal
 
 pub total_in-requires : goal.total_in-requires
@@ -13,9 +13,6 @@ total_in-requires t c = seat_within c.requires.stands
 
 pub single-same-requires : goal.single-same-requires
 single-same-requires t c = spread_hop c.requires (sym c.total_in.ensures ∙ c.if-total_in-eq0.true)
-
-pub spread-requires : goal.spread-requires
-spread-requires t c = ask_spread c.requires
 
 pub returns-then-total_in-eq0 : goal.returns-then-total_in-eq0
 returns-then-total_in-eq0 t c =
@@ -25,11 +22,8 @@ returns-then-total_in-eq0 t c =
 pub hop_at-requires : goal.hop_at-requires
 hop_at-requires t c = seat_room c.requires.stands
 
-pub lower-low-requires : goal.lower-low-requires
-lower-low-requires t c = seat_within c.requires.stands
-
-pub single-alone-requires : goal.single-alone-requires
-single-alone-requires t c =
+pub single-set-requires : goal.single-set-requires
+single-set-requires t c =
     ask-single c.requires c.hop_at.result c.under-hop.result c.hop_at.ensures.0 c.under-hop.ensures
 
 pub offset_bounds-scratch-slot : goal.offset_bounds-scratch-slot
@@ -38,34 +32,34 @@ offset_bounds-scratch-slot t c = omega (arith, kept-inside c.requires, c.well_fo
 pub bounds-scratch-slot : goal.bounds-scratch-slot
 bounds-scratch-slot t c = kept_room c.requires
 
-pub returns-then-low-eq0 : goal.returns-then-low-eq0
-returns-then-low-eq0 t c =
+pub returns-in_default : goal.returns-in_default
+returns-in_default t c =
     leaf_done c.requires c.hop_at.result c.under-hop.result c.hop_at.ensures.0 c.under-hop.ensures
-    c.lower-low.result c.single-alone.result c.lower-low.ensures c.if-low-eq0.true c.single-alone.ensures
+    c.single-set.result c.in_default.ensures c.single-set.ensures
 
 pub overflow_add-high : goal.overflow_add-high
 overflow_add-high t c =
-    let r = parted c.requires c.hop_at.ensures.0 c.under-hop.ensures c.lower-low.ensures c.if-low-eq0.false in
+    let r = parted c.requires c.hop_at.ensures.0 c.under-hop.ensures c.in-Some.ensures.0 c.in-Some.ensures.1 in
     omega (arith, high_inside r, c.well_formed)
 
 pub keep_sets-x-requires : goal.keep_sets-x-requires
 keep_sets-x-requires t c =
-    let r = parted c.requires c.hop_at.ensures.0 c.under-hop.ensures c.lower-low.ensures c.if-low-eq0.false in
+    let r = parted c.requires c.hop_at.ensures.0 c.under-hop.ensures c.in-Some.ensures.0 c.in-Some.ensures.1 in
     (omega (arith, c.decreases, rest_some r), ask-low r c.args.scratch.now refl)
 
 pub keep_sets-y-requires : goal.keep_sets-y-requires
 keep_sets-y-requires t c =
-    let r = parted c.requires c.hop_at.ensures.0 c.under-hop.ensures c.lower-low.ensures c.if-low-eq0.false in
+    let r = parted c.requires c.hop_at.ensures.0 c.under-hop.ensures c.in-Some.ensures.0 c.in-Some.ensures.1 in
     (omega (arith, c.decreases, rest_some r), ask_high r c.keep_sets-x.new.scratch c.keep_sets-x.auto.scratch)
 
 pub overflow_add-cost : goal.overflow_add-cost
 overflow_add-cost t c =
-    let r = parted c.requires c.hop_at.ensures.0 c.under-hop.ensures c.lower-low.ensures c.if-low-eq0.false in
+    let r = parted c.requires c.hop_at.ensures.0 c.under-hop.ensures c.in-Some.ensures.0 c.in-Some.ensures.1 in
     omega (arith, sum-small r c.keep_sets-x.ensures c.keep_sets-y.ensures)
 
 pub overflow_add-cost-2 : goal.overflow_add-cost-2
 overflow_add-cost-2 t c =
-    let r = parted c.requires c.hop_at.ensures.0 c.under-hop.ensures c.lower-low.ensures c.if-low-eq0.false in
+    let r = parted c.requires c.hop_at.ensures.0 c.under-hop.ensures c.in-Some.ensures.0 c.in-Some.ensures.1 in
     omega (arith, sum-small r c.keep_sets-x.ensures c.keep_sets-y.ensures, c.price.ensures.1)
 
 pub offset_bounds-scratch-slot-2 : goal.offset_bounds-scratch-slot-2
@@ -76,6 +70,6 @@ bounds-scratch-slot-2 t c = omega (arith, kept_room c.requires, c.keep_sets-y.au
 
 pub returns : goal.returns
 returns t c =
-    let r = parted c.requires c.hop_at.ensures.0 c.under-hop.ensures c.lower-low.ensures c.if-low-eq0.false in
+    let r = parted c.requires c.hop_at.ensures.0 c.under-hop.ensures c.in-Some.ensures.0 c.in-Some.ensures.1 in
     node_done r c.keep_sets-x.ensures c.keep_sets-y.ensures
     c.join-set.result c.price.result c.join-set.ensures c.price.ensures.0

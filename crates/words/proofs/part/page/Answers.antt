@@ -1,11 +1,9 @@
--- `words::part::page` lends an array's words: as many as an array has. Assumes nothing.
-use Rattle.std.proofs.Common.{◌≡◌, ◌+◌, ◌-◌, refl, arith}
-use Rattle.sizes.specs.Sizes.{array_words, array_at}
-use Rattle.array.specs.Frame.{page_length}
+-- `words::part::page` meets its contract: the part lent has an array's length. Assumes nothing.
+use Rattle.std.proofs.Common.{◌≡◌, ◌+◌, ◌-◌, ◌*◌, ◌∙◌, arith}
 use Rattle.words.proofs.part.page.Goals as goal
 
 pub returns : goal.returns
 returns c =
-    let a = c.args.a in
-    let e : array_at a + array_words - array_at a ≡ array_words = omega arith in
-    rw e (refl, page_length c.args.words.now a (omega arith))
+    let part = rw c.unwrap.ensures at c.try_into.ensures in
+    let size : 3072 * c.args.a + 3072 - 3072 * c.args.a ≡ 3072 = omega arith in
+    part.1.same ∙ rw size

@@ -1,7 +1,0 @@
--- `listing::is_last` meets its contract: by the record after it. Assumes nothing.
-use Rattle.listing.specs.Records.{records_few}
-use native.Mathlib.Omega.{arith}
-use Rattle.listing.proofs.is_last.Goals as goal
-
-pub overflow_add-i : goal.overflow_add-i
-overflow_add-i c = omega (arith, c.requires, records_few c.args.bytes.now)
