@@ -104,6 +104,24 @@ dropping {
     } else
         $0 = "define " result[call] " @proved_" call "(" named(given[call]) ")" substr($0, index($0, ")") + 1)
 }
+# The module has each field of a pair in memory where x86-64 has it: the second one at 8 bytes where it is a pointer. A load of such a
+# pair as one would look for a pointer of 32 bits at 4, so each field is loaded from its place.
+/= load [{] [a-z0-9]+, ptr [}], ptr / {
+    pair = $1
+    first = $0
+    sub(/^.*= load [{] /, "", first)
+    sub(/,.*/, "", first)
+    from = $0
+    sub(/^.*[}], ptr /, "", from)
+    sub(/,.*/, "", from)
+    print "  " pair ".first = load " first ", ptr " from
+    print "  " pair ".place = getelementptr i8, ptr " from ", i64 8"
+    print "  " pair ".second = load ptr, ptr " pair ".place"
+    print "  " pair ".half = insertvalue { " first ", ptr } poison, " first " " pair ".first, 0"
+    print "  " pair " = insertvalue { " first ", ptr } " pair ".half, ptr " pair ".second, 1"
+    next
+}
+/= load [{].*, ptr[ ,}].*[}], ptr / { fail("the module loads more than a pair with a pointer as one: " $0) }
 {
     gsub(/captures\(none\)/, "nocapture") # the word that older readers of such text know too
     gsub(/ "target-cpu"="[^"]*"/, "")

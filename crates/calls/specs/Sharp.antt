@@ -16,6 +16,7 @@ use Rattle.audit.specs.Answer.{check_answer, HasCleared}
 use Rattle.audit.specs.Sharp as audit
 use Rattle.audit.specs.declared.Counts.{Counts}
 use Rattle.refusals.specs.declared.Refusal.{Refusal}
+use Rattle.refusals.specs.Number.{said}
 use Rattle.replies.specs.Said.{said_reply, reply_one}
 use Rattle.replies.specs.declared.Reply as code
 use Rattle.lookup.specs.Walk.{walk}
@@ -73,6 +74,14 @@ count_agrees F ws room r r' p q = writing.count_sharp F (seen (levels F) ws) roo
 pub fill_agrees : (F : Family) (ws b : List ℕ) (n n' : ℕ) (c c' : List ℕ) → writing.HasFilled F (seen (levels F) ws) b n c
     → writing.HasFilled F (seen (levels F) ws) b n' c' → (n ≡ n') × (c ≡ c')
 fill_agrees F ws b n n' c c' p q = writing.fills_sharp F (seen (levels F) ws) b n n' c c' p q
+
+-- so do its answers, refused ones too
+pub fill_answers_agree : (F : Family) (ws b : List ℕ) (r r' : Result ℕ Refusal) (c c' : List ℕ)
+    → said r ≡ count_on F (seen (levels F) ws) (length b)
+    → writing.HasFilled F (seen (levels F) ws) b (writing.bytes_put r) c
+    → said r' ≡ count_on F (seen (levels F) ws) (length b)
+    → writing.HasFilled F (seen (levels F) ws) b (writing.bytes_put r') c' → (r ≡ r') × (c ≡ c')
+fill_answers_agree F ws b r r' c c' x p y q = writing.fill_sharp F (seen (levels F) ws) b r r' c c' x p y q
 
 pub write_out_agrees : (F : Family) (ws b front front' : List ℕ) → front ≡ front_on F (seen (levels F) ws) (length b)
     → front' ≡ front_on F (seen (levels F) ws) (length b) → front ≡ front'

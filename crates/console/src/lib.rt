@@ -9,8 +9,9 @@ pub mod through; // the same through a front
 use families::Family;
 use feed::Report;
 use lines::Lines;
+use reads::Page;
 use std::io;
-use std::io::Read;
+use std::io::{Read, Write};
 
 // Reads a family's feed of at most 4,096 bytes from an open file, runs it on the lent words and prints a line for each record
 // replied to, and two lines on the whole. A longer input prints `too long` alone.
@@ -24,7 +25,7 @@ pub fn show<R: Print, I: Read + Drop>(
     reads::with_feed(
         rt,
         file,
-        |feed| match feed::run_of(words, family, feed, reply) {
+        |feed, page| match feed::run_of(words, family, feed, reply) {
             Ok(report) => {
                 let replies = &reply[..report.written];
                 for line in (Lines {
@@ -32,27 +33,27 @@ pub fn show<R: Print, I: Read + Drop>(
                     feed,
                     replies,
                 }) {
-                    println!(rt; "{line}")?;
+                    writeln!(page, "{line}")?;
                 }
-                end(rt, family, words, report)
+                end(page, family, words, report)
             }
-            Err(why) => refused(rt, why.number()),
+            Err(why) => refused(page, why.number()),
         },
     )
 }
 
-fn refused<R: Print>(rt: &R, number: u32) -> io::Result<()> {
-    println!(rt; "refused {number}")
+fn refused(page: &mut Page<'_>, number: u32) -> io::Result<()> {
+    writeln!(page, "refused {number}")
 }
 
 // The list at the end: its routes, which are its candidates, and the arrays that it needs. Then the run's counts, its stop and
 // the bytes consumed.
-fn end<R: Print>(rt: &R, family: Family, words: &[u32], report: Report) -> io::Result<()> {
+fn end(page: &mut Page<'_>, family: Family, words: &[u32], report: Report) -> io::Result<()> {
     match audit::check_of(words, families::levels(family) as u32) {
-        Ok(audit::Counts { routes, arrays }) => print!(rt; "routes {routes} arrays {arrays}")?,
+        Ok(audit::Counts { routes, arrays }) => write!(page, "routes {routes} arrays {arrays}")?,
         Err(why) => {
             let number = why.number();
-            print!(rt; "refused {number}")?;
+            write!(page, "refused {number}")?;
         }
     }
     let Report {
@@ -62,5 +63,8 @@ fn end<R: Print>(rt: &R, family: Family, words: &[u32], report: Report) -> io::R
         refused,
         ..
     } = report;
-    println!(rt; " accepted {accepted} refused {refused}\nstopped {stop} at {consumed}")
+    writeln!(
+        page,
+        " accepted {accepted} refused {refused}\nstopped {stop} at {consumed}"
+    )
 }

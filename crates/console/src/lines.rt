@@ -1,5 +1,5 @@
 // A line for each record replied to, from the bytes of the record and of its reply.
-ghost use Rattle.std.specs.Prelude.{length};
+ghost use Rattle.std.specs.Prelude.{◌<◌, length};
 ghost use Rattle.std.specs.Iterator.{at_most};
 
 use crate::addresses::Address;
@@ -78,10 +78,7 @@ impl<'a> Iterator for Lines<'a> {
         };
         let kind = *self.feed.first()?;
         let answer = *self.replies.first()?;
-        let n = families::role_of(self.family, kind).map_or(
-            1,
-            |role| feed::size(self.family, role),
-        );
+        let n = feed::size_of_kind(self.family, families::role_of(self.family, kind));
         self.feed = &self.feed[n.min(self.feed.len())..];
         self.replies = &self.replies[reply_size(answer).min(self.replies.len())..];
         Some(line)
@@ -89,7 +86,9 @@ impl<'a> Iterator for Lines<'a> {
 }
 
 // The bytes of a reply of a kind, the kind's own included.
-fn reply_size(kind: u8) -> usize {
+fn reply_size(kind: u8) -> usize
+    ensures { 0 < result }
+{
     match kind {
         16 | 17 => 5,
         _ => 2,

@@ -3,22 +3,31 @@ ghost use Rattle.std.specs.Prelude.{◌+◌, ◌*◌, ◌<◌, ◌≤◌, ◌≡
 ghost use Rattle.std.specs.Io.KnownBytes.{Consumes, IsAtEnd};
 
 use std::io;
-use std::io::Read;
+use std::io::{Cursor, Read};
 
-// Hands a file's bytes on. A file of more than 4,096 bytes prints `too long` alone.
-pub(crate) fn with_feed<R: Print, I: Read + Drop, F: FnOnce(&[u8]) -> io::Result<()> + Drop>(
-    rt: &R,
-    mut file: I,
-    run: F,
-) -> io::Result<()>
+// What is printed. No record has a longer line for its length than a lookup of IPv4, 52 bytes for 5, and no more ticks than
+// replies of 5 bytes fit, with lines of 20 bytes: all lines are under 60,000 bytes.
+pub(crate) type Page<'a> = Cursor<&'a mut [u8]>;
+
+// Hands a file's bytes on, and prints as one what is written to the page. A file of more than 4,096 bytes prints `too long`
+// alone.
+pub(crate) fn with_feed<
+    R: Print,
+    I: Read + Drop,
+    F: FnOnce(&[u8], &mut Page<'_>) -> io::Result<()> + Drop,
+>(rt: &R, mut file: I, run: F) -> io::Result<()>
     requires { F.IsAlwaysCallable run }
 {
     let mut input = [0u8; 4097];
     let n = fill(&mut file, &mut input)?;
     if n > 4096 {
-        return println!(rt; "too long");
+        return rt.write_all(b"too long\n");
     }
-    run(&input[..n])
+    let mut text = [0u8; 65536];
+    let mut page = Cursor::new(&mut text[..]);
+    run(&input[..n], &mut page)?;
+    let k = page.position().min(65536) as usize;
+    rt.write_all(&text[..k])
 }
 
 // Fills the bytes from the front, as far as the file goes, and hands back how many it gave.

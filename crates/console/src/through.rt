@@ -1,6 +1,7 @@
 // The program's body through a front. The run is driven a step at a time, so that after each tick the candidates held back can be
 // counted: the front and the table are tested once, at its start.
 use super::lines::Line;
+use super::reads::Page;
 use super::{end, reads, refused};
 use damping::held;
 use damping_run::ask::TICK;
@@ -8,7 +9,7 @@ use damping_run::{answer_next, halt};
 use families::Family;
 use feed::Progress;
 use std::io;
-use std::io::Read;
+use std::io::{Read, Write};
 
 // Reads an IPv4 feed of at most 4,096 bytes, with ticks, from an open file, runs it through the lent words of a front and of a
 // table, and prints the lines of the program, with one for each tick.
@@ -19,41 +20,41 @@ pub fn show<R: Print, I: Read + Drop>(
     words: &mut [u32],
     reply: &mut [u8],
 ) -> io::Result<()> {
-    reads::with_feed(rt, file, |feed| run(rt, front, words, feed, reply))
+    reads::with_feed(rt, file, |feed, page| run(page, front, words, feed, reply))
 }
 
-fn run<R: Print>(
-    rt: &R,
+fn run(
+    page: &mut Page<'_>,
     front: &mut [u32],
     words: &mut [u32],
     feed: &[u8],
     reply: &mut [u8],
 ) -> io::Result<()> {
     if let Err(why) = damping::refusal(front, words, Ok(())) {
-        return refused(rt, why.number());
+        return refused(page, why.number());
     }
     let room = reply.len();
     let mut p = Progress::start();
     loop {
         if let Some(stop) = halt(p, feed, room) {
-            return end(rt, Family::V4, words, p.report(stop));
+            return end(page, Family::V4, words, p.report(stop));
         }
         let next = answer_next(p, front, words, feed, reply, true);
-        line(rt, front, &feed[p.at..], &reply[p.out..])?;
+        line(page, front, &feed[p.at..], &reply[p.out..])?;
         p = next;
     }
 }
 
 // The line of the record or tick that was answered last.
-fn line<R: Print>(rt: &R, front: &[u32], record: &[u8], reply: &[u8]) -> io::Result<()> {
+fn line(page: &mut Page<'_>, front: &[u32], record: &[u8], reply: &[u8]) -> io::Result<()> {
     if record.first() == Some(&TICK) {
         let back = held::check(front).map_or(0, |held| held.back);
-        return println!(rt; "tick held back {back}");
+        return writeln!(page, "tick held back {back}");
     }
     let line = Line {
         family: Family::V4,
         record,
         reply,
     };
-    println!(rt; "{line}")
+    writeln!(page, "{line}")
 }

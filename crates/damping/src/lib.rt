@@ -106,6 +106,15 @@ fn front_fault(front: &[u32]) -> Result<(), Refusal>
     Err(Refusal::Foreign)
 }
 
+fn front_fault_number(front: &[u32]) -> u32
+    ensures { result ≡ front_number front.now }
+{
+    match front_fault(front) {
+        Ok(()) => 0,
+        Err(why) => why.number(),
+    }
+}
+
 // kept: one work after three tests, in three calls, since each has a promise of its own: `HasDamped`, `HasDampedLocally`, `Ready`
 // ---- updates by callers who know the front to be one, and the size of the table's words to be right: a run has tested both
 
@@ -179,6 +188,14 @@ pub fn refusal(front: &[u32], words: &[u32], own: Result<(), Refusal>) -> Result
     front_fault(front)
 }
 
+// The same in numbers, where the own fault may have any: 0 stands for none.
+pub fn refusal_number(front: &[u32], words: &[u32], own: u32) -> u32
+    ensures { result ≡ refusal_through front.now words.now own }
+{
+    let n = update::refusal_number(words, 4, own);
+    if n != 0 { n } else { front_fault_number(front) }
+}
+
 fn update_whole(front: &mut [u32], words: &mut [u32], candidate: Candidate, update: Update) -> Reply
     ensures { HasDamped front.old words.old front.new words.new (update_of candidate update) result }
 {
@@ -239,6 +256,20 @@ pub fn refusal_local(front: &[u32], words: &[u32], own: Result<(), Refusal>) -> 
     }
     own?;
     front_fault(front)
+}
+
+// The same in numbers, where the own fault may have any: 0 stands for none.
+pub fn refusal_local_number(front: &[u32], words: &[u32], own: u32) -> u32
+    ensures { result ≡ refusal_before front.now words.now own }
+{
+    if words::size::misfit(words.len()) {
+        return Refusal::Misfit.number();
+    }
+    if own != 0 {
+        own
+    } else {
+        front_fault_number(front)
+    }
 }
 
 fn update_local(front: &mut [u32], words: &mut [u32], candidate: Candidate, update: Update) -> Reply

@@ -7,7 +7,7 @@ ghost use Rattle.numbers.specs.Number.{number};
 ghost use Rattle.feed.specs.Records.{asked_by};
 ghost use Rattle.candidates.specs.Runs.{size as size_of, role_at};
 ghost use Rattle.words.specs.Table.{seen};
-ghost use Rattle.families.specs.Said.{said_family, said_role};
+ghost use Rattle.families.specs.Said.{said_family, said_kind, said_role};
 ghost use Rattle.replies.specs.Said.{said_reply};
 ghost use Rattle.feed.specs.Runs.{HasRun, RunsTable, HasRunLocally};
 ghost use Rattle.words.specs.CheckReflects.{Fits};
@@ -16,7 +16,7 @@ ghost use Rattle.feed.specs.Progress.{begun, stop_number, stop_of, size_known, h
 
 use families::{Family, Role};
 use refusals::Refusal;
-use replies::{Reply, is_done, put, refuses};
+use replies::{Reply, accepts, put, refuses};
 
 // Why a run stops, as document 01 numbers it.
 #[derive(Clone, Copy, Debug, PartialEq, Eq)]
@@ -171,7 +171,7 @@ impl Progress {
         Progress {
             at: self.at + size,
             out: put(reply, self.out, answer),
-            accepted: self.accepted + usize::from(update && is_done(answer)),
+            accepted: self.accepted + if update { accepts(answer) } else { 0 },
             refused: self.refused + refuses(answer),
         }
     }
@@ -181,9 +181,17 @@ impl Progress {
         requires { self.at < 2 ^ 63 }
         ensures { result ≡ told_at self (stop_number stop) }
     {
+        self.report_number(stop.number())
+    }
+
+    // The same of a stop's number, which may be any: 0 is that of an end.
+    pub fn report_number(self, stop: u32) -> Report
+        requires { self.at < 2 ^ 63 }
+        ensures { result ≡ told_at self stop }
+    {
         Report {
-            stop: stop.number(),
-            consumed: self.at + usize::from(matches!(stop, Stop::End)),
+            stop,
+            consumed: self.at + usize::from(stop == 0),
             written: self.out,
             accepted: self.accepted,
             refused: self.refused,
@@ -230,6 +238,16 @@ pub fn size(family: Family, role: Role) -> usize
         Role::Looking => levels + 1,
         Role::AnnouncingFor => levels + 6,
         Role::WithdrawingFor => levels + 3,
+    }
+}
+
+// The same where a record's kind may be none of the family's: then it is the kind's byte alone.
+pub fn size_of_kind(family: Family, role: Option<Role>) -> usize
+    ensures { (result ≡ size_of (said_family family) (said_kind role)) × (0 < result) × (result ≤ 22) }
+{
+    match role {
+        Some(role) => size(family, role),
+        None => 1,
     }
 }
 

@@ -34,7 +34,12 @@ fn size(bytes: &[u8]) -> usize
 pub fn records(bytes: &[u8]) -> usize
     ensures { (result ≡ records_in bytes.now) × (8 * result ≤ length bytes.now) }
 {
-    bytes.len() / size(bytes)
+    // by constants, as a division of 64 bits by another number is a call where words have 32
+    if is_fours(bytes) {
+        bytes.len() / 10
+    } else {
+        bytes.len() / 8
+    }
 }
 
 // The list's kind.

@@ -1,9 +1,12 @@
 // The words that a table needs compressed, and the build: refused with 1 or 2 for the table, then with 9 for too few words.
 #![tactic(auto)]
 
-ghost use Rattle.std.specs.Prelude.{◌≡◌, length, IfOk};
+ghost use Rattle.std.specs.Prelude.{◌≡◌, length, IfErr, IfOk};
+ghost use Rattle.routes.specs.Seen.{gives, refuses};
 ghost use Rattle.words.specs.Words.{arrays_of, array_count};
 ghost use Rattle.words.specs.Table.{seen};
+ghost use Rattle.words.specs.TableBut.{Table};
+ghost use Rattle.refusals.specs.Number.{number};
 ghost use Rattle.packed_build.specs.Laying.{Lays, Mapping};
 ghost use Rattle.packed_arrays.specs.Laying.{LaidTo};
 ghost use Rattle.packed_build.specs.Answer.{need_on, build_on, HasLaid, need_answer, build_answer};
@@ -42,11 +45,11 @@ fn lay(table: &[u32], map: &[u32; MAP_WORDS], words: &mut [u32])
     }
 }
 
-// The words that a table needs, and the map of its arrays.
+// The fault of words that are no table: before a map is made, so that a refusal takes no time for one.
 #[tactic(auto, using(crate::specs::Laying::need_laws))]
-fn mapped(table: &[u32], map: &mut [u32; MAP_WORDS]) -> Result<usize, Refusal>
-    ensures answer { need_answer result ≡ need_on (seen 4 table.now) }
-    ensures map { IfOk result (λ n. Mapping table.now map.new n) }
+fn tested(table: &[u32]) -> Result<(), Refusal>
+    ensures fault { IfErr result (λ e. refuses (number e) ≡ need_on (seen 4 table.now)) }
+    ensures table { IfOk result (λ _. Table 4 table.now) }
 {
     if misfit(table.len()) {
         return Err(Refusal::Misfit);
@@ -54,15 +57,26 @@ fn mapped(table: &[u32], map: &mut [u32; MAP_WORDS]) -> Result<usize, Refusal>
     if !is_table_of(table, 4) {
         return Err(Refusal::Foreign);
     }
-    Ok(HEADER_WORDS + ENTRY_WORDS * places(table, map))
+    Ok(())
+}
+
+// The words that a table needs, and the map of its arrays.
+#[tactic(auto, using(crate::specs::Laying::need_laws))]
+fn mapped(table: &[u32], map: &mut [u32; MAP_WORDS]) -> usize
+    requires { Table 4 table.now }
+    ensures words { gives result ≡ need_on (seen 4 table.now) }
+    ensures map { Mapping table.now map.new result }
+{
+    HEADER_WORDS + ENTRY_WORDS * places(table, map)
 }
 
 // The words that a table needs.
 pub fn need(table: &[u32]) -> Result<usize, Refusal>
     ensures { need_answer result ≡ need_on (seen 4 table.now) }
 {
+    tested(table)?;
     let mut map = [0; MAP_WORDS];
-    mapped(table, &mut map)
+    Ok(mapped(table, &mut map))
 }
 
 // A table compressed: any words that begin with those needed answer its lookups.
@@ -71,8 +85,9 @@ pub fn build(table: &[u32], words: &mut [u32]) -> Result<Counts, Refusal>
     ensures result_value { build_answer result ≡ build_on (seen 4 table.now) (length words.old) }
     ensures words { HasLaid table.now words.old words.new }
 {
+    tested(table)?;
     let mut map = [0; MAP_WORDS];
-    let needed = mapped(table, &mut map)?;
+    let needed = mapped(table, &mut map);
     if words.len() < needed {
         return Err(Refusal::Short);
     }

@@ -4,7 +4,7 @@
 use Rattle.std.specs.Prelude.{◌≡◌, ◌≢◌}
 use Rattle.std.proofs.Math.Path.{refl}
 use Rattle.std.proofs.Math.Option.{Option, some}
-use Prim.Native.Nat.{ℕ, zero, suc, ◌-◌}
+use Prim.Native.Nat.{ℕ, zero, suc, ◌-◌, ◌≤◌}
 use native.Mathlib.Omega.{arith}
 use Rattle.std.proofs.Common.{le-ltb, ap, ◌∙◌, Result}
 use Rattle.std.specs.declared.ops.ControlFlow.{ControlFlow}
@@ -61,7 +61,7 @@ module _ (look : ℕ → Answer Match) (at : ℕ → Hop) where
 
   -- so what the code's turn gives stands for the same
   pub next-stands : (w : code.Way) (n : Result (ControlFlow Reached code.Way) Refusal) (r : Resolved)
-      → next_of n ≡ turned look (as_way w) (at w.at) → stands look (lead look at) (as_way w) ≡ r
+      → next_of n ≡ turned look (as_way w) (at w.at) → 1 ≤ w.left → stands look (lead look at) (as_way w) ≡ r
       → stands look (lead look at) (next_of n) ≡ r
-  next-stands w n r e h =
-      ap (stands look (lead look at)) e ∙ turned-stands (as_way w) (λ z. let s = w.some in omega arith) ∙ h
+  next-stands w n r e s h =
+      ap (stands look (lead look at)) e ∙ turned-stands (as_way w) (λ z. omega arith) ∙ h

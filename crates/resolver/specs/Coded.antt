@@ -1,6 +1,6 @@
 -- What the code's answers say, in the words of `Resolve` and in the numbers of `Steps`. Assumes nothing.
 use Rattle.std.specs.Prelude.{◌≡◌, refl, ◌⊎◌, Bool, true, false, cond, List, ℕ, zero, suc, ◌+◌, ◌-◌, ◌*◌, ◌/◌, ltb, eqb, length}
-use Rattle.std.specs.Prelude.{Option, Some, None, Result, Ok, Err}
+use Rattle.std.specs.Prelude.{◌≤◌, Option, Some, None, Result, Ok, Err}
 use Rattle.std.specs.declared.ops.ControlFlow.{ControlFlow}
 use Rattle.std.specs.declared.ops.ControlFlow.TheVariants.{Continue, Break}
 use Rattle.std.proofs.Math.Option as words
@@ -63,6 +63,12 @@ abbrev pub next_of : Result (ControlFlow Reached code.Way) Refusal → Way
 next_of (Ok (Continue w)) = as_way w
 next_of (Ok (Break r)) = ended (routed (gives (reached_of r)))
 next_of (Err e) = ended (refused_by (number e))
+
+-- a way that goes on has a lookup left, the one that met its hop counted
+abbrev pub GoesOn : Result (ControlFlow Reached code.Way) Refusal → Type 0
+GoesOn (Ok (Continue w)) = 1 ≤ w.left
+GoesOn (Ok (Break r)) = Unit {0}
+GoesOn (Err e) = Unit {0}
 
 -- ---- a lookup refuses by 1 or by 2
 

@@ -1,5 +1,4 @@
 // A hop that was met, whose entry comes next.
-ghost use Rattle.std.specs.Prelude.{◌≤◌};
 
 // `left` lookups are left, the one that met it counted; `at` is the place of its entry, and the gateway the last used, if any.
 #[derive(Clone, Copy)]
@@ -7,5 +6,4 @@ pub struct Way {
     pub left: u32,
     pub at: usize,
     pub gateway: Option<u32>,
-    ghost some: { 1 ≤ left },
 }

@@ -1,9 +1,9 @@
 // How far resolving has come, and one turn of it: the entry of the hop met last ends it, or its gateway is looked up.
-ghost use Rattle.std.specs.Prelude.{◌≡◌, ◌≤◌, length};
+ghost use Rattle.std.specs.Prelude.{◌≡◌, ◌≤◌, length, IfOk};
 ghost use Rattle.replies.specs.Said.{said_reply};
 ghost use Rattle.resolver.specs.Resolve.{match_of, routed};
 ghost use Rattle.resolver.specs.Steps.{looks, met, asked as asked_of, begun, goes, turned};
-ghost use Rattle.resolver.specs.Coded.{Knows, as_way, first_of, next_of, answer_of, had, used};
+ghost use Rattle.resolver.specs.Coded.{Knows, GoesOn, as_way, first_of, next_of, answer_of, had, used};
 
 use super::entry::{Hop, MOST_INTERFACE};
 pub use super::met::Way;
@@ -36,7 +36,8 @@ const MOST_ENTRIES: usize = 256;
 // A lookup is answered, with `left` lookups left, itself counted, and the gateway used last.
 fn asked(answer: Reply, left: u32, gateway: Option<u32>) -> Result<Way, Refusal>
     requires { (1 ≤ left) × Knows (said_reply answer) }
-    ensures { first_of result ≡ asked_of (match_of (said_reply answer)) left (had gateway) (used gateway) }
+    ensures way { first_of result ≡ asked_of (match_of (said_reply answer)) left (had gateway) (used gateway) }
+    ensures left { IfOk result (λ w. 1 ≤ w.left) }
 {
     match answer {
         Reply::Found(hop, _, _) => waiting(hop, left, gateway),
@@ -49,7 +50,8 @@ fn asked(answer: Reply, left: u32, gateway: Option<u32>) -> Result<Way, Refusal>
 // A hop is met, whose entry comes next. Hop 0 has none.
 fn waiting(hop: u32, left: u32, gateway: Option<u32>) -> Result<Way, Refusal>
     requires { 1 ≤ left }
-    ensures { first_of result ≡ met hop left (had gateway) (used gateway) }
+    ensures way { first_of result ≡ met hop left (had gateway) (used gateway) }
+    ensures left { IfOk result (λ w. 1 ≤ w.left) }
 {
     if hop == 0 {
         return Err(Refusal::NoEntry);
@@ -63,7 +65,8 @@ fn waiting(hop: u32, left: u32, gateway: Option<u32>) -> Result<Way, Refusal>
 
 // The first lookup, unless the number of words or of entries is wrong.
 pub fn begin(words: &[u32], count: usize, address: u32) -> Result<Way, Refusal>
-    ensures { first_of result ≡ begun (length words.now) (looks words.now) count address }
+    ensures way { first_of result ≡ begun (length words.now) (looks words.now) count address }
+    ensures left { IfOk result (λ w. 1 ≤ w.left) }
 {
     if words::size::misfit(words.len()) {
         return Err(Refusal::Misfit);
@@ -74,9 +77,11 @@ pub fn begin(words: &[u32], count: usize, address: u32) -> Result<Way, Refusal>
     asked(lookup::lookup(words, address), MOST_LOOKUPS, None)
 }
 
-// The entry of the hop met last ends the way at its interface, or refuses it, or has its gateway looked up.
+// The entry of the hop met last ends the way at its interface, or refuses it, or has its gateway looked up, where a lookup is
+// left beside the one that met it.
 pub fn turn(words: &[u32], way: Way, e: Hop) -> Result<ControlFlow<Reached, Way>, Refusal>
-    ensures { next_of result ≡ turned (looks words.now) (as_way way) e }
+    ensures way { next_of result ≡ turned (looks words.now) (as_way way) e }
+    ensures left { GoesOn result }
 {
     if e.interface == 0 {
         return Ok(ControlFlow::Continue(onward(words, way.left, e.gateway)?));
@@ -92,7 +97,8 @@ pub fn turn(words: &[u32], way: Way, e: Hop) -> Result<ControlFlow<Reached, Way>
 
 // A gateway is looked up, where a lookup is left.
 fn onward(words: &[u32], left: u32, gateway: u32) -> Result<Way, Refusal>
-    ensures { first_of result ≡ goes (looks words.now) left gateway }
+    ensures way { first_of result ≡ goes (looks words.now) left gateway }
+    ensures left { IfOk result (λ w. 1 ≤ w.left) }
 {
     if left < 2 {
         return Err(Refusal::NoInterface);

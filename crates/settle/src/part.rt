@@ -46,7 +46,7 @@ impl Over {
     }
 
     // The slot's number.
-    fn slot(self) -> usize
+    pub fn slot(self) -> usize
         ensures { (result ≡ (cell_slots + self.cell) / 2 ^ (8 - self.bits)) × (result < slot_end) }
     {
         (CELL_SLOTS + self.cell) >> (8 - self.bits)

@@ -7,7 +7,7 @@ ghost use Rattle.slots.specs.Read.{Read, HasRead};
 
 use super::blank::zeros;
 use super::slot::{faults, hop};
-use sizes::{ARRAY_WORDS, SLOT_END, SLOT_STRIDES, SLOT_WORDS};
+use sizes::{SLOT_END, SLOT_STRIDES, SLOT_WORDS};
 
 // The first word of the slots past the first.
 const LATER_AT: usize = 8;
@@ -24,14 +24,8 @@ const FIRST_SLOTS: usize = 31;
 
 // The winning hops of the slots from + 1 .. to are put into `won`; 0 where these and those before them, of which `bad` tells, are
 // right.
-fn read_some(
-    page: &[u32; ARRAY_WORDS],
-    won: &mut [u32; SLOT_END],
-    bad: u32,
-    from: usize,
-    to: usize,
-) -> u32
-    requires { (from ≤ to) × (to ≤ last_slot) × Read page.now won.old bad from }
+fn read_some(page: &[u32], won: &mut [u32; SLOT_END], bad: u32, from: usize, to: usize) -> u32
+    requires { (slot_at slot_end ≤ length page.now) × (from ≤ to) × (to ≤ last_slot) × Read page.now won.old bad from }
     ensures { Read page.now won.new result to }
 {
     let mut any = bad;
@@ -43,8 +37,8 @@ fn read_some(
 }
 
 // How many candidates the slots from + 1 .. from + n have. No early way out: so the loop reads several words at once.
-fn candidates(page: &[u32; ARRAY_WORDS], from: usize, n: usize) -> u32
-    requires { from + n ≤ last_slot }
+fn candidates(page: &[u32], from: usize, n: usize) -> u32
+    requires { (slot_at slot_end ≤ length page.now) × (from + n ≤ last_slot) }
     ensures { (candidates_to page.now from + result ≡ candidates_to page.now (from + n))
         × (result ≤ slot_words * n) }
 {
@@ -60,8 +54,8 @@ fn candidates(page: &[u32; ARRAY_WORDS], from: usize, n: usize) -> u32
 
 // The winning hop of each slot is put into `won`. The number of candidates where every slot is right, else none. Where many slots
 // in a row are free it passes them.
-pub fn read(page: &[u32; ARRAY_WORDS], won: &mut [u32; SLOT_END]) -> Option<u32>
-    requires { Read page.now won.old 0 0 }
+pub fn read(page: &[u32], won: &mut [u32; SLOT_END]) -> Option<u32>
+    requires { (slot_at slot_end ≤ length page.now) × Read page.now won.old 0 0 }
     ensures { HasRead page.now won.new result }
 {
     let mut bad = read_some(page, won, 0, 0, FIRST_SLOTS);
@@ -77,7 +71,8 @@ pub fn read(page: &[u32; ARRAY_WORDS], won: &mut [u32; SLOT_END]) -> Option<u32>
 }
 
 // No slot but the first has a candidate: some slots at a time, as a crowded array has one soon and a bare one none at all.
-pub fn bare(page: &[u32; ARRAY_WORDS]) -> bool
+pub fn bare(page: &[u32]) -> bool
+    requires { slot_at slot_end ≤ length page.now }
     ensures { result ≡ bare_slots_b page.now }
 {
     for g in 0..SLOT_STRIDES {

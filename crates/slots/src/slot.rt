@@ -41,14 +41,14 @@ fn lower<const FLAT: bool>(x: u32, y: u32) -> u32
 }
 
 // Of the words of feeds 1 to 4, the one that wins.
-fn winner4<const FLAT: bool>(a: u32, b: u32, c: u32, d: u32) -> u32
+pub fn winner4<const FLAT: bool>(a: u32, b: u32, c: u32, d: u32) -> u32
     ensures { result ≡ winnerOf4 a b c d }
 {
     lower::<FLAT>(a, lower::<FLAT>(b, lower::<FLAT>(c, d)))
 }
 
 // The winning hop of a slot, 0 for none; FLAT in a loop over slots.
-pub(crate) fn hop<const FLAT: bool>(page: &[u32], i: usize) -> u32
+pub fn hop<const FLAT: bool>(page: &[u32], i: usize) -> u32
     requires { i + slot_words ≤ length page.now }
     ensures { (result ≡ won_hop (words_at page.now i)) × (result < hop_bound) }
 {

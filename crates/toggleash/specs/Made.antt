@@ -5,11 +5,12 @@ use Rattle.routes.specs.Family.{Family, levels}
 use Rattle.routes.specs.Answers.{is_refused}
 use Rattle.routes.specs.Seen.{refuses}
 use Rattle.candidates.specs.Answers.{Update}
-use Rattle.laws.specs.Given.{given_refused}
+use Rattle.laws.specs.Given.{given_refused, refused_one}
 use Rattle.replies.specs.Said.{said_reply}
 use Rattle.replies.specs.declared.Reply.{Reply}
 use Rattle.update.specs.Update.{HasUpdated as Made}
 use Rattle.refusals.specs.declared.Refusal.{Refusal}
+use Rattle.refusals.specs.Number.{number}
 use Rattle.feed.specs.Runs.{Ran as Outcome, run_answer, reported, HasRun as Run}
 use Rattle.answers.specs.Numbers.{updated, ran}
 use Rattle.toggleash.specs.Face.{HasUpdated, HasRun}
@@ -28,9 +29,9 @@ made F ws vs u r x m e =
       words = m.words;
     }
 
-told_refused : (r : Outcome) (n : ℕ) (P : Type 0) → run_answer r ≡ refuses n → ((f : Refusal) → r ≡ Err f → P) → P
+told_refused : (r : Outcome) (n : ℕ) (P : Type 0) → run_answer r ≡ refuses n → ((f : Refusal) → number f ≡ n → r ≡ Err f → P) → P
 told_refused (Ok x) n P e k = absurd (given_refused e)
-told_refused (Err f) n P e k = k f refl
+told_refused (Err f) n P e k = k f (refused_one e) refl
 
 pub ran_so : (F : Family) (ws feed b vs c : List ℕ) (r : Outcome) (x : Fields) → Run F ws feed b vs c r → x ≡ ran (run_answer r)
     → HasRun F ws feed b vs c x
@@ -39,7 +40,7 @@ ran_so F ws feed b vs c r x p e =
       answer = e ∙ ap ran p.answer;
       list = p.list;
       replies = p.replies;
-      kept = λ n q. told_refused r n (vs ≡ ws) (p.answer ∙ ap reported q) p.kept;
+      kept = λ n q. told_refused r n (vs ≡ ws) (p.answer ∙ ap reported q) (λ f _. p.kept f);
       series = p.series;
       words = p.words;
     }

@@ -172,6 +172,22 @@ pub fn refusal(words: &[u32], levels: u32, own: Result<(), Refusal>) -> Result<(
     Ok(())
 }
 
+// The same in numbers, where the own fault may have any: 0 stands for none.
+pub fn refusal_number(words: &[u32], levels: u32, own: u32) -> u32
+    ensures { result ≡ refusal_of levels words.now own }
+{
+    if words::size::misfit(words.len()) {
+        return Refusal::Misfit.number();
+    }
+    if own != 0 {
+        return own;
+    }
+    if audit::table::is_table_of(words, levels) {
+        return 0;
+    }
+    Refusal::Foreign.number()
+}
+
 // A candidate announced: refused with the first of 1, 3, 4, 5, 10, 2 and 8 that applies, or held afterwards.
 // kept: length, hop, feed and preference one by one, as C lends them: a struct of them is made at each call to be taken apart.
 pub fn announce_of(

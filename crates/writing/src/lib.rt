@@ -58,7 +58,7 @@ fn put_address(address: &[u8], reach: usize, buffer: &mut [u8], at: usize) -> us
     ensures { Wrote buffer.old at (filled reach address.now) result buffer.new }
 {
     if address.len() == V6_BYTES {
-        return put_bytes::<V6_BYTES>(address.try_into().unwrap(), reach, buffer, at);
+        return put_bytes::<V6_BYTES>(address::sixteen_of(address), reach, buffer, at);
     }
     put_bytes::<V4_BYTES>(address.try_into().unwrap(), reach, buffer, at)
 }

@@ -3,13 +3,14 @@ use mathlib.Core.Path.{◌≡◌, sym, ◌∙◌}
 use Rattle.std.specs.Prelude.{Some, None}
 use native.Mathlib.Omega.{arith}
 use borrow.Author.Tests.{not-true, not-false}
+use borrow.Author.Rules.{rules}
 use Rattle.audit.specs.Won.{won_of_lem}
 use Rattle.audit.proofs.Laws.{read_start, read_wrong, read_right, read_page, content_words, content_page, content_inner}
 use Rattle.audit.proofs.Laws.{content_tied, content_all}
 use Rattle.audit.proofs.table.content.Goals as goal
 
 pub read-requires : goal.read-requires
-read-requires c = read_start _
+read-requires c = (search rules, read_start _)
 
 pub returns-in_err-m : goal.returns-in_err-m
 returns-in_err-m c =
