@@ -28,7 +28,7 @@ impl fmt::Display for Line<'_> {
             family,
             bytes: record,
         };
-        write!(f, "{asked} {address}")?;
+        write!(f, "{asked}{address}")?;
         if role != Some(Role::Looking) {
             let length = byte_at(record, 1 + families::levels(family));
             write!(f, "/{length}")?;
@@ -39,9 +39,9 @@ impl fmt::Display for Line<'_> {
 
 fn verb(role: Option<Role>) -> &'static str {
     match role {
-        Some(Role::Looking) => "lookup",
-        Some(Role::Announcing | Role::AnnouncingFor) => "announce",
-        _ => "withdraw",
+        Some(Role::Looking) => "lookup ",
+        Some(Role::Announcing | Role::AnnouncingFor) => "announce ",
+        _ => "withdraw ",
     }
 }
 

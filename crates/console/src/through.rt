@@ -20,10 +20,16 @@ pub fn show<R: Print, I: Read + Drop>(
     words: &mut [u32],
     reply: &mut [u8],
 ) -> io::Result<()> {
-    reads::with_feed(rt, file, |feed, page| run(page, front, words, feed, reply))
+    reads::with_feed(
+        rt,
+        file,
+        |feed, page| run(rt, page, front, words, feed, reply),
+    )
 }
 
-fn run(
+// There may be as many ticks as the feed has bytes, with lines of up to 20 bytes: then a page is full before the end.
+fn run<R: Print>(
+    rt: &R,
     page: &mut Page<'_>,
     front: &mut [u32],
     words: &mut [u32],
@@ -36,6 +42,7 @@ fn run(
     let room = reply.len();
     let mut p = Progress::start();
     loop {
+        reads::turn_if_full(rt, page)?;
         if let Some(stop) = halt(p, feed, room) {
             return end(page, Family::V4, words, p.report(stop));
         }

@@ -5,9 +5,9 @@ use Rattle.damping_run.specs.Steps.{Comes}
 use Rattle.console.proofs.through.run.Given as goal
 
 abbrev pub invariant-loop-stop : goal.invariant-loop-stop
-invariant-loop-stop l =
+invariant-loop-stop g l =
     let room = length l.initial.reply in
     Comes l.p l.front l.words l.feed l.reply room true (halts l.feed room l.p.at l.p.out)
 
 abbrev pub decreases-loop-stop : goal.decreases-loop-stop
-decreases-loop-stop l = length l.feed - l.p.at
+decreases-loop-stop g l = length l.feed - l.p.at
