@@ -3,13 +3,14 @@
 
 mod addresses;
 mod lines;
+mod page;
 mod reads;
 pub mod through; // the same through a front
 
 use families::Family;
 use feed::Report;
 use lines::Lines;
-use reads::Page;
+use page::Page;
 use std::io;
 use std::io::{Read, Write};
 

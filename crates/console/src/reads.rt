@@ -1,19 +1,10 @@
 // Bytes read from a file, and bytes of a record or a reply as numbers. What is past the end counts as 0.
-ghost use Rattle.std.specs.Prelude.{◌+◌, ◌*◌, ◌<◌, ◌≤◌, ◌≡◌, get_or, length, take, IfOk, OnOk};
-ghost use Rattle.std.specs.Io.Cursor.{cursor_position};
+ghost use Rattle.std.specs.Prelude.{◌+◌, ◌*◌, ◌<◌, ◌≤◌, ◌≡◌, get_or, length, take, IfOk};
 ghost use Rattle.std.specs.Io.KnownBytes.{Consumes, IsAtEnd};
 
+use super::page::{PAGE_BYTES, Page, print};
 use std::io;
 use std::io::{Cursor, Read};
-
-// What is printed, a page at a time. No record has a longer line for its length than a lookup of IPv4, 52 bytes for 5: but for
-// ticks, all lines are under 43,000 bytes, and go on one page.
-pub(crate) type Page<'a> = Cursor<&'a mut [u8]>;
-
-const PAGE_BYTES: usize = 65536;
-
-// More than a record's line has, and more than the two lines on the whole.
-const LINE_BYTES: u64 = 256;
 
 // Hands a file's bytes on with a page, and prints as one what is on it at the end. A file of more than 4,096 bytes prints
 // `too long` alone.
@@ -33,23 +24,6 @@ pub(crate) fn with_feed<
     let mut page = Cursor::new(&mut text[..]);
     run(&input[..n], &mut page)?;
     print(rt, &page)
-}
-
-// Prints the page and begins it anew, where the next line might not go on it.
-pub(crate) fn turn_if_full<R: Print>(rt: &R, page: &mut Page<'_>) -> io::Result<()>
-    ensures { OnOk result (cursor_position page.new + 256 ≤ 65536) }
-{
-    if page.position() > PAGE_BYTES as u64 - LINE_BYTES {
-        print(rt, page)?;
-        page.set_position(0);
-    }
-    Ok(())
-}
-
-fn print<R: Print>(rt: &R, page: &Page<'_>) -> io::Result<()> {
-    let text = page.get_ref();
-    let k = (page.position() as usize).min(text.len());
-    rt.write_all(&text[..k])
 }
 
 // Fills the bytes from the front, as far as the file goes, and hands back how many it gave.

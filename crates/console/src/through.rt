@@ -1,7 +1,7 @@
 // The program's body through a front. The run is driven a step at a time, so that after each tick the candidates held back can be
 // counted: the front and the table are tested once, at its start.
 use super::lines::Line;
-use super::reads::Page;
+use super::page::{Page, turn_if_full};
 use super::{end, reads, refused};
 use damping::held;
 use damping_run::ask::TICK;
@@ -42,7 +42,7 @@ fn run<R: Print>(
     let room = reply.len();
     let mut p = Progress::start();
     loop {
-        reads::turn_if_full(rt, page)?;
+        turn_if_full(rt, page)?;
         if let Some(stop) = halt(p, feed, room) {
             return end(page, Family::V4, words, p.report(stop));
         }
